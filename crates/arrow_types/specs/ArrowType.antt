@@ -1,0 +1,60 @@
+-- A data type as contracts see it: a tree, with names as their bytes. The terms are those of Arrow's columnar format ("Physical Memory Layout") and of its schema.
+use Rattle.std.specs.Prelude.{ℕ, ℤ, Bool, List, Option}
+use Rattle.arrow_types.specs.declared.datatypes.TimeUnit.{TimeUnit}
+use Rattle.arrow_types.specs.declared.datatypes.IntervalUnit.{IntervalUnit}
+use Rattle.arrow_types.specs.declared.datatypes.UnionMode.{UnionMode}
+use Rattle.arrow_types.specs.declared.datatypes.IntegerType.{IntegerType}
+
+-- a type without children ("Null Layout", "Fixed-size Primitive Layout", "Variable-size Binary Layout")
+pub data PlainType : Type 0 where
+  null : PlainType
+  boolean : PlainType
+  float16 : PlainType
+  float32 : PlainType
+  float64 : PlainType
+  date32 : PlainType
+  date64 : PlainType
+  binary : PlainType
+  large_binary : PlainType
+  utf8 : PlainType
+  large_utf8 : PlainType
+  integer : IntegerType → PlainType
+  -- a unit, and a time zone
+  timestamp : TimeUnit → Option (List ℕ) → PlainType
+  time32 : TimeUnit → PlainType
+  time64 : TimeUnit → PlainType
+  duration : TimeUnit → PlainType
+  interval : IntervalUnit → PlainType
+  -- how many bytes a row has
+  fixed_size_binary : ℕ → PlainType
+  -- precision and scale
+  decimal : ℕ → ℕ → PlainType
+  decimal256 : ℕ → ℕ → PlainType
+
+-- the forms of lists: offsets of 32 or of 64 bits ("Variable-size List Layout"), a fixed size ("Fixed-Size List Layout"), or a map with its flag for sorted keys
+pub data ListForm : Type 0 where
+  small : ListForm
+  large : ListForm
+  fixed_size : ℕ → ListForm
+  mapped : Bool → ListForm
+
+mutual
+  pub data ArrowType : Type 0 where
+    plain : PlainType → ArrowType
+    list : ListForm → ArrowField → ArrowType
+    -- "Struct Layout"
+    struct : ArrowFields → ArrowType
+    -- "Union Layout": the type ids of the fields, where they are given, and else 0, 1, 2, ..
+    union : UnionMode → Option (List ℤ) → ArrowFields → ArrowType
+    -- "Dictionary-encoded Layout": the type of the keys, whether the values are ordered, and their type
+    dictionary : IntegerType → Bool → ArrowType → ArrowType
+    -- a name, metadata, and the type that it stands on
+    extension : List ℕ → Option (List ℕ) → ArrowType → ArrowType
+
+  -- a name, a type, and whether nulls are allowed
+  pub data ArrowField : Type 0 where
+    field : List ℕ → ArrowType → Bool → ArrowField
+
+  pub data ArrowFields : Type 0 where
+    no_fields : ArrowFields
+    more_fields : ArrowField → ArrowFields → ArrowFields

@@ -1,0 +1,4 @@
+pub mod ArrowType
+pub mod Examples
+pub mod Rows
+pub mod Slot

@@ -1,0 +1,51 @@
+-- One row of an array, whatever the layout beneath it: the slot of Arrow's columnar format ("Terminology").
+use Rattle.std.specs.Prelude.{ℕ, ℤ, pos, Bool, List, ◌∷◌, Option, Some}
+use Rattle.arrow_types.specs.ArrowType.{ArrowType, ArrowField, ArrowFields, plain, list, struct, union, dictionary, extension, field, no_fields, more_fields}
+
+mutual
+  pub data Slot : Type 0 where
+    -- a row that the validity bitmap marks as null ("Validity bitmaps"), or a row of the null type ("Null Layout")
+    Null : Slot
+    Boolean : Bool → Slot
+    -- a number of any width, signed or not; a decimal by its unscaled number
+    Number : ℤ → Slot
+    -- an interval of days and milliseconds
+    DayTime : ℤ → ℤ → Slot
+    -- an interval of months, days and nanoseconds
+    MonthDayNano : ℤ → ℤ → ℤ → Slot
+    Bytes : List ℕ → Slot
+    Text : List ℕ → Slot
+    -- a row of a list, a fixed-size list or a map
+    Items : Slots → Slot
+    -- a row of a struct
+    Parts : Slots → Slot
+    -- a row of a dictionary: the value that its key names
+    Entry : Slot → Slot
+    -- a row of a union: type id and value
+    Variant : ℤ → Slot → Slot
+
+  pub data Slots : Type 0 where
+    no_slots : Slots
+    more_slots : Slot → Slots → Slots
+
+-- the type id of a union's first field
+abbrev pub first_id : Option (List ℤ) → ℤ
+first_id (Some (id ∷ ids)) = id
+first_id _ = pos 0
+
+-- what stands where no row is chosen: Null, and in a union, which has no validity ("Union Layout"), its first field's null slot
+abbrev mutual
+  pub null_slot : ArrowType → Slot
+  null_slot (plain p) = Null
+  null_slot (list form f) = Null
+  null_slot (struct fs) = Null
+  null_slot (union mode ids fs) = Variant (first_id ids) (null_slot_of_first fs)
+  null_slot (dictionary keys ordered t) = Null
+  null_slot (extension name metadata t) = null_slot t
+
+  pub null_slot_of_first : ArrowFields → Slot
+  null_slot_of_first no_fields = Null
+  null_slot_of_first (more_fields f fs) = null_slot_of_field f
+
+  pub null_slot_of_field : ArrowField → Slot
+  null_slot_of_field (field name t nullable) = null_slot t

@@ -1,0 +1,6 @@
+//! What every layer speaks of: the error type, the parts of data types, and, in `specs/`, the
+//! definitions over types and rows that all contracts cite.
+#![tactic(auto)]
+
+pub mod datatypes;
+pub mod error;
