@@ -1,0 +1,139 @@
+-- Lists of bits against the words that hold them.
+use Rattle.std.proofs.Common.{◌≡◌, ℕ, ◌+◌, ◌-◌, ◌*◌, ◌/◌, ◌%◌, ◌^◌, ◌<◌, ◌≤◌, min, Bool, true, false, not, cond, List, [], ◌∷◌, ◌++◌, length, get_or, take, drop, refl, ap, sym, ◌∙◌, arith, slice_index, zero-add, inl, inr}
+use Rattle.std.specs.Prelude.{◌==◌, nat_eq, bit_and, slice_get, Some}
+use Rattle.std.specs.Bool.{beq}
+use Rattle.std.specs.Cmp.{booleans_Decides}
+use Rattle.std.specs.Cmp.Lexicographic.{pointwise, pointwise_decides}
+use Rattle.std.specs.Int.{bit_at}
+use Rattle.std.specs.List.{count_by}
+use Rattle.std.proofs.lemmas.Bool.{cases_lt}
+use Rattle.std.proofs.lemmas.List.{ext_get_or, get_or-take, get_or-drop, get_or_append_left, get_or_push, length-append, take_at, drop_at, take_min, drop_min, drop-drop}
+use Rattle.std.proofs.lemmas.List.Sums.{sum_by-cons}
+use Rattle.std.proofs.lemmas.Nat.{one_shl, and_mask}
+use Rattle.std.proofs.lemmas.Nat.Bits.{shr_and_one}
+use Rattle.std.proofs.lemmas.Option.{slice_get-get_or}
+use Rattle.std.proofs.lemmas.Simd.{bit_mask_l}
+use Rattle.arrow_memory.specs.Sliced.{sliced}
+use Rattle.arrow_memory.specs.Words.{is_set, bits_in, word_of, set_count}
+use Rattle.arrow_memory.proofs.WordLemmas.{length-bits_in, get_or-bits_in, sliced-bits_in, sliced-bits_in_end, word_of-low}
+
+-- each bit is set or not
+pub count_by-not : (bits : List Bool) → count_by not bits + set_count bits ≡ length bits
+count_by-not [] = refl
+count_by-not (true ∷ bits) =
+    omega (arith, count_by-not bits, sum_by-cons (λ (bit : Bool). cond (not bit) 1 0) true bits, sum_by-cons (λ (bit : Bool). cond bit 1 0) true bits)
+count_by-not (false ∷ bits) =
+    omega (arith, count_by-not bits, sum_by-cons (λ (bit : Bool). cond (not bit) 1 0) false bits, sum_by-cons (λ (bit : Bool). cond bit 1 0) false bits)
+
+digit_is : (b : Bool) → cond b 1 0 == 1 ≡ b
+digit_is true = refl
+digit_is false = refl
+
+-- a bit of a word that holds a list of bits
+bit_of-word_of : (bits : List Bool) (k : ℕ) → (bit_at (word_of bits) k == 1) ≡ get_or bits k false
+bit_of-word_of bits k = ap (λ x. nat_eq x 1) (bit_mask_l bits k) ∙ digit_is (get_or bits k false)
+
+-- ---- equality by words
+
+bit_of-part : (bits : List Bool) (i : ℕ) → (bit_at (word_of (sliced bits (64 * (i / 64)) 64)) (i % 64) == 1) ≡ get_or bits i false
+bit_of-part bits i =
+    let below : i % 64 < 64 = omega arith in
+    let place : 64 * (i / 64) + i % 64 ≡ i = omega arith in
+    bit_of-word_of (sliced bits (64 * (i / 64)) 64) (i % 64) ∙ (get_or-take 64 (drop (64 * (i / 64)) bits) (i % 64) false below ∙ (get_or-drop (64 * (i / 64)) bits (i % 64) false ∙ ap (λ k. get_or bits k false) place))
+
+pub same_from_words : (xs ys : List Bool) → length xs ≡ length ys → ((j : ℕ) → 64 * j < length xs → word_of (sliced xs (64 * j) 64) ≡ word_of (sliced ys (64 * j) 64)) → xs ≡ ys
+same_from_words xs ys long same =
+    ext_get_or false xs ys long
+    (λ i h.
+    let within : 64 * (i / 64) < length xs = omega arith in
+    sym (bit_of-part xs i) ∙ (ap (λ word. bit_at word (i % 64) == 1) (same (i / 64) within) ∙ bit_of-part ys i))
+
+pub pointwise_same : (xs ys : List Bool) → xs ≡ ys → true ≡ pointwise beq xs ys
+pointwise_same xs ys e = sym ((pointwise_decides booleans_Decides xs ys).1 e)
+
+not_true : (b : Bool) → (b ≡ true → ⊥) → false ≡ b
+not_true true h = absurd (h refl)
+not_true false h = refl
+
+pub pointwise_differs : (xs ys : List Bool) → (xs ≡ ys → ⊥) → false ≡ pointwise beq xs ys
+pointwise_differs xs ys h = not_true (pointwise beq xs ys) (λ e. h ((pointwise_decides booleans_Decides xs ys).0 e))
+
+-- ---- packing
+
+-- the words hold the bits as far as they go, with zeros past the end
+pub record Packs (words : List ℕ) (bits : List Bool) : Type 0 where
+  pub each : (i : ℕ) → i < 64 * length words → is_set words i ≡ get_or bits i false
+
+pub Packs-none : (bits : List Bool) → Packs [] bits
+Packs-none bits = record { each = λ i h. absurd (omega (arith, h)) }
+
+-- the next 64 bits, or what is left
+chunk_is : (rest chunk next : List Bool) → rest ≡ chunk ++ next → length chunk ≡ min 64 (length rest) → chunk ≡ take 64 rest
+chunk_is rest chunk next e long =
+    sym (take_at chunk next (length chunk) refl) ∙ (ap (take (length chunk)) (sym e) ∙ (ap (λ n. take n rest) long ∙ take_min 64 rest))
+
+next_is : (rest chunk next : List Bool) → rest ≡ chunk ++ next → length chunk ≡ min 64 (length rest) → next ≡ drop 64 rest
+next_is rest chunk next e long =
+    sym (drop_at chunk next (length chunk) refl) ∙ (ap (drop (length chunk)) (sym e) ∙ (ap (λ n. drop n rest) long ∙ drop_min 64 rest))
+
+-- one more word, of the next 64 bits
+pub Packs-more : (words : List ℕ) (bits rest chunk next : List Bool) → Packs words bits → rest ≡ drop (64 * length words) bits → rest ≡ chunk ++ next → length chunk ≡ min 64 (length rest) → Packs (words ++ word_of chunk ∷ []) bits
+Packs-more words bits rest chunk next packs left e long =
+    record {
+      each = λ i h.
+          let more = words ++ word_of chunk ∷ [] in
+          let longer = length-append words (word_of chunk ∷ []) in
+          elim (cases_lt i (64 * length words)) as (λ _. is_set more i ≡ get_or bits i false) [
+            | inl before ↦
+                let earlier : i / 64 < length words = omega arith in
+                ap (λ word. bit_at word (i % 64) == 1) (get_or_append_left words (word_of chunk ∷ []) 0 (i / 64) earlier) ∙ packs.each i before
+            | inr from ↦
+                let last : i / 64 ≡ length words = omega arith in
+                let below : i % 64 < 64 = omega arith in
+                let place : 64 * length words + i % 64 ≡ i = omega arith in
+                let read : slice_index more (i / 64) ≡ word_of chunk = get_or_push words (word_of chunk) 0 (i / 64) (sym last) in
+                ap (λ word. bit_at word (i % 64) == 1) read ∙ (bit_of-word_of chunk (i % 64) ∙ (ap (λ xs. get_or xs (i % 64) false) (chunk_is rest chunk next e long) ∙ (get_or-take 64 rest (i % 64) false below ∙ (ap (λ xs. get_or xs (i % 64) false) left ∙ (get_or-drop (64 * length words) bits (i % 64) false ∙ ap (λ k. get_or bits k false) place)))))
+          ];
+    }
+
+pub drop-more : (n : ℕ) (bits rest chunk next : List Bool) → rest ≡ drop (64 * n) bits → rest ≡ chunk ++ next → length chunk ≡ min 64 (length rest) → next ≡ drop (64 * (n + 1)) bits
+drop-more n bits rest chunk next left e long =
+    let place : 64 * n + 64 ≡ 64 * (n + 1) = omega arith in
+    next_is rest chunk next e long ∙ (ap (drop 64) left ∙ (drop-drop 64 (64 * n) bits ∙ ap (λ k. drop k bits) place))
+
+pub bits_in-packed : (words : List ℕ) (bits : List Bool) → Packs words bits → length bits ≤ 64 * length words → bits_in words 0 (length bits) ≡ bits
+bits_in-packed words bits packs within =
+    ext_get_or false (bits_in words 0 (length bits)) bits (length-bits_in words 0 (length bits))
+    (λ i h.
+    let below : i < length bits = omega (arith, h, length-bits_in words 0 (length bits)) in
+    let inside : i < 64 * length words = omega arith in
+    get_or-bits_in words 0 (length bits) i false below ∙ (ap (is_set words) (zero-add i) ∙ packs.each i inside))
+
+-- ---- what the methods read
+
+-- one bit, as `get_bit` reads it
+pub slice_get-bits_in : (words : List ℕ) (offset len i : ℕ) (seen : List Bool) (word : ℕ) → bits_in words offset len ≡ seen → i < len → word ≡ slice_index words ((offset + i) / 64) → slice_get seen i ≡ Some (nat_eq (bit_and (word / 2 ^ ((offset + i) % 64)) 1) 1)
+slice_get-bits_in words offset len i seen word e h read =
+    let long = length-bits_in words offset len in
+    let within : i < length (bits_in words offset len) = omega arith in
+    rw (← e, slice_get-get_or (bits_in words offset len) i false within, get_or-bits_in words offset len i false h, shr_and_one, read)
+
+-- the count of unset bits, as `unset_bits` finds it
+pub unset_count : (words : List ℕ) (offset len : ℕ) (seen : List Bool) (ones : ℕ) → bits_in words offset len ≡ seen → ones ≡ set_count (bits_in words offset (offset + len - offset)) → (ones ≤ len) × (len - ones ≡ count_by not seen)
+unset_count words offset len seen ones e counted =
+    let width : offset + len - offset ≡ len = omega arith in
+    let all = rw (width, e) at counted in
+    let long = ap length e in
+    (omega (arith, count_by-not seen, length-bits_in words offset len), omega (arith, count_by-not seen, length-bits_in words offset len))
+
+-- a word of the bits, as `word` reads it: where fewer than 64 are left, and where there are as many
+pub word_of-left : (words : List ℕ) (offset len first : ℕ) (seen : List Bool) (word : ℕ) → bits_in words offset len ≡ seen → first < len → len - first < 64 → word ≡ word_of (bits_in words (offset + first) 64) → bit_and word (1 * 2 ^ (len - first) % 2 ^ 64 - 1) ≡ word_of (sliced seen first 64)
+word_of-left words offset len first seen word e within short read =
+    let in_len : first ≤ len = omega arith in
+    let in_word : len - first ≤ 64 = omega arith in
+    rw (← e, one_shl (len - first) 64 short, and_mask, read, word_of-low words (offset + first) (len - first) in_word) (ap word_of (sym (sliced-bits_in_end words offset len first 64 in_len in_word)))
+
+pub word_of-whole : (words : List ℕ) (offset len first : ℕ) (seen : List Bool) (word : ℕ) → bits_in words offset len ≡ seen → 64 ≤ len - first → word ≡ word_of (bits_in words (offset + first) 64) → word ≡ word_of (sliced seen first 64)
+word_of-whole words offset len first seen word e enough read =
+    let within : first + 64 ≤ len = omega arith in
+    rw (← e, read) (ap word_of (sym (sliced-bits_in words offset len first 64 within)))

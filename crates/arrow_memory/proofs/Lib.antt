@@ -1,0 +1,3 @@
+pub mod BitmapLemmas
+pub mod SlicedLemmas
+pub mod WordLemmas

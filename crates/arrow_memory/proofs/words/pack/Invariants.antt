@@ -1,0 +1,10 @@
+use Rattle.std.proofs.Common.{◌≡◌, ◌++◌, Bool, List}
+use Rattle.std.specs.Iterator.Adapters.{rev_source}
+use Rattle.std.specs.Slice.Iter.{iter_rest}
+use Rattle.arrow_memory.specs.Words.{word_of}
+use Rattle.arrow_memory.proofs.words.pack.Given as goal
+
+-- the bits that are packed stand behind those that are left
+abbrev pub invariant-loop-bit : goal.invariant-loop-bit
+invariant-loop-bit l =
+    (packed : List Bool) × (l.bits ≡ iter_rest (rev_source l.bit-iterator) ++ packed) × (l.word ≡ word_of packed)

@@ -1,0 +1,159 @@
+ghost use Rattle.std.specs.Prelude.{◌≡◌, ◌+◌, ◌*◌, ◌<◌, ◌≤◌, ◌↔◌, [], length, not, count_by, slice_get, IsTrue, IfOk, IsOkUnless};
+ghost use Rattle.std.specs.Bool.{beq};
+ghost use Rattle.std.specs.Cmp.{partial_equiv_from_equiv, bool_eq_equiv};
+ghost use Rattle.std.specs.Cmp.Lexicographic.{pointwise, lists_equiv};
+ghost use Rattle.arrow_types.specs.declared.error.Error.{Error};
+ghost use Rattle.arrow_memory.specs.Sliced.{sliced};
+ghost use Rattle.arrow_memory.specs.Words.{word_of};
+
+use crate::words::{WORD_BITS, count_ones, pack, word_from};
+use arrow_types::error::Error;
+use std::alloc::{AllocError, Global};
+use std::marker::Model;
+use std::rc::Rc;
+
+/// A list of bits, packed as in Arrow's columnar format ("Validity bitmaps") and shared by its
+/// clones and slices.
+#[derive(Drop)]
+pub struct Bitmap {
+    words: Rc<Vec<u64>>,
+    offset: usize,
+    len: usize,
+}
+
+impl Model for Bitmap {
+    ghost use Rattle.std.specs.Prelude.{Bool, List};
+    ghost use Rattle.arrow_memory.specs.Words.{bits_in, Holds};
+
+    ghost Value = { List Bool };
+
+    ghost view = { λ a. bits_in a.words.value.items a.offset a.len };
+
+    ghost invariant = { λ a. Holds a.words.value.items a.offset a.len };
+}
+
+#[tactic(auto, using(crate::proofs::WordLemmas::bit_lengths))]
+impl Bitmap {
+    /// Packs a list of bits. It takes a word of memory for 64 bits, and that of one shared owner.
+    ///
+    /// # Errors
+    /// `OutOfMemory` where either is refused.
+    pub fn from_bools(alloc: Global, bits: &[bool]) -> Result<Bitmap, Error>
+        ensures ok { IfOk result (λ bitmap. bitmap ≡ bits.now) }
+        ensures err { IsOkUnless result Error.OutOfMemory }
+    {
+        let mut words = Vec::with_capacity(alloc, bits.len().div_ceil(WORD_BITS))?;
+        for chunk in bits.chunks(WORD_BITS) {
+            words.push(pack(chunk))?;
+        }
+        Ok(Bitmap {
+            words: Rc::new(alloc, words)?,
+            offset: 0,
+            len: bits.len(),
+        })
+    }
+
+    /// How many bits there are.
+    pub fn len(&self) -> usize
+        ensures { result ≡ length self.now }
+    {
+        self.len
+    }
+
+    /// Whether there is no bit.
+    pub fn is_empty(&self) -> bool
+        ensures { IsTrue result ↔ (self.now ≡ []) }
+    {
+        self.len() == 0
+    }
+
+    /// Whether bit `i` is set.
+    pub fn get_bit(&self, i: usize) -> bool
+        requires { i < length self.now }
+        ensures { slice_get self.now i ≡ Some result }
+    {
+        let place = self.offset + i;
+        self.words[place / WORD_BITS] >> (place % WORD_BITS) & 1 == 1
+    }
+
+    /// How many bits are not set, counted a word at a time.
+    pub fn unset_bits(&self) -> usize
+        ensures { result ≡ count_by not self.now }
+    {
+        self.len - count_ones(&self.words, self.offset, self.offset + self.len)
+    }
+
+    /// Keeps `len` bits from place `offset` on. Nothing is copied.
+    pub fn slice(&mut self, offset: usize, len: usize)
+        requires { offset + len ≤ length self.old }
+        ensures { self.new ≡ sliced self.old offset len }
+    {
+        self.offset += offset;
+        self.len = len;
+    }
+
+    /// The `len` bits from place `offset` on. Nothing is copied.
+    pub fn sliced(self, offset: usize, len: usize) -> Bitmap
+        requires { offset + len ≤ length self }
+        ensures { result ≡ sliced self offset len }
+    {
+        let mut part = self;
+        part.slice(offset, len);
+        part
+    }
+
+    /// The 64 bits from bit `64 * j` on as a word, with zeros past the last.
+    fn word(&self, j: usize) -> u64
+        requires { 64 * j < length self.now }
+        ensures { result ≡ word_of (sliced self.now (64 * j) 64) }
+    {
+        let len = self.len;
+        let first = WORD_BITS * j;
+        let word = word_from(&self.words, self.offset + first);
+        if len - first < WORD_BITS {
+            word & ((1 << (len - first)) - 1)
+        } else {
+            word
+        }
+    }
+}
+
+/// A clone shares the bits and copies none. It is refused only where the count of owners is full.
+impl Clone for Bitmap {
+    ghost is_clone = { λ bitmap copy. copy ≡ bitmap };
+
+    fn clone(&self) -> Result<Bitmap, AllocError> {
+        Ok(Bitmap {
+            words: self.words.clone()?,
+            offset: self.offset,
+            len: self.len,
+        })
+    }
+}
+
+/// Two bitmaps are equal where their bits are, wherever they begin in their words.
+#[tactic(auto, using(crate::proofs::WordLemmas::bit_lengths))]
+impl PartialEq for Bitmap {
+    ghost eq = { pointwise beq };
+
+    ghost laws = { partial_equiv_from_equiv (lists_equiv bool_eq_equiv) };
+
+    fn eq(&self, other: &Bitmap) -> bool
+        ensures value { result ≡ pointwise beq self.now other.now }
+        ensures bits { IsTrue result ↔ (self.now ≡ other.now) }
+    {
+        if self.len() != other.len() {
+            return false;
+        }
+        for j in 0..self.len().div_ceil(WORD_BITS) {
+            if self.word(j) != other.word(j) {
+                return false;
+            }
+        }
+        true
+    }
+}
+
+impl Eq for Bitmap {
+    ghost laws = { lists_equiv bool_eq_equiv };
+}
