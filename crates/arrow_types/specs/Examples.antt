@@ -5,7 +5,7 @@ use Rattle.arrow_types.specs.declared.datatypes.UnionMode.{UnionMode}
 use Rattle.arrow_types.specs.declared.datatypes.UnionMode.TheVariants.{Sparse, Dense}
 use Rattle.arrow_types.specs.ArrowType.{ArrowType, plain, integer, utf8, union, dictionary, extension, field, no_fields, more_fields}
 use Rattle.arrow_types.specs.Slot.{Slot, Null, Boolean, Number, Variant, null_slot}
-use Rattle.arrow_types.specs.Rows.{masked, select, joined}
+use Rattle.arrow_types.specs.Rows.{masked, mask_of, select, joined}
 
 abbrev int32 : ArrowType
 int32 = plain (integer Int32)
@@ -24,15 +24,15 @@ no_bitmap : masked None (ints (1 ∷ 2 ∷ [])) ≡ ints (1 ∷ 2 ∷ [])
 no_bitmap = refl
 
 -- filter [5,6,7,8,9] by [t,f,f,t,f]
-filter_rows : select (bools (true ∷ false ∷ false ∷ true ∷ false ∷ [])) (ints (5 ∷ 6 ∷ 7 ∷ 8 ∷ 9 ∷ [])) ≡ ints (5 ∷ 8 ∷ [])
+filter_rows : select (mask_of (bools (true ∷ false ∷ false ∷ true ∷ false ∷ []))) (ints (5 ∷ 6 ∷ 7 ∷ 8 ∷ 9 ∷ [])) ≡ ints (5 ∷ 8 ∷ [])
 filter_rows = refl
 
 -- filter [1,2,3] by [t,_t,f]: a null of the predicate selects nothing, also over a stored true
-filter_null : select (masked (Some (true ∷ false ∷ true ∷ [])) (bools (true ∷ true ∷ false ∷ []))) (ints (1 ∷ 2 ∷ 3 ∷ [])) ≡ ints (1 ∷ [])
+filter_null : select (mask_of (masked (Some (true ∷ false ∷ true ∷ [])) (bools (true ∷ true ∷ false ∷ [])))) (ints (1 ∷ 2 ∷ 3 ∷ [])) ≡ ints (1 ∷ [])
 filter_null = refl
 
 -- a null row that is selected stays null
-filter_keeps_null : select (bools (false ∷ true ∷ [])) (Number (pos 1) ∷ Null ∷ []) ≡ Null ∷ []
+filter_keeps_null : select (mask_of (bools (false ∷ true ∷ []))) (Number (pos 1) ∷ Null ∷ []) ≡ Null ∷ []
 filter_keeps_null = refl
 
 concatenate_rows : joined ([] ∷ (Null ∷ Number (pos 4) ∷ []) ∷ ints (1 ∷ []) ∷ []) ≡ Null ∷ Number (pos 4) ∷ Number (pos 1) ∷ []

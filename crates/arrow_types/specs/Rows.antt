@@ -1,5 +1,5 @@
 -- Lists of rows: what a validity bitmap makes of them, and what the kernels give of them.
-use Rattle.std.specs.Prelude.{Bool, false, Option, Some, None, List, [], ◌∷◌, ◌++◌, if◌then◌else◌}
+use Rattle.std.specs.Prelude.{Bool, false, Option, Some, None, List, [], ◌∷◌, ◌++◌, map, if◌then◌else◌}
 use Rattle.arrow_types.specs.Slot.{Slot, Null, Boolean}
 
 -- each row where its bit is set, and Null where it is not ("Validity bitmaps")
@@ -17,9 +17,13 @@ abbrev pub selects : Slot → Bool
 selects (Boolean b) = b
 selects _ = false
 
--- the rows of xs at which the predicate selects, in order
-abbrev pub select : List Slot → List Slot → List Slot
-select (p ∷ predicate) (x ∷ xs) = if selects p then x ∷ select predicate xs else select predicate xs
+-- the mask that a predicate stands for: a bit a row
+abbrev pub mask_of : List Slot → List Bool
+mask_of = map selects
+
+-- the rows of xs at which a mask is true, in order
+abbrev pub select : List Bool → List Slot → List Slot
+select (chosen ∷ mask) (x ∷ xs) = if chosen then x ∷ select mask xs else select mask xs
 select _ _ = []
 
 -- one list after the other

@@ -1,0 +1,101 @@
+//! What a line is answered, and how it is printed.
+
+use crate::commands::Command;
+use crate::first::{Array, FlatArray};
+use crate::grammar::{Element, Line, ReadError};
+use arrow_types::error::Error;
+use std::alloc::{AllocError, Global};
+use std::fmt;
+
+/// Why a line was refused.
+#[derive(Clone, Copy)]
+pub(crate) enum Refusal {
+    /// It has not the form of a line.
+    Syntax,
+    /// No command has its name.
+    Command,
+    /// The arguments are not those that the command takes.
+    Usage,
+    /// The kernel refused.
+    Kernel(Error),
+}
+
+/// What a line is answered.
+#[derive(Drop)]
+pub(crate) enum Answer {
+    Array(Array),
+    Refused(Refusal),
+}
+
+impl Answer {
+    /// What a kernel that makes an array has answered.
+    pub(crate) fn of_kernel(outcome: Result<Array, Error>) -> Answer {
+        match outcome {
+            Ok(array) => Answer::Array(array),
+            Err(error) => Answer::Refused(Refusal::Kernel(error)),
+        }
+    }
+
+    pub(crate) fn is_refusal(&self) -> bool {
+        matches!(self, Answer::Refused(_))
+    }
+}
+
+/// The answer to a line without its end, or none to a blank line.
+pub(crate) fn answer_to(alloc: Global, line: &[u8]) -> Result<Option<Answer>, AllocError> {
+    let line = match Line::read(alloc, line) {
+        Ok(Some(line)) => line,
+        Ok(None) => return Ok(None),
+        Err(ReadError::Syntax) => return Ok(Some(Answer::Refused(Refusal::Syntax))),
+        Err(ReadError::OutOfMemory(error)) => return Err(error),
+    };
+    match Command::from_name(line.name) {
+        Some(command) => Ok(Some(command.call(alloc, &line.arguments)?)),
+        None => Ok(Some(Answer::Refused(Refusal::Command))),
+    }
+}
+
+impl fmt::Display for Answer {
+    fn fmt<W: fmt::Write>(&self, f: &mut fmt::Formatter<W>) -> fmt::Result {
+        match self {
+            Answer::Array(Array::Int32(array)) => write_array(f, "i32", array),
+            Answer::Array(Array::Boolean(array)) => write_array(f, "bool", array),
+            Answer::Refused(refusal) => write!(f, "error {refusal}"),
+        }
+    }
+}
+
+impl fmt::Display for Refusal {
+    fn fmt<W: fmt::Write>(&self, f: &mut fmt::Formatter<W>) -> fmt::Result {
+        match self {
+            Refusal::Syntax => f.write_str("Syntax"),
+            Refusal::Command => f.write_str("Command"),
+            Refusal::Usage => f.write_str("Usage"),
+            Refusal::Kernel(Error::InvalidArgumentError(fault)) => write!(f, "{fault:?}"),
+            Refusal::Kernel(Error::NotYetImplemented(_)) => f.write_str("NotYetImplemented"),
+            Refusal::Kernel(error) => write!(f, "{error:?}"),
+        }
+    }
+}
+
+/// Prints an array as the grammar reads it, with `_` for each null.
+fn write_array<W: fmt::Write, A: FlatArray>(
+    f: &mut fmt::Formatter<W>,
+    name: &str,
+    array: &A,
+) -> fmt::Result
+where
+    A::Item: Element,
+{
+    write!(f, "{name}[")?;
+    for i in 0..array.len() {
+        if i > 0 {
+            f.write_str(",")?;
+        }
+        match array.get(i) {
+            Some(item) => item.write(f)?,
+            None => f.write_str("_")?,
+        }
+    }
+    f.write_str("]")
+}
