@@ -101,3 +101,6 @@ impl<T: Drop> Clone for Buffer<T> {
         })
     }
 }
+
+#[cfg(test)]
+mod tests;

@@ -146,3 +146,6 @@ pub fn status(outcome: &Result<bool, RunFault>) -> u8
         Err(_) => 2,
     }
 }
+
+#[cfg(test)]
+mod tests;

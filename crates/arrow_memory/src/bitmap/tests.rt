@@ -1,0 +1,86 @@
+use super::*;
+use std::process::Abort;
+
+/// Bits without a short period.
+fn pattern(alloc: Global, len: usize) -> Result<Vec<bool>, Error> {
+    let mut bits = Vec::with_capacity(alloc, len)?;
+    for i in 0..len {
+        bits.push(i % 5 < 2 || i % 7 == 3)?;
+    }
+    Ok(bits)
+}
+
+/// The bits of a slice at this offset, against a plain list of them.
+fn check_slice(
+    rt: &(impl Abort + Alloc<A = Global>),
+    bits: &[bool],
+    offset: usize,
+    len: usize,
+) -> Result<(), Error> {
+    let whole = Bitmap::from_bools(rt.alloc(), bits)?;
+    assert!(rt; offset <= bits.len() && len <= bits.len() - offset);
+    assert!(rt; whole.len() == bits.len());
+    let want = &bits[offset..offset + len];
+    let part = whole.clone()?.sliced(offset, len);
+    assert_eq!(rt; part.len(), len, "{offset}");
+    assert_eq!(rt; part.is_empty(), len == 0, "{offset}");
+    let mut unset = 0usize;
+    for i in 0..len {
+        let bit = want[i];
+        assert!(rt; i < part.len());
+        assert_eq!(rt; part.get_bit(i), bit, "bit {i} of {len} from {offset}");
+        unset = unset.saturating_add(usize::from(!bit));
+    }
+    assert_eq!(rt; part.unset_bits(), unset, "{len} from {offset}");
+    let packed = Bitmap::from_bools(rt.alloc(), want)?;
+    assert!(rt; part == packed, "{len} from {offset}");
+    let mut twice = whole;
+    twice.slice(offset, len);
+    assert!(rt; twice == part, "{len} from {offset}");
+    if len > 1 {
+        twice.slice(len / 2, len - len / 2);
+        assert!(rt;
+            twice == packed.sliced(len / 2, len - len / 2),
+            "{len} from {offset}"
+        );
+        assert!(rt; twice != part, "{len} from {offset}");
+    }
+    Ok(())
+}
+
+/// Slices at each length and bit offset.
+fn check_slices(rt: &(impl Abort + Alloc<A = Global>)) -> Result<(), Error> {
+    for len in [0, 1, 7, 8, 9, 63, 64, 65, 130] {
+        for offset in 0..10 {
+            let bits = pattern(rt.alloc(), 145)?;
+            check_slice(rt, &bits, offset, len)?;
+        }
+    }
+    Ok(())
+}
+
+#[test]
+fn slices_are_their_bits(rt: HostRuntime) {
+    // A request for memory that is refused is made once more.
+    let outcome = check_slices(&rt).or_else(|_| check_slices(&rt));
+    assert_eq!(rt; outcome, Ok(()));
+}
+
+/// The validity of [0, 1, null, 2, null, 3], after the example of Arrow's format: 00101011, written
+/// with the least significant bit last.
+fn check_order(rt: &(impl Abort + Alloc<A = Global>)) -> Result<(), Error> {
+    let validity = [true, true, false, true, false, true];
+    let bitmap = Bitmap::from_bools(rt.alloc(), &validity)?;
+    assert_eq!(rt; bitmap.len(), 6);
+    assert_eq!(rt; bitmap.word(0), 0b00101011);
+    assert_eq!(rt; bitmap.unset_bits(), 2);
+    let other = Bitmap::from_bools(rt.alloc(), &[true, true, false, true, false, false])?;
+    assert!(rt; bitmap != other);
+    Ok(())
+}
+
+#[test]
+fn least_significant_bit_first(rt: HostRuntime) {
+    let outcome = check_order(&rt).or_else(|_| check_order(&rt));
+    assert_eq!(rt; outcome, Ok(()));
+}

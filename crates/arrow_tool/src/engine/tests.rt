@@ -1,0 +1,425 @@
+use super::*;
+use crate::stream::Fault;
+use std::process::Abort;
+
+/// A reader over bytes, which gives some of them at a time, and fails at their end if it is to.
+#[derive(Drop)]
+struct Input<'a> {
+    rest: &'a [u8],
+    step: usize,
+    fails: bool,
+    failed: bool,
+}
+
+impl Source for Input<'_> {
+    ghost has_failed = { λ input. input.failed };
+
+    fn read(&mut self, buffer: &mut [u8]) -> Result<usize, Fault> {
+        let count = self.rest.len().min(self.step).min(buffer.len());
+        if count == 0 && self.fails {
+            self.failed = true;
+            return Err(Fault);
+        }
+        let (front, rest) = self.rest.split_at(count);
+        buffer[..count].copy_from_slice(front);
+        self.rest = rest;
+        Ok(count)
+    }
+
+    fn failed(&self) -> bool {
+        self.failed
+    }
+}
+
+/// A writer into memory that it has from the start, which takes some bytes at a time, and fails
+/// where there is no room.
+#[derive(Drop)]
+struct Output {
+    bytes: Vec<u8>,
+    step: usize,
+    failed: bool,
+}
+
+impl Sink for Output {
+    ghost has_failed = { λ output. output.failed };
+
+    fn write(&mut self, bytes: &[u8]) -> Result<usize, Fault> {
+        let room = self.bytes.capacity() - self.bytes.len();
+        let count = bytes.len().min(self.step).min(room);
+        if count == 0 || self.bytes.extend_from_slice(&bytes[..count]).is_err() {
+            self.failed = true;
+            return Err(Fault);
+        }
+        Ok(count)
+    }
+
+    fn failed(&self) -> bool {
+        self.failed
+    }
+}
+
+/// How a run is made: the bytes of one read and of one write, whether the reader fails at the end of
+/// the input, and how many bytes the writer takes in all.
+#[derive(Clone, Copy)]
+struct Manner {
+    read: usize,
+    write: usize,
+    reader_fails: bool,
+    room: usize,
+}
+
+/// All bytes at once, and room for them.
+const AT_ONCE: Manner = Manner {
+    read: 1_000_000,
+    write: 1_000_000,
+    reader_fails: false,
+    room: 1_000_000,
+};
+
+type Outcome = Result<bool, RunFault>;
+
+/// What a run answers, and what it writes.
+fn outcome_of(
+    alloc: Global,
+    input: &[u8],
+    manner: Manner,
+) -> Result<(Outcome, Vec<u8>), AllocError> {
+    let mut reader = Input {
+        rest: input,
+        step: manner.read,
+        fails: manner.reader_fails,
+        failed: false,
+    };
+    let mut writer = Output {
+        bytes: Vec::with_capacity(alloc, manner.room)?,
+        step: manner.write,
+        failed: false,
+    };
+    let outcome = run(alloc, &mut reader, &mut writer);
+    let Output { bytes, .. } = writer;
+    Ok((outcome, bytes))
+}
+
+/// Whether a run that was refused a request for memory says so: by a fault after whole lines of the
+/// output, or by one line in the place of an answer.
+fn is_out_of_memory(outcome: Outcome, output: &[u8], want: &[u8]) -> bool {
+    match outcome {
+        Err(RunFault::OutOfMemory) => {
+            want.starts_with(output) && (output.is_empty() || output.ends_with(b"\n"))
+        }
+        Ok(true) => {
+            let mut refused = 0;
+            let lines = output.split(|byte| *byte == b'\n');
+            for (line, wanted) in lines.zip(want.split(|byte| *byte == b'\n')) {
+                if line != wanted {
+                    if line != b"error OutOfMemory".as_slice() || refused > 0 {
+                        return false;
+                    }
+                    refused = 1;
+                }
+            }
+            true
+        }
+        _ => false,
+    }
+}
+
+/// Checks a run. Where a request for memory was refused it says so, and a second run succeeds.
+fn check(
+    rt: &(impl Abort + Alloc<A = Global>),
+    name: &str,
+    input: &[u8],
+    manner: Manner,
+    want: (Outcome, &[u8]),
+) {
+    for attempt in 0..2 {
+        let Ok((outcome, output)) = outcome_of(rt.alloc(), input, manner) else {
+            assert!(rt; attempt == 0, "no memory for {name}");
+            continue;
+        };
+        if outcome == want.0 && output.as_slice() == want.1 {
+            return;
+        }
+        assert!(rt;
+            attempt == 0 && is_out_of_memory(outcome, &output, want.1),
+            "{name}: {outcome:?}, {:?}",
+            str::from_utf8(&output)
+        );
+    }
+}
+
+#[test]
+fn lines(rt: HostRuntime) {
+    let cases: [(&str, &[u8], bool, &[u8]); 34] = [
+        ("nothing", b"", false, b""),
+        (
+            "filter",
+            b"filter i32[5,6,7,8,9] bool[t,f,f,t,f]\n",
+            false,
+            b"i32[5,8]\n",
+        ),
+        (
+            "the end of the input ends a line",
+            b"filter i32[5,6,7,8,9] bool[t,f,f,t,f]",
+            false,
+            b"i32[5,8]\n",
+        ),
+        (
+            "three lines",
+            b"filter i32[1,_2,3] bool[f,t,t]\n\nconcatenate i32[1] bool[t]\n",
+            true,
+            b"i32[_,3]\nerror ConcatenateTypes\n",
+        ),
+        (
+            "no such command yet",
+            b"shift i32[1,_,3] 4\n",
+            true,
+            b"error Command\n",
+        ),
+        (
+            "a number",
+            b"concatenate i32[1] 4\n",
+            true,
+            b"error Usage\n",
+        ),
+        (
+            "a null over true",
+            b"filter i32[1,2,3] bool[t,_t,f]\n",
+            false,
+            b"i32[1]\n",
+        ),
+        (
+            "two lengths",
+            b"filter i32[1] bool[t,f]\n",
+            true,
+            b"error Usage\n",
+        ),
+        (
+            "no array",
+            b"concatenate\n",
+            true,
+            b"error ConcatenateEmpty\n",
+        ),
+        (
+            "a null and a minus",
+            b"concatenate i32[] i32[_,-4]\n",
+            false,
+            b"i32[_,-4]\n",
+        ),
+        (
+            "no such command",
+            b"grow i32[1]\n",
+            true,
+            b"error Command\n",
+        ),
+        (
+            "no bracket",
+            b"filter i32[1 bool[t]\n",
+            true,
+            b"error Syntax\n",
+        ),
+        (
+            "booleans",
+            b"filter bool[t,f,_,_t] bool[t,t,t,f]\n",
+            false,
+            b"bool[t,f,_]\n",
+        ),
+        (
+            "joined booleans",
+            b"concatenate bool[t] bool[] bool[_f,f]\n",
+            false,
+            b"bool[t,_,f]\n",
+        ),
+        (
+            "nothing chosen",
+            b"filter bool[t] bool[_t]\n",
+            false,
+            b"bool[]\n",
+        ),
+        ("no elements", b"filter i32[] bool[]\n", false, b"i32[]\n"),
+        (
+            "the least and the greatest",
+            b"concatenate i32[-2147483648,2147483647,-0,007]\n",
+            false,
+            b"i32[-2147483648,2147483647,0,7]\n",
+        ),
+        (
+            "past the greatest",
+            b"concatenate i32[2147483648]\n",
+            true,
+            b"error Syntax\n",
+        ),
+        ("a plus", b"concatenate i32[+1]\n", true, b"error Syntax\n"),
+        (
+            "no element",
+            b"concatenate i32[1,]\n",
+            true,
+            b"error Syntax\n",
+        ),
+        (
+            "a minus alone",
+            b"concatenate i32[-]\n",
+            true,
+            b"error Syntax\n",
+        ),
+        (
+            "a text, not read yet",
+            b"concatenate utf8[\"a\"]\n",
+            true,
+            b"error Syntax\n",
+        ),
+        (
+            "a capital",
+            b"Filter i32[1] bool[t]\n",
+            true,
+            b"error Syntax\n",
+        ),
+        ("an array first", b"i32[1]\n", true, b"error Syntax\n"),
+        (
+            "a form before a name",
+            b"grow i32[\n",
+            true,
+            b"error Syntax\n",
+        ),
+        (
+            "a name before a use",
+            b"grow 1 2 3\n",
+            true,
+            b"error Command\n",
+        ),
+        ("two arguments", b"filter i32[1]\n", true, b"error Usage\n"),
+        (
+            "three arguments",
+            b"filter i32[1] bool[t] bool[t]\n",
+            true,
+            b"error Usage\n",
+        ),
+        (
+            "no predicate",
+            b"filter i32[1] i32[1]\n",
+            true,
+            b"error Usage\n",
+        ),
+        (
+            "spaces",
+            b"  concatenate   i32[1]  \n   \n",
+            false,
+            b"i32[1]\n",
+        ),
+        (
+            "a carriage return",
+            b"concatenate i32[1]\r\n\r\nconcatenate i32[2]\r",
+            false,
+            b"i32[1]\ni32[2]\n",
+        ),
+        (
+            "two carriage returns",
+            b"concatenate i32[1]\r\r\n",
+            true,
+            b"error Syntax\n",
+        ),
+        ("not UTF-8", b"concatenate \xff\n", true, b"error Syntax\n"),
+        (
+            "a refusal and an answer",
+            b"grow\nconcatenate bool[f]",
+            true,
+            b"error Command\nbool[f]\n",
+        ),
+    ];
+    let by_bytes = Manner {
+        read: 1,
+        write: 1,
+        ..AT_ONCE
+    };
+    for (name, input, is_refused, output) in cases {
+        check(&rt, name, input, AT_ONCE, (Ok(is_refused), output));
+        check(&rt, name, input, by_bytes, (Ok(is_refused), output));
+    }
+}
+
+#[test]
+fn faults(rt: HostRuntime) {
+    let input = b"concatenate i32[1]\nfilter i32[2] bool[t]\nconcatenate i32[3]";
+    let cut = Manner {
+        reader_fails: true,
+        ..AT_ONCE
+    };
+    let full = Manner {
+        room: 10,
+        ..AT_ONCE
+    };
+    // A reader that fails after the second line, and a writer that is full within the second answer.
+    check(
+        &rt,
+        "a read",
+        input,
+        cut,
+        (Err(RunFault::Read), b"i32[1]\ni32[2]\n"),
+    );
+    check(
+        &rt,
+        "a write",
+        input,
+        full,
+        (Err(RunFault::Write), b"i32[1]\ni32"),
+    );
+    check(&rt, "no input", b"", cut, (Err(RunFault::Read), b""));
+    let none = Manner { room: 0, ..AT_ONCE };
+    check(&rt, "no room", b"grow", none, (Err(RunFault::Write), b""));
+    check(&rt, "no answer", b"\n \n", none, (Ok(false), b""));
+}
+
+/// Repeats a text.
+fn repeated(out: &mut Vec<u8>, text: &[u8], count: usize) -> Result<(), AllocError> {
+    for _ in 0..count {
+        out.extend_from_slice(text)?;
+    }
+    Ok(())
+}
+
+/// A line of many elements and its answer.
+fn long_line(alloc: Global) -> Result<(Vec<u8>, Vec<u8>), AllocError> {
+    let mut input = Vec::with_capacity(alloc, 1_000_000)?;
+    input.extend_from_slice(b"filter i32[")?;
+    repeated(&mut input, b"-12,_,", 49_999)?;
+    input.extend_from_slice(b"3,4] bool[")?;
+    repeated(&mut input, b"t,f,", 49_999)?;
+    input.extend_from_slice(b"f,t]\n")?;
+    let mut output = Vec::with_capacity(alloc, 1_000_000)?;
+    output.extend_from_slice(b"i32[")?;
+    repeated(&mut output, b"-12,", 49_999)?;
+    output.extend_from_slice(b"4]\n")?;
+    Ok((input, output))
+}
+
+/// Many lines and their answers.
+fn many_lines(alloc: Global) -> Result<(Vec<u8>, Vec<u8>), AllocError> {
+    let mut input = Vec::with_capacity(alloc, 1_000_000)?;
+    let mut output = Vec::with_capacity(alloc, 1_000_000)?;
+    for _ in 0..10 {
+        input.extend_from_slice(b"concatenate i32[7]\n")?;
+        repeated(&mut input, b"grow\n", 999)?;
+        output.extend_from_slice(b"i32[7]\n")?;
+        repeated(&mut output, b"error Command\n", 999)?;
+    }
+    Ok((input, output))
+}
+
+#[test]
+fn long_input(rt: HostRuntime) {
+    let long = long_line(rt.alloc()).or_else(|_| long_line(rt.alloc()));
+    let (input, output) = long.expect(&rt, "memory for a long line");
+    check(&rt, "a long line", &input, AT_ONCE, (Ok(false), &output));
+    let many = many_lines(rt.alloc()).or_else(|_| many_lines(rt.alloc()));
+    let (input, output) = many.expect(&rt, "memory for many lines");
+    check(&rt, "many lines", &input, AT_ONCE, (Ok(true), &output));
+}
+
+#[test]
+fn statuses(rt: HostRuntime) {
+    assert_eq!(rt; status(&Ok(false)), 0);
+    assert_eq!(rt; status(&Ok(true)), 1);
+    assert_eq!(rt; status(&Err(RunFault::Read)), 2);
+    assert_eq!(rt; status(&Err(RunFault::Write)), 2);
+    assert_eq!(rt; status(&Err(RunFault::OutOfMemory)), 2);
+}
