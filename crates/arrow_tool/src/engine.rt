@@ -1,6 +1,6 @@
 //! The engine of the program: lines in, answers out.
 
-ghost use Rattle.std.specs.Prelude.{◌≡◌, ◌≢◌, ◌↔◌, true, false, IsOkUnless};
+ghost use Rattle.std.specs.Prelude.{◌≡◌, ◌≢◌, ◌↔◌, true, false, OnOk, IsOkUnless};
 ghost use Rattle.arrow_tool.specs.declared.engine.RunFault.{RunFault};
 ghost use Rattle.arrow_tool.specs.declared.engine.RunFault.TheVariants.{OutOfMemory};
 ghost use Rattle.arrow_tool.specs.Status.{status_of};
@@ -121,6 +121,7 @@ pub fn run<R: Source, W: Sink>(
     requires writer_works { W.has_failed writer.old ≡ false }
     ensures read { (result ≡ Err RunFault.Read) ↔ (R.has_failed reader.new ≡ true) }
     ensures write { (result ≡ Err RunFault.Write) ↔ (W.has_failed writer.new ≡ true) }
+    ensures ok { OnOk result ((R.has_failed reader.new ≡ false) × (W.has_failed writer.new ≡ false)) }
 {
     let mut session = Session::new(alloc);
     let mut chunk = [0; CHUNK];

@@ -336,3 +336,6 @@ pub fn concatenate(alloc: Global, arrays: &[&Array]) -> Result<Array, Error>
         Array::Boolean(_) => Ok(Array::Boolean(concatenate_rows(alloc, arrays)?)),
     }
 }
+
+#[cfg(test)]
+mod tests;

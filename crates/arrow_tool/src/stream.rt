@@ -114,3 +114,6 @@ impl<T: Write> Sink for Guarded<T> {
         self.has_failed
     }
 }
+
+#[cfg(test)]
+mod tests;

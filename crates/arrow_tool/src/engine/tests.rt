@@ -100,27 +100,32 @@ fn outcome_of(
     Ok((outcome, bytes))
 }
 
+fn line_count(text: &[u8]) -> usize {
+    text.iter().filter(|byte| **byte == b'\n').count()
+}
+
 /// Whether a run that was refused a request for memory says so: by a fault after whole lines of the
-/// output, or by one line in the place of an answer.
-fn is_out_of_memory(outcome: Outcome, output: &[u8], want: &[u8]) -> bool {
+/// output, or by one line in the place of an answer. A stream that fails does so all the same.
+fn is_out_of_memory(outcome: Outcome, output: &[u8], want: (Outcome, &[u8])) -> bool {
     match outcome {
         Err(RunFault::OutOfMemory) => {
-            want.starts_with(output) && (output.is_empty() || output.ends_with(b"\n"))
+            want.1.starts_with(output) && (output.is_empty() || output.ends_with(b"\n"))
         }
         Ok(true) => {
-            let mut refused = 0;
+            let mut is_refused = false;
             let lines = output.split(|byte| *byte == b'\n');
-            for (line, wanted) in lines.zip(want.split(|byte| *byte == b'\n')) {
+            let wanted_lines = want.1.split(|byte| *byte == b'\n');
+            for (line, wanted) in lines.zip(wanted_lines) {
                 if line != wanted {
-                    if line != b"error OutOfMemory".as_slice() || refused > 0 {
+                    if is_refused || line != b"error OutOfMemory".as_slice() {
                         return false;
                     }
-                    refused = 1;
+                    is_refused = true;
                 }
             }
-            true
+            want.0.is_ok() && line_count(output) == line_count(want.1)
         }
-        _ => false,
+        _ => outcome == want.0,
     }
 }
 
@@ -141,7 +146,7 @@ fn check(
             return;
         }
         assert!(rt;
-            attempt == 0 && is_out_of_memory(outcome, &output, want.1),
+            attempt == 0 && is_out_of_memory(outcome, &output, want),
             "{name}: {outcome:?}, {:?}",
             str::from_utf8(&output)
         );
