@@ -1,12 +1,12 @@
 -- The loops of the first kernels, over plain lists.
 use Rattle.std.proofs.Common.{◌≡◌, ℕ, ◌+◌, ◌<◌, ◌≤◌, Bool, true, false, Option, Some, None, unwrap_or, List, [], ◌∷◌, ◌++◌, length, get_or, map, take, drop, refl, ap, sym, ◌∙◌, append_assoc}
 use Rattle.std.specs.Prelude.{slice_get, option_map, Contains}
-use Rattle.std.proofs.lemmas.List.{append-nil, map_push, drop_all, take_all}
+use Rattle.std.proofs.lemmas.List.{append-nil, map_push, drop_all}
 use Rattle.std.proofs.lemmas.Option.{slice_get-get_or, slice_get_read, slice_get-map, get_or_from_slice_get}
 use Rattle.arrow_types.specs.Slot.{Slot, Null, Boolean}
 use Rattle.arrow_types.specs.Rows.{selects, select}
 use Rattle.arrow_tool.specs.Parts.{slot_by}
-use Rattle.arrow_types.proofs.RowsLemmas.{drop_at_read, take_at_read, select-nil, select_at_read}
+use Rattle.arrow_types.proofs.RowsLemmas.{take_at_read, select-nil, select_at_read}
 
 -- the rows that are kept so far, with those that the rest will give
 abbrev pub KeepsUpTo : {A : Type 0} → (A → Slot) → List A → List Bool → List Slot → ℕ → Type 0

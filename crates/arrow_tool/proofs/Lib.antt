@@ -1,2 +1,3 @@
+pub mod InputProgress
 pub mod KernelLemmas
 pub mod PartsLemmas

@@ -1,3 +1,4 @@
 pub mod Arrays
+pub mod Input
 pub mod Parts
 pub mod Status

@@ -3,6 +3,7 @@
 ghost use Rattle.std.specs.Prelude.{◌≡◌, ◌≢◌, ◌↔◌, true, false, OnOk, IsOkUnless};
 ghost use Rattle.arrow_tool.specs.declared.engine.RunFault.{RunFault};
 ghost use Rattle.arrow_tool.specs.declared.engine.RunFault.TheVariants.{OutOfMemory};
+ghost use Rattle.arrow_tool.specs.Input.{ReadsToEnd};
 ghost use Rattle.arrow_tool.specs.Status.{status_of};
 
 use crate::answers::answer_to;
@@ -104,6 +105,29 @@ fn write_all<W: Sink>(writer: &mut W, bytes: &[u8]) -> Result<(), RunFault>
     Ok(())
 }
 
+/// Reads to the end of the input, and answers each line that a line feed ends.
+fn answer_lines<R: Source, W: Sink>(
+    session: &mut Session,
+    reader: &mut R,
+    writer: &mut W,
+) -> Result<(), RunFault>
+    requires reader_works { R.has_failed reader.old ≡ false }
+    requires writer_works { W.has_failed writer.old ≡ false }
+    ensures read { (result ≡ Err RunFault.Read) ↔ (R.has_failed reader.new ≡ true) }
+    ensures write { (result ≡ Err RunFault.Write) ↔ (W.has_failed writer.new ≡ true) }
+    ensures end { OnOk result (ReadsToEnd (R.remaining reader.old) (R.remaining reader.new)) }
+{
+    let mut chunk = [0; CHUNK];
+    for _reads in 0..u64::MAX {
+        match reader.read(&mut chunk) {
+            Ok(0) => return Ok(()),
+            Ok(count) => session.take_in(&chunk[..count], writer)?,
+            Err(_) => return Err(RunFault::Read),
+        }
+    }
+    Ok(())
+}
+
 /// Answers each line of the input by a line of output, and tells whether some line was refused.
 /// A line ends at a line feed, or with the input, which also counts as ended after 2^64 - 1 reads.
 /// Neither stream has failed yet.
@@ -122,16 +146,10 @@ pub fn run<R: Source, W: Sink>(
     ensures read { (result ≡ Err RunFault.Read) ↔ (R.has_failed reader.new ≡ true) }
     ensures write { (result ≡ Err RunFault.Write) ↔ (W.has_failed writer.new ≡ true) }
     ensures ok { OnOk result ((R.has_failed reader.new ≡ false) × (W.has_failed writer.new ≡ false)) }
+    ensures end { OnOk result (ReadsToEnd (R.remaining reader.old) (R.remaining reader.new)) }
 {
     let mut session = Session::new(alloc);
-    let mut chunk = [0; CHUNK];
-    for _ in 0..u64::MAX {
-        match reader.read(&mut chunk) {
-            Ok(0) => break,
-            Ok(count) => session.take_in(&chunk[..count], writer)?,
-            Err(_) => return Err(RunFault::Read),
-        }
-    }
+    answer_lines(&mut session, reader, writer)?;
     session.answer_line(writer)?;
     Ok(session.some_refused)
 }

@@ -1,6 +1,6 @@
-use Rattle.std.proofs.Common.{◌≡◌, ◌<◌, map, ap, ◌∙◌, arith}
+use Rattle.std.proofs.Common.{map, ap, ◌∙◌, arith}
 use Rattle.std.proofs.lemmas.Result.{IfOk-weaker}
-use Rattle.arrow_types.specs.Rows.{mask_of, select}
+use Rattle.arrow_types.specs.Rows.{mask_of}
 use Rattle.arrow_tool.specs.Arrays.{boolean_rows}
 use Rattle.arrow_tool.specs.Parts.{slot_by}
 use Rattle.arrow_tool.proofs.KernelLemmas.{keeps_row, leaves_row, keeps_all}

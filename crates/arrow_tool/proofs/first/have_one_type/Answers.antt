@@ -1,8 +1,7 @@
-use Rattle.std.proofs.Common.{◌≡◌, ◌<◌, length, map, ap, sym, ◌∙◌, arith}
+use Rattle.std.proofs.Common.{◌≡◌, ◌<◌, length, map, sym, ◌∙◌, arith}
 use Rattle.std.proofs.lemmas.List.{length-map, take_all}
 use Rattle.std.proofs.lemmas.List.Elements.{All-more, All-same}
 use Rattle.std.proofs.lemmas.Option.{get_or_from_slice_get}
-use Rattle.arrow_types.specs.ArrowType.{ArrowType}
 use Rattle.arrow_tool.specs.Arrays.{type_of}
 use Rattle.arrow_tool.proofs.KernelLemmas.{slice_get-map_read, Contains-read}
 use Rattle.arrow_tool.proofs.first.have_one_type.Goals as goal

@@ -1,4 +1,4 @@
-use Rattle.std.proofs.Common.{◌∙◌, ◌<◌, ap, sym, Some, length}
+use Rattle.std.proofs.Common.{◌∙◌, ap, sym, Some, length}
 use Rattle.std.specs.Bool.{then_some}
 use Rattle.arrow_types.specs.Slot.{Boolean}
 use Rattle.arrow_tool.specs.Parts.{slot_by}

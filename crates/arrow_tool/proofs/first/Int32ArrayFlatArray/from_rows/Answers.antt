@@ -1,4 +1,4 @@
-use Rattle.std.proofs.Common.{◌∙◌, ap, Some}
+use Rattle.std.proofs.Common.{◌∙◌}
 use Rattle.arrow_types.specs.Slot.{Number}
 use Rattle.arrow_tool.proofs.PartsLemmas.{rows_by-split}
 use Rattle.arrow_tool.proofs.first.Int32ArrayFlatArray.from_rows.Goals as goal

@@ -1,4 +1,4 @@
-use Rattle.std.proofs.Common.{◌≡◌, ◌<◌, ◌∙◌, ℤ, pos, ap, sym, Some, w32, length, slice_index_or, rules, arith}
+use Rattle.std.proofs.Common.{◌∙◌, pos, ap, sym, Some, w32, length, slice_index_or, rules, arith}
 use Rattle.std.specs.Bool.{then_some}
 use Rattle.std.proofs.lemmas.Int.{to_z-of_z}
 use Rattle.std.proofs.lemmas.Option.{slice_get-get_or}
