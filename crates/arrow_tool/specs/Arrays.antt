@@ -1,5 +1,6 @@
 -- The type and the rows of an array of Int32 or Boolean.
-use Rattle.std.specs.Prelude.{◌≢◌, Bool, List, Contains}
+use Rattle.std.specs.Prelude.{◌≢◌, Bool, List, map, Contains}
+use Rattle.std.specs.Borrow.{Bor}
 use Rattle.arrow_types.specs.declared.error.Error.{Error}
 use Rattle.arrow_types.specs.declared.error.Error.TheVariants.{InvalidArgumentError, OutOfMemory}
 use Rattle.arrow_types.specs.declared.error.ArgumentFault.TheVariants.{ConcatenateEmpty, ConcatenateTypes}
@@ -17,6 +18,13 @@ type_of (Boolean p) = plain boolean
 abbrev pub rows_of : Array → List Slot
 rows_of (Int32 p) = rows_by Number p
 rows_of (Boolean p) = rows_by a_boolean p
+
+-- the types, and the rows, of borrowed arrays
+abbrev pub types_of : List (Bor Array) → List ArrowType
+types_of = map (λ array. type_of array.now)
+
+abbrev pub rows_in : List (Bor Array) → List (List Slot)
+rows_in = map (λ array. rows_of array.now)
 
 -- the rows of a predicate
 abbrev pub boolean_rows : Parts Bool → List Slot

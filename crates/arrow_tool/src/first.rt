@@ -7,7 +7,7 @@ ghost use Rattle.arrow_types.specs.ArrowType.{ArrowType, plain, integer, boolean
 ghost use Rattle.arrow_types.specs.declared.datatypes.IntegerType.TheVariants.{Int32 as int_32};
 ghost use Rattle.arrow_types.specs.Slot.{Slot, Number, Boolean as a_boolean};
 ghost use Rattle.arrow_types.specs.Rows.{mask_of, select, joined};
-ghost use Rattle.arrow_tool.specs.Arrays.{type_of, rows_of, boolean_rows, HasOther, HasTwo, IsConcatenateError};
+ghost use Rattle.arrow_tool.specs.Arrays.{type_of, types_of, rows_of, rows_in, boolean_rows, HasOther, HasTwo, IsConcatenateError};
 ghost use Rattle.arrow_tool.specs.Parts.{FitsRows, rows_by, slot_by, valid_at};
 
 use arrow_memory::bitmap::Bitmap;
@@ -248,7 +248,7 @@ impl BooleanArray {
 
 /// Whether all arrays are of the first one's type.
 fn have_one_type(arrays: &[&Array], first: &Array) -> bool
-    ensures { MatchBool result (All (λ t. t ≡ type_of first.now) (map (λ array. type_of array.now) arrays.now)) (HasOther (type_of first.now) (map (λ array. type_of array.now) arrays.now)) }
+    ensures { MatchBool result (All (λ t. t ≡ type_of first.now) (types_of arrays.now)) (HasOther (type_of first.now) (types_of arrays.now)) }
 {
     for array in arrays {
         if !array.is_of_type(first) {
@@ -302,8 +302,8 @@ fn append_rows<A: FlatArray>(items: &mut Vec<Option<A::Item>>, array: &A) -> Res
 }
 
 fn concatenate_rows<A: FlatArray>(alloc: Global, arrays: &[&Array]) -> Result<A, Error>
-    requires { All (λ t. t ≡ A.array_type) (map (λ array. type_of array.now) arrays.now) }
-    ensures ok { IfOk result (λ all. A.rows all ≡ joined (map (λ array. rows_of array.now) arrays.now)) }
+    requires { All (λ t. t ≡ A.array_type) (types_of arrays.now) }
+    ensures ok { IfOk result (λ all. A.rows all ≡ joined (rows_in arrays.now)) }
     ensures err { IsOkUnless result Error.OutOfMemory }
 {
     let mut items = Vec::new(alloc);
@@ -320,9 +320,9 @@ fn concatenate_rows<A: FlatArray>(alloc: Global, arrays: &[&Array]) -> Result<A,
 /// `OutOfMemory` where a request for memory was refused.
 pub fn concatenate(alloc: Global, arrays: &[&Array]) -> Result<Array, Error>
     ensures none { (result ≡ Err (Error.InvalidArgumentError ArgumentFault.ConcatenateEmpty)) ↔ (arrays.now ≡ []) }
-    ensures types { (result ≡ Err (Error.InvalidArgumentError ArgumentFault.ConcatenateTypes)) ↔ HasTwo (map (λ array. type_of array.now) arrays.now) }
-    ensures array_type { IfOk result (λ all. All (λ t. t ≡ type_of all) (map (λ array. type_of array.now) arrays.now)) }
-    ensures rows { IfOk result (λ all. rows_of all ≡ joined (map (λ array. rows_of array.now) arrays.now)) }
+    ensures types { (result ≡ Err (Error.InvalidArgumentError ArgumentFault.ConcatenateTypes)) ↔ HasTwo (types_of arrays.now) }
+    ensures array_type { IfOk result (λ all. All (λ t. t ≡ type_of all) (types_of arrays.now)) }
+    ensures rows { IfOk result (λ all. rows_of all ≡ joined (rows_in arrays.now)) }
     ensures others { IfErr result IsConcatenateError }
 {
     let Some(first) = arrays.first() else {
