@@ -1,3 +1,4 @@
 pub mod InputProgress
 pub mod KernelLemmas
+pub mod OutputProgress
 pub mod PartsLemmas

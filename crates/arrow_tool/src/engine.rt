@@ -3,6 +3,7 @@
 ghost use Rattle.std.specs.Prelude.{◌≡◌, ◌≢◌, ◌↔◌, true, false, OnOk, IsOkUnless};
 ghost use Rattle.arrow_tool.specs.declared.engine.RunFault.{RunFault};
 ghost use Rattle.arrow_tool.specs.declared.engine.RunFault.TheVariants.{OutOfMemory};
+ghost use Rattle.std.specs.Io.KnownBytes.{Appends};
 ghost use Rattle.arrow_tool.specs.Input.{ReadsToEnd};
 ghost use Rattle.arrow_tool.specs.Status.{status_of};
 
@@ -94,6 +95,7 @@ fn write_all<W: Sink>(writer: &mut W, bytes: &[u8]) -> Result<(), RunFault>
     requires { W.has_failed writer.old ≡ false }
     ensures write { (result ≡ Err RunFault.Write) ↔ (W.has_failed writer.new ≡ true) }
     ensures only { IsOkUnless result RunFault.Write }
+    ensures bytes { OnOk result (Appends (W.contents writer.old) (W.contents writer.new) bytes.now) }
 {
     let mut rest = bytes;
     while !rest.is_empty() {
