@@ -1,3 +1,5 @@
+//! Buffers: shared lists of values.
+
 ghost use Rattle.std.specs.Prelude.{◌≡◌, ◌+◌, ◌≤◌, ◌↔◌, [], length, IsTrue, IfOk, IsOkUnless};
 ghost use Rattle.arrow_memory.specs.Sliced.{sliced};
 ghost use Rattle.arrow_types.specs.declared.error.Error.{Error};

@@ -1,3 +1,5 @@
+//! Bits in words of 64.
+
 ghost use Rattle.std.specs.Prelude.{◌≡◌, ◌+◌, ◌-◌, ◌*◌, ◌%◌, ◌≤◌, length, slice_index};
 ghost use Rattle.arrow_memory.specs.Words.{bits_in, set_count, word_of};
 

@@ -1,3 +1,5 @@
+//! The parts of data types.
+
 /// The unit of a time, a timestamp or a duration.
 #[derive(Clone, Copy, Debug, PartialEq, Eq)]
 pub enum TimeUnit {

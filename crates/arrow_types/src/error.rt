@@ -1,3 +1,5 @@
+//! The errors that calls answer.
+
 ghost use Rattle.std.specs.Prelude.{◌≡◌};
 ghost use Rattle.arrow_types.specs.declared.error.Error.TheVariants.{OutOfMemory};
 
