@@ -1,5 +1,5 @@
 -- Lists of rows, one row at a time.
-use Rattle.std.proofs.Common.{◌≡◌, ℕ, zero, suc, ◌+◌, Bool, true, false, Some, List, [], ◌∷◌, ◌++◌, length, take, drop, cond, if◌then◌else◌, refl, ap, sym, ◌∙◌, arith}
+use Rattle.std.proofs.Common.{◌≡◌, ℕ, zero, suc, ◌+◌, Bool, Some, List, [], ◌∷◌, ◌++◌, length, take, drop, if◌then◌else◌, refl, ap, arith}
 use Rattle.std.specs.Prelude.{slice_get}
 use Rattle.arrow_types.specs.Slot.{Slot, Null}
 use Rattle.arrow_types.specs.Rows.{mask, select}

@@ -1,5 +1,5 @@
 -- A data type as contracts see it: a tree, with names as their bytes. The terms are those of Arrow's columnar format ("Physical Memory Layout") and of its schema.
-use Rattle.std.specs.Prelude.{ℕ, ℤ, Bool, List, Option}
+use Rattle.std.specs.Prelude.{ℕ, ℤ, Bool, List, [], ◌∷◌, Option}
 use Rattle.arrow_types.specs.declared.datatypes.TimeUnit.{TimeUnit}
 use Rattle.arrow_types.specs.declared.datatypes.IntervalUnit.{IntervalUnit}
 use Rattle.arrow_types.specs.declared.datatypes.UnionMode.{UnionMode}
@@ -58,3 +58,26 @@ mutual
   pub data ArrowFields : Type 0 where
     no_fields : ArrowFields
     more_fields : ArrowField → ArrowFields → ArrowFields
+
+abbrev pub name_in : ArrowField → List ℕ
+name_in (field name t nullable) = name
+
+abbrev pub type_in : ArrowField → ArrowType
+type_in (field name t nullable) = t
+
+abbrev pub is_nullable_in : ArrowField → Bool
+is_nullable_in (field name t nullable) = nullable
+
+-- fields as a list, and back
+abbrev pub to_fields : List ArrowField → ArrowFields
+to_fields [] = no_fields
+to_fields (f ∷ fs) = more_fields f (to_fields fs)
+
+abbrev pub from_fields : ArrowFields → List ArrowField
+from_fields no_fields = []
+from_fields (more_fields f fs) = f ∷ from_fields fs
+
+-- a type without the extensions around it; those inside it stay ("Extension Types")
+abbrev pub logical : ArrowType → ArrowType
+logical (extension name metadata t) = logical t
+logical t = t

@@ -1,5 +1,5 @@
 -- One row of an array, whatever the layout beneath it: the slot of Arrow's columnar format ("Terminology").
-use Rattle.std.specs.Prelude.{ℕ, ℤ, pos, Bool, List, ◌∷◌, Option, Some}
+use Rattle.std.specs.Prelude.{ℕ, zero, suc, ℤ, pos, Bool, List, [], ◌∷◌, Option, Some, None}
 use Rattle.arrow_types.specs.ArrowType.{ArrowType, ArrowField, ArrowFields, plain, list, struct, union, dictionary, extension, field, no_fields, more_fields}
 
 mutual
@@ -28,10 +28,21 @@ mutual
     no_slots : Slots
     more_slots : Slot → Slots → Slots
 
--- the type id of a union's first field
-abbrev pub first_id : Option (List ℤ) → ℤ
-first_id (Some (id ∷ ids)) = id
-first_id _ = pos 0
+-- slots as a list, and back
+abbrev pub to_slots : List Slot → Slots
+to_slots [] = no_slots
+to_slots (s ∷ ss) = more_slots s (to_slots ss)
+
+abbrev pub from_slots : Slots → List Slot
+from_slots no_slots = []
+from_slots (more_slots s ss) = s ∷ from_slots ss
+
+-- the type id of a union's i-th field: the i-th that is given, and i where none are ("Union Layout")
+abbrev pub id_at : Option (List ℤ) → ℕ → ℤ
+id_at None i = pos i
+id_at (Some []) i = pos i
+id_at (Some (id ∷ ids)) zero = id
+id_at (Some (id ∷ ids)) (suc i) = id_at (Some ids) i
 
 -- what stands where no row is chosen: Null, and in a union, which has no validity ("Union Layout"), its first field's null slot
 abbrev mutual
@@ -39,7 +50,7 @@ abbrev mutual
   null_slot (plain p) = Null
   null_slot (list form f) = Null
   null_slot (struct fs) = Null
-  null_slot (union mode ids fs) = Variant (first_id ids) (null_slot_of_first fs)
+  null_slot (union mode ids fs) = Variant (id_at ids 0) (null_slot_of_first fs)
   null_slot (dictionary keys ordered t) = Null
   null_slot (extension name metadata t) = null_slot t
 

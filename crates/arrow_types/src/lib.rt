@@ -4,3 +4,4 @@
 
 pub mod datatypes;
 pub mod error;
+pub mod types;

@@ -1,0 +1,14 @@
+use Rattle.std.proofs.Common.{◌≡◌, rules}
+use Rattle.std.proofs.lemmas.Bool.Decides.{same_from_decides}
+use Rattle.std.specs.Bool.{Decides}
+use Rattle.arrow_types.specs.SameTree.{same_by, same_by-decides}
+use Rattle.arrow_types.specs.StoredType.{type_code}
+use Rattle.arrow_types.specs.TypeOf.{type_of}
+use Rattle.arrow_types.proofs.datatypes.equal.DataTypePartialEq.eq.Goals as goal
+
+pub returns-clause-value : goal.returns-clause-value
+returns-clause-value c =
+    let left = type_of c.args.self.now in
+    let right = type_of c.args.other.now in
+    let told : Decides c.equal_types.result (left ≡ right) = search rules in
+    same_from_decides c.equal_types.result (same_by type_code left right) told (same_by-decides type_code left right)

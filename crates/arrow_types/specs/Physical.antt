@@ -1,0 +1,62 @@
+-- How a type lies in memory: the layouts of Arrow's columnar format ("Physical Memory Layout"), and the element types of its primitive layout.
+use Rattle.arrow_types.specs.declared.datatypes.IntegerType.{IntegerType}
+use Rattle.arrow_types.specs.declared.datatypes.IntegerType.TheVariants as key
+use Rattle.arrow_types.specs.declared.datatypes.IntervalUnit.{IntervalUnit}
+use Rattle.arrow_types.specs.declared.datatypes.IntervalUnit.TheVariants as interval_unit
+use Rattle.arrow_types.specs.declared.datatypes.physical_type.PhysicalType.{PhysicalType}
+use Rattle.arrow_types.specs.declared.datatypes.physical_type.PhysicalType.TheVariants as physical
+use Rattle.arrow_types.specs.declared.types.PrimitiveType.{PrimitiveType}
+use Rattle.arrow_types.specs.declared.types.PrimitiveType.TheVariants as primitive
+use Rattle.arrow_types.specs.ArrowType.{ArrowType, PlainType, ListForm, plain, list, struct, union, dictionary, extension, null, boolean, integer, float16, float32, float64, timestamp, date32, date64, time32, time64, duration, interval, binary, large_binary, utf8, large_utf8, fixed_size_binary, decimal, decimal256, small, large, fixed_size, mapped}
+
+abbrev pub integer_element : IntegerType → PrimitiveType
+integer_element key.Int8 = primitive.Int8
+integer_element key.Int16 = primitive.Int16
+integer_element key.Int32 = primitive.Int32
+integer_element key.Int64 = primitive.Int64
+integer_element key.UInt8 = primitive.UInt8
+integer_element key.UInt16 = primitive.UInt16
+integer_element key.UInt32 = primitive.UInt32
+integer_element key.UInt64 = primitive.UInt64
+
+abbrev pub interval_element : IntervalUnit → PrimitiveType
+interval_element interval_unit.YearMonth = primitive.Int32
+interval_element interval_unit.DayTime = primitive.DaysMs
+interval_element interval_unit.MonthDayNano = primitive.MonthDayNano
+
+abbrev pub plain_layout : PlainType → PhysicalType
+plain_layout null = physical.Null
+plain_layout boolean = physical.Boolean
+plain_layout float16 = physical.Primitive primitive.Float16
+plain_layout float32 = physical.Primitive primitive.Float32
+plain_layout float64 = physical.Primitive primitive.Float64
+plain_layout date32 = physical.Primitive primitive.Int32
+plain_layout date64 = physical.Primitive primitive.Int64
+plain_layout binary = physical.Binary
+plain_layout large_binary = physical.LargeBinary
+plain_layout utf8 = physical.Utf8
+plain_layout large_utf8 = physical.LargeUtf8
+plain_layout (integer k) = physical.Primitive (integer_element k)
+plain_layout (timestamp unit timezone) = physical.Primitive primitive.Int64
+plain_layout (time32 unit) = physical.Primitive primitive.Int32
+plain_layout (time64 unit) = physical.Primitive primitive.Int64
+plain_layout (duration unit) = physical.Primitive primitive.Int64
+plain_layout (interval unit) = physical.Primitive (interval_element unit)
+plain_layout (fixed_size_binary size) = physical.FixedSizeBinary
+plain_layout (decimal precision scale) = physical.Primitive primitive.Int128
+plain_layout (decimal256 precision scale) = physical.Primitive primitive.Int256
+
+abbrev pub list_layout : ListForm → PhysicalType
+list_layout small = physical.List
+list_layout large = physical.LargeList
+list_layout (fixed_size size) = physical.FixedSizeList
+list_layout (mapped sorted) = physical.Map
+
+-- the physical type; an extension lies as the type inside it does
+abbrev pub physical_type_of : ArrowType → PhysicalType
+physical_type_of (plain p) = plain_layout p
+physical_type_of (list form f) = list_layout form
+physical_type_of (struct fs) = physical.Struct
+physical_type_of (union mode ids fs) = physical.Union
+physical_type_of (dictionary keys ordered t) = physical.Dictionary keys
+physical_type_of (extension name metadata t) = physical_type_of t
