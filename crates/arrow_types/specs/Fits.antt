@@ -1,10 +1,9 @@
 -- Which rows an array of a type can hold: every offset, position and count fits its type.
-use Rattle.std.specs.Prelude.{ℕ, zero, suc, ℤ, true, false, List, [], ◌∷◌, map, length, sum_by, replicate, ◌<◌, ◌≤◌, ◌*◌, ◌^◌, Option, if◌then◌else◌}
+use Rattle.std.specs.Prelude.{ℕ, zero, suc, ℤ, true, false, List, [], ◌∷◌, map, length, sum_by, flat_map, replicate, ◌<◌, ◌≤◌, ◌*◌, ◌^◌, Option, if◌then◌else◌}
 use Rattle.std.specs.Ordering.{int_eq}
 use Rattle.arrow_types.specs.declared.datatypes.UnionMode.TheVariants.{Dense, Sparse}
 use Rattle.arrow_types.specs.ArrowType.{ArrowType, ArrowFields, PlainType, ListForm, utf8, large_utf8, binary, large_binary, fixed_size_binary, small, large, fixed_size, mapped, plain, list, struct, union, dictionary, extension, field, no_fields, more_fields}
 use Rattle.arrow_types.specs.Greatest.{greatest_offset}
-use Rattle.arrow_types.specs.Rows.{joined}
 use Rattle.arrow_types.specs.Slot.{Slot, Slots, Null, Items, Parts, Bytes, Text, Variant, no_slots, more_slots, from_slots, null_slot, id_at}
 
 -- an array has fewer than 2 ^ 64 rows
@@ -24,7 +23,7 @@ items_in _ = []
 
 -- all rows inside the rows of a list
 abbrev pub all_items : List Slot → List Slot
-all_items rows = joined (map items_in rows)
+all_items = flat_map items_in
 
 -- the rows inside a row of a fixed-size list of s: s null slots of a null
 abbrev pub fixed_items_in : ℕ → ArrowType → Slot → List Slot
@@ -72,7 +71,7 @@ FitsForm (mapped sorted) rows = length (all_items rows) ≤ greatest_offset fals
 abbrev pub child_rows : ListForm → ArrowType → List Slot → List Slot
 child_rows small t rows = all_items rows
 child_rows large t rows = all_items rows
-child_rows (fixed_size s) t rows = joined (map (fixed_items_in s t) rows)
+child_rows (fixed_size s) t rows = flat_map (fixed_items_in s t) rows
 child_rows (mapped sorted) t rows = all_items rows
 
 -- rows that fit a type: as many as an array can have, in all its children too. A dense union's offsets have 32 bits ("Dense Union")
