@@ -83,8 +83,7 @@ mutual
   FitsDense-beginning no_fields ids i xs ys h = tt
   FitsDense-beginning (more_fields (field name t nullable) fs) ids i xs ys h =
       let id = id_at ids i in
-      let parts = dense_part-append id xs ys in
-      (
+      let parts = dense_part-append id xs ys in (
         omega (arith, h.0, ap length parts, length-append (dense_part id xs) (dense_part id ys)),
         Fits-beginning t (dense_part id xs) (dense_part id ys) (subst (Fits t) parts h.1),
         FitsDense-beginning fs ids (suc i) xs ys h.2,

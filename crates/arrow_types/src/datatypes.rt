@@ -221,3 +221,6 @@ impl DataType {
         }
     }
 }
+
+#[cfg(test)]
+mod tests;
