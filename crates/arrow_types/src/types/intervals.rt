@@ -30,14 +30,14 @@ impl days_ms {
         days_ms { days, milliseconds }
     }
 
-    /// How many days.
+    /// The number of days.
     pub fn days(self) -> i32
         ensures { result ≡ self.0 }
     {
         self.days
     }
 
-    /// How many milliseconds.
+    /// The number of milliseconds.
     pub fn milliseconds(self) -> i32
         ensures { result ≡ self.1 }
     {
@@ -87,7 +87,7 @@ impl months_days_ns {
         self.months
     }
 
-    /// How many days.
+    /// How many days beside the months.
     pub fn days(self) -> i32
         ensures { result ≡ self.1 }
     {
