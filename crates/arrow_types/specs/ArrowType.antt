@@ -38,6 +38,7 @@ pub data ListForm : Type 0 where
   fixed_size : ℕ → ListForm
   mapped : Bool → ListForm
 
+-- any type. Nested ones have named children, and a dictionary and an extension another type
 mutual
   pub data ArrowType : Type 0 where
     plain : PlainType → ArrowType
@@ -55,10 +56,12 @@ mutual
   pub data ArrowField : Type 0 where
     field : List ℕ → ArrowType → Bool → ArrowField
 
+  -- the fields of a struct or a union, in order
   pub data ArrowFields : Type 0 where
     no_fields : ArrowFields
     more_fields : ArrowField → ArrowFields → ArrowFields
 
+-- the parts of a field
 abbrev pub name_in : ArrowField → List ℕ
 name_in (field name t nullable) = name
 

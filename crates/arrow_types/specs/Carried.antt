@@ -2,6 +2,7 @@
 use Rattle.std.specs.Prelude.{◌≡◌, ◌≢◌, ℕ, ◌≤◌, ◌<◌, ℤ, pos, ◌≤ℤ◌, Option, Some, None, List, length, All, AllPairs}
 use Rattle.arrow_types.specs.ArrowType.{ArrowType, ArrowFields, PlainType, ListForm, plain, list, struct, union, dictionary, extension, field, no_fields, more_fields, float16, float32, float64, fixed_size_binary, fixed_size, mapped, from_fields, logical}
 
+-- no float, and no bytes of a fixed size of 0
 abbrev pub IsCarriedPlain : PlainType → Type 0
 IsCarriedPlain float16 = ⊥
 IsCarriedPlain float32 = ⊥
@@ -20,6 +21,7 @@ IsCarriedForm (fixed_size size) t = 0 < size
 IsCarriedForm (mapped sorted) t = IsPair (logical t)
 IsCarriedForm _ t = Unit {0}
 
+-- one field at least
 abbrev pub HasField : ArrowFields → Type 0
 HasField no_fields = ⊥
 HasField (more_fields f fs) = Unit {0}
@@ -47,6 +49,7 @@ abbrev mutual
   IsCarried (dictionary keys ordered t) = IsCarried t
   IsCarried (extension name metadata t) = IsCarried t
 
+  -- the types of all fields are carried
   pub AreCarried : ArrowFields → Type 0
   AreCarried no_fields = Unit {0}
   AreCarried (more_fields (field name t nullable) fs) = IsCarried t × AreCarried fs

@@ -6,7 +6,7 @@ use Rattle.arrow_types.specs.ArrowType.{ArrowType, ArrowFields, PlainType, ListF
 use Rattle.arrow_types.specs.Greatest.{greatest_offset}
 use Rattle.arrow_types.specs.Slot.{Slot, Slots, Null, Items, Parts, Bytes, Text, Variant, no_slots, more_slots, from_slots, null_slot, id_at}
 
--- an array has fewer than 2 ^ 64 rows
+-- an array has fewer than 2 ^ 64 rows ("Array lengths")
 abbrev pub IsCounted : List Slot → Type 0
 IsCounted rows = length rows < 2 ^ 64
 
@@ -30,6 +30,7 @@ abbrev pub fixed_items_in : ℕ → ArrowType → Slot → List Slot
 fixed_items_in s t (Items ss) = from_slots ss
 fixed_items_in s t _ = replicate s (null_slot t)
 
+-- the i-th slot, and d where there are not so many
 abbrev pub slot_or : Slot → Slots → ℕ → Slot
 slot_or d no_slots i = d
 slot_or d (more_slots s ss) zero = s
@@ -74,7 +75,7 @@ child_rows large t rows = all_items rows
 child_rows (fixed_size s) t rows = flat_map (fixed_items_in s t) rows
 child_rows (mapped sorted) t rows = all_items rows
 
--- rows that fit a type: as many as an array can have, in all its children too. A dense union's offsets have 32 bits ("Dense Union")
+-- rows that fit a type: as many as an array can have, in all its children too
 abbrev mutual
   pub Fits : ArrowType → List Slot → Type 0
   Fits (plain p) rows = IsCounted rows × FitsPlain p rows
@@ -85,15 +86,18 @@ abbrev mutual
   Fits (dictionary keys ordered t) rows = IsCounted rows
   Fits (extension name metadata t) rows = Fits t rows
 
+  -- the columns of a struct fit ("Struct Layout"), from field i on
   pub FitsParts : ArrowFields → ℕ → List Slot → Type 0
   FitsParts no_fields i rows = Unit {0}
   FitsParts (more_fields (field name t nullable) fs) i rows = Fits t (map (part_in i t) rows) × FitsParts fs (suc i) rows
 
+  -- the children of a sparse union fit, each as long as the union ("Sparse Union")
   pub FitsSparse : ArrowFields → Option (List ℤ) → ℕ → List Slot → Type 0
   FitsSparse no_fields ids i rows = Unit {0}
   FitsSparse (more_fields (field name t nullable) fs) ids i rows =
       Fits t (map (sparse_part (id_at ids i) t) rows) × FitsSparse fs ids (suc i) rows
 
+  -- and those of a dense union, each with its own rows alone: at most 2 ^ 31 of one id ("Dense Union")
   pub FitsDense : ArrowFields → Option (List ℤ) → ℕ → List Slot → Type 0
   FitsDense no_fields ids i rows = Unit {0}
   FitsDense (more_fields (field name t nullable) fs) ids i rows =

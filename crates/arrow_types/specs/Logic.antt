@@ -12,6 +12,7 @@ abbrev pub either : Slot → Slot → Slot
 either (Boolean a) (Boolean b) = Boolean (a || b)
 either _ _ = Null
 
+-- true where it is false, and false where it is true; Null of a null
 abbrev pub negated : Slot → Slot
 negated (Boolean a) = Boolean (not a)
 negated _ = Null

@@ -8,6 +8,7 @@ use Rattle.std.proofs.lemmas.Bool.Decides.{Decides-eqb, Decides-int_eq, Decides-
 use Rattle.arrow_types.specs.Slot.{Boolean, Number}
 use Rattle.arrow_types.specs.Relation.{related, eq, holds}
 
+-- the relation of equality, by how two numbers compare
 holds-eq : (o : Ordering) → holds eq o ≡ is_eq o
 holds-eq Less = refl
 holds-eq Equal = refl

@@ -18,6 +18,7 @@ abbrev pub at_most : Option ℕ → List ℕ → List ℕ
 at_most None units = units
 at_most (Some k) units = take k units
 
+-- the units from the place on, at most so many
 abbrev pub cut : ℤ → Option ℕ → List ℕ → List ℕ
 cut start len units = at_most len (drop (part_begin start (length units)) units)
 

@@ -9,6 +9,7 @@ use Rattle.arrow_types.specs.declared.types.PrimitiveType.{PrimitiveType}
 use Rattle.arrow_types.specs.declared.types.PrimitiveType.TheVariants as primitive
 use Rattle.arrow_types.specs.ArrowType.{ArrowType, PlainType, ListForm, plain, list, struct, union, dictionary, extension, null, boolean, integer, float16, float32, float64, timestamp, date32, date64, time32, time64, duration, interval, binary, large_binary, utf8, large_utf8, fixed_size_binary, decimal, decimal256, small, large, fixed_size, mapped}
 
+-- an integer lies as it is
 abbrev pub integer_element : IntegerType → PrimitiveType
 integer_element key.Int8 = primitive.Int8
 integer_element key.Int16 = primitive.Int16
@@ -19,11 +20,13 @@ integer_element key.UInt16 = primitive.UInt16
 integer_element key.UInt32 = primitive.UInt32
 integer_element key.UInt64 = primitive.UInt64
 
+-- months in 32 bits, days and milliseconds, or months, days and nanoseconds
 abbrev pub interval_element : IntervalUnit → PrimitiveType
 interval_element interval_unit.YearMonth = primitive.Int32
 interval_element interval_unit.DayTime = primitive.DaysMs
 interval_element interval_unit.MonthDayNano = primitive.MonthDayNano
 
+-- dates, times and decimals lie as integers of their width
 abbrev pub plain_layout : PlainType → PhysicalType
 plain_layout null = physical.Null
 plain_layout boolean = physical.Boolean
@@ -46,6 +49,7 @@ plain_layout (fixed_size_binary size) = physical.FixedSizeBinary
 plain_layout (decimal precision scale) = physical.Primitive primitive.Int128
 plain_layout (decimal256 precision scale) = physical.Primitive primitive.Int256
 
+-- the lists, one layout a form
 abbrev pub list_layout : ListForm → PhysicalType
 list_layout small = physical.List
 list_layout large = physical.LargeList

@@ -20,6 +20,7 @@ abbrev pub named_sides : List (ℕ × ℕ × ℕ) → List (ℕ × ℕ)
 named_sides [] = []
 named_sides (r ∷ rs) = map (λ row. (r.0, row)) (rows_from r.1 r.2) ++ named_sides rs
 
+-- no list of such ranges that names the same rows of the same sides has fewer members
 abbrev pub IsShortestOfSides : List (ℕ × ℕ × ℕ) → Type 0
 IsShortestOfSides rs = (others : List (ℕ × ℕ × ℕ)) → named_sides others ≡ named_sides rs → length rs ≤ length others
 

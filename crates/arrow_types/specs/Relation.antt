@@ -8,6 +8,7 @@ use Rattle.arrow_types.specs.SameTree.{same_by}
 use Rattle.arrow_types.specs.StoredSlot.{slot_code}
 use Rattle.arrow_types.specs.Slot.{Slot, Null, Boolean, Number, DayTime, MonthDayNano, Bytes, Text, Entry}
 
+-- the six relations of the comparison kernels
 pub data Relation : Type 0 where
   eq : Relation
   neq : Relation
@@ -68,6 +69,7 @@ through s = s
 abbrev pub same : Slot → Slot → Bool
 same = same_by slot_code
 
+-- whether a slot is Null
 abbrev pub is_null : Slot → Bool
 is_null Null = true
 is_null _ = false

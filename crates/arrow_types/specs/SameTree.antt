@@ -6,6 +6,7 @@ use Rattle.std.proofs.Common.{sym, ap}
 use Rattle.std.proofs.lemmas.Bool.Decides.{Decides-eqb, Decides-and, Decides-like, same_from_decides}
 use base.Stored.{Coded, Gv, gnil, gnum, gcons}
 
+-- node by node
 abbrev same_tree : Gv → Gv → Bool
 same_tree gnil gnil = true
 same_tree (gnum m) (gnum n) = nat_eq m n
@@ -16,6 +17,7 @@ same_tree _ _ = false
 unfoldable pub same_by : {A : Type 0} → Coded A → A → A → Bool
 same_by c x y = same_tree (c.code x) (c.code y)
 
+-- it tells whether they are one
 same_tree-decides : (g h : Gv) → Decides (same_tree g h) (g ≡ h)
 same_tree-decides gnil gnil = (λ e. refl, λ e. refl)
 same_tree-decides gnil (gnum n) = (λ e. cc, λ e. cc)
@@ -32,6 +34,7 @@ pub same_by-decides : {A : Type 0} → (c : Coded A) (x y : A) → Decides (same
 unfolding same_by
 same_by-decides c x y = Decides-like (same_tree (c.code x) (c.code y)) (c.inj x y) (λ e. ap c.code e) (same_tree-decides (c.code x) (c.code y))
 
+-- so it is an equivalence, as `Eq` asks
 pub same_by-equivalence : {A : Type 0} → (c : Coded A) → IsEquivalence (same_by c)
 same_by-equivalence c = record {
   refl = λ x. (same_by-decides c x x).1 refl;

@@ -6,6 +6,7 @@ mutual
   pub data Slot : Type 0 where
     -- a row that the validity bitmap marks as null ("Validity bitmaps"), or a row of the null type ("Null Layout")
     Null : Slot
+    -- a truth value
     Boolean : Bool → Slot
     -- a number of any width, signed or not; a decimal by its unscaled number
     Number : ℤ → Slot
@@ -13,7 +14,9 @@ mutual
     DayTime : ℤ → ℤ → Slot
     -- an interval of months, days and nanoseconds
     MonthDayNano : ℤ → ℤ → ℤ → Slot
+    -- a row of bytes, of any length or of a fixed size
     Bytes : List ℕ → Slot
+    -- a row of text, by its bytes
     Text : List ℕ → Slot
     -- a row of a list, a fixed-size list or a map
     Items : Slots → Slot
@@ -24,6 +27,7 @@ mutual
     -- a row of a union: type id and value
     Variant : ℤ → Slot → Slot
 
+  -- the slots inside a row
   pub data Slots : Type 0 where
     no_slots : Slots
     more_slots : Slot → Slots → Slots
@@ -45,18 +49,11 @@ id_at (Some (id ∷ ids)) zero = id
 id_at (Some (id ∷ ids)) (suc i) = id_at (Some ids) i
 
 -- what stands where no row is chosen: Null, and in a union, which has no validity ("Union Layout"), its first field's null slot
-abbrev mutual
-  pub null_slot : ArrowType → Slot
-  null_slot (plain p) = Null
-  null_slot (list form f) = Null
-  null_slot (struct fs) = Null
-  null_slot (union mode ids fs) = Variant (id_at ids 0) (null_slot_of_first fs)
-  null_slot (dictionary keys ordered t) = Null
-  null_slot (extension name metadata t) = null_slot t
-
-  pub null_slot_of_first : ArrowFields → Slot
-  null_slot_of_first no_fields = Null
-  null_slot_of_first (more_fields f fs) = null_slot_of_field f
-
-  pub null_slot_of_field : ArrowField → Slot
-  null_slot_of_field (field name t nullable) = null_slot t
+abbrev pub null_slot : ArrowType → Slot
+null_slot (plain p) = Null
+null_slot (list form f) = Null
+null_slot (struct fs) = Null
+null_slot (union mode ids no_fields) = Variant (id_at ids 0) Null
+null_slot (union mode ids (more_fields (field name t nullable) fs)) = Variant (id_at ids 0) (null_slot t)
+null_slot (dictionary keys ordered t) = Null
+null_slot (extension name metadata t) = null_slot t

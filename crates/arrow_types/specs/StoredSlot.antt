@@ -60,6 +60,7 @@ mutual
   load_slots-store_slots no_slots = refl
   load_slots-store_slots (more_slots s ss) = λ i. more_slots (load_slot-store_slot s i) (load_slots-store_slots ss i)
 
+-- the code that the logic asks for
 abbrev pub slot_code : Coded Slot
 slot_code =
     record { code = store_slot; inj = λ x y p. sym (load_slot-store_slot x) ∙ (ap load_slot p ∙ load_slot-store_slot y) }

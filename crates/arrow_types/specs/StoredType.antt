@@ -140,6 +140,7 @@ mutual
   load_fields-store_fields no_fields = refl
   load_fields-store_fields (more_fields f fs) = λ i. more_fields (load_field-store_field f i) (load_fields-store_fields fs i)
 
+-- the codes that the logic asks for, of types and of fields
 abbrev pub type_code : Coded ArrowType
 type_code =
     record { code = store_type; inj = λ x y p. sym (load_type-store_type x) ∙ (ap load_type p ∙ load_type-store_type y) }

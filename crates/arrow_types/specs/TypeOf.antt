@@ -53,9 +53,11 @@ type_step (DataType-F.Extension name inner metadata) = extension (string_bytes n
 abbrev pub field_step : Field-F ArrowType ArrowField → ArrowField
 field_step f = field (string_bytes f.name) f.data_type f.is_nullable
 
+-- the type that a `DataType` stands for: the same tree, without capacities and pointers
 abbrev pub type_of : DataType → ArrowType
 type_of = fold-DataType ArrowType ArrowField type_step field_step
 
+-- the field that a `Field` stands for, and fields of several
 abbrev pub field_of : Field → ArrowField
 field_of = fold-Field ArrowType ArrowField type_step field_step
 

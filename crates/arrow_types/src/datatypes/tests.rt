@@ -69,105 +69,104 @@ fn fields(rt: HostRuntime) {
     assert_eq!(rt; outcome, Ok(()));
 }
 
-/// The types that take no memory, with their physical types.
-fn flat_types() -> [(DataType, PhysicalType); 27] {
-    let int32 = PhysicalType::Primitive(PrimitiveType::Int32);
-    let int64 = PhysicalType::Primitive(PrimitiveType::Int64);
-    let days = PhysicalType::Primitive(PrimitiveType::DaysMs);
-    let months = PhysicalType::Primitive(PrimitiveType::MonthDayNano);
-    [
-        (DataType::Null, PhysicalType::Null),
-        (DataType::Boolean, PhysicalType::Boolean),
-        (DataType::Int8, PhysicalType::Primitive(PrimitiveType::Int8)),
-        (
-            DataType::Int16,
-            PhysicalType::Primitive(PrimitiveType::Int16),
-        ),
-        (DataType::Int32, int32),
-        (DataType::Int64, int64),
-        (
-            DataType::UInt8,
-            PhysicalType::Primitive(PrimitiveType::UInt8),
-        ),
-        (
-            DataType::UInt16,
-            PhysicalType::Primitive(PrimitiveType::UInt16),
-        ),
-        (
-            DataType::UInt32,
-            PhysicalType::Primitive(PrimitiveType::UInt32),
-        ),
-        (
-            DataType::UInt64,
-            PhysicalType::Primitive(PrimitiveType::UInt64),
-        ),
-        (DataType::Timestamp(TimeUnit::Second, None), int64),
-        (DataType::Date32, int32),
-        (DataType::Date64, int64),
-        (DataType::Time32(TimeUnit::Millisecond), int32),
-        (DataType::Time64(TimeUnit::Microsecond), int64),
-        (DataType::Duration(TimeUnit::Nanosecond), int64),
-        (DataType::Interval(IntervalUnit::YearMonth), int32),
-        (DataType::Interval(IntervalUnit::DayTime), days),
-        (DataType::Interval(IntervalUnit::MonthDayNano), months),
-        (DataType::Binary, PhysicalType::Binary),
-        (DataType::FixedSizeBinary(1), PhysicalType::FixedSizeBinary),
-        (DataType::LargeBinary, PhysicalType::LargeBinary),
-        (DataType::Utf8, PhysicalType::Utf8),
-        (DataType::LargeUtf8, PhysicalType::LargeUtf8),
-        (
-            DataType::Decimal(38, 2),
-            PhysicalType::Primitive(PrimitiveType::Int128),
-        ),
-        (
-            DataType::Decimal256(76, 2),
-            PhysicalType::Primitive(PrimitiveType::Int256),
-        ),
-        (DataType::FixedSizeBinary(16), PhysicalType::FixedSizeBinary),
-    ]
+/// Data types, each with its physical type.
+type Table = Vec<(DataType, PhysicalType)>;
+
+fn add(table: &mut Table, data_type: DataType, physical_type: PhysicalType) -> Result<(), Error> {
+    Ok(table.push((data_type, physical_type))?)
 }
 
-/// The types that are made of others, with their physical types.
-fn nested_types(alloc: Global) -> Result<Vec<(DataType, PhysicalType)>, Error> {
-    let mut types = Vec::new(alloc);
-    types.push((
-        DataType::List(item(alloc, DataType::Int32)?),
-        PhysicalType::List,
-    ))?;
-    types.push((
-        DataType::LargeList(item(alloc, DataType::Int32)?),
-        PhysicalType::LargeList,
-    ))?;
-    types.push((
-        DataType::FixedSizeList(item(alloc, DataType::Int32)?, 1),
-        PhysicalType::FixedSizeList,
-    ))?;
-    types.push((DataType::Struct(numbers(alloc, 1)?), PhysicalType::Struct))?;
-    types.push((
-        DataType::Union(numbers(alloc, 1)?, None, UnionMode::Dense),
-        PhysicalType::Union,
-    ))?;
+fn add_primitive(
+    table: &mut Table,
+    data_type: DataType,
+    element: PrimitiveType,
+) -> Result<(), Error> {
+    add(table, data_type, PhysicalType::Primitive(element))
+}
+
+fn add_integers(table: &mut Table) -> Result<(), Error> {
+    add_primitive(table, DataType::Int8, PrimitiveType::Int8)?;
+    add_primitive(table, DataType::Int16, PrimitiveType::Int16)?;
+    add_primitive(table, DataType::Int32, PrimitiveType::Int32)?;
+    add_primitive(table, DataType::Int64, PrimitiveType::Int64)?;
+    add_primitive(table, DataType::UInt8, PrimitiveType::UInt8)?;
+    add_primitive(table, DataType::UInt16, PrimitiveType::UInt16)?;
+    add_primitive(table, DataType::UInt32, PrimitiveType::UInt32)?;
+    add_primitive(table, DataType::UInt64, PrimitiveType::UInt64)?;
+    add_primitive(table, DataType::Decimal(38, 2), PrimitiveType::Int128)?;
+    add_primitive(table, DataType::Decimal256(76, 2), PrimitiveType::Int256)
+}
+
+fn add_times(table: &mut Table) -> Result<(), Error> {
+    let days = DataType::Interval(IntervalUnit::DayTime);
+    let months = DataType::Interval(IntervalUnit::MonthDayNano);
+    let years = DataType::Interval(IntervalUnit::YearMonth);
+    let timestamp = DataType::Timestamp(TimeUnit::Second, None);
+    add_primitive(table, years, PrimitiveType::Int32)?;
+    add_primitive(table, days, PrimitiveType::DaysMs)?;
+    add_primitive(table, months, PrimitiveType::MonthDayNano)?;
+    add_primitive(table, timestamp, PrimitiveType::Int64)?;
+    add_primitive(table, DataType::Date32, PrimitiveType::Int32)?;
+    add_primitive(table, DataType::Date64, PrimitiveType::Int64)?;
+    let duration = DataType::Duration(TimeUnit::Nanosecond);
+    add_primitive(table, duration, PrimitiveType::Int64)?;
+    let time = DataType::Time32(TimeUnit::Millisecond);
+    add_primitive(table, time, PrimitiveType::Int32)?;
+    let time = DataType::Time64(TimeUnit::Microsecond);
+    add_primitive(table, time, PrimitiveType::Int64)
+}
+
+fn add_flat(table: &mut Table) -> Result<(), Error> {
+    add(table, DataType::Null, PhysicalType::Null)?;
+    add(table, DataType::Boolean, PhysicalType::Boolean)?;
+    add(table, DataType::Binary, PhysicalType::Binary)?;
+    add(
+        table,
+        DataType::FixedSizeBinary(1),
+        PhysicalType::FixedSizeBinary,
+    )?;
+    add(table, DataType::LargeBinary, PhysicalType::LargeBinary)?;
+    add(table, DataType::Utf8, PhysicalType::Utf8)?;
+    add(table, DataType::LargeUtf8, PhysicalType::LargeUtf8)
+}
+
+fn add_lists(table: &mut Table, alloc: Global) -> Result<(), Error> {
+    let list = DataType::List(item(alloc, DataType::Int32)?);
+    add(table, list, PhysicalType::List)?;
+    let large = DataType::LargeList(item(alloc, DataType::Int32)?);
+    add(table, large, PhysicalType::LargeList)?;
+    let fixed = DataType::FixedSizeList(item(alloc, DataType::Int32)?, 1);
+    add(table, fixed, PhysicalType::FixedSizeList)?;
     let entries = DataType::Struct(pair(alloc, DataType::Int32)?);
-    types.push((
-        DataType::Map(item(alloc, entries)?, true),
-        PhysicalType::Map,
-    ))?;
-    types.push((
-        DataType::Dictionary(IntegerType::UInt16, boxed(alloc, DataType::Utf8)?, false),
+    let map = DataType::Map(item(alloc, entries)?, true);
+    add(table, map, PhysicalType::Map)
+}
+
+fn add_others(table: &mut Table, alloc: Global) -> Result<(), Error> {
+    let record = DataType::Struct(numbers(alloc, 1)?);
+    add(table, record, PhysicalType::Struct)?;
+    let dense = DataType::Union(numbers(alloc, 1)?, None, UnionMode::Dense);
+    add(table, dense, PhysicalType::Union)?;
+    let texts = boxed(alloc, DataType::Utf8)?;
+    let dictionary = DataType::Dictionary(IntegerType::UInt16, texts, false);
+    add(
+        table,
+        dictionary,
         PhysicalType::Dictionary(IntegerType::UInt16),
-    ))?;
+    )?;
     let inner = extension(alloc, "inner", DataType::Date32)?;
-    types.push((
-        extension(alloc, "outer", inner)?,
-        PhysicalType::Primitive(PrimitiveType::Int32),
-    ))?;
-    Ok(types)
+    let outer = extension(alloc, "outer", inner)?;
+    add_primitive(table, outer, PrimitiveType::Int32)
 }
 
 fn check_types(rt: &(impl Abort + Alloc<A = Global>)) -> Result<(), Error> {
-    let flat = flat_types();
-    let nested = nested_types(rt.alloc())?;
-    for (data_type, physical_type) in flat.iter().chain(nested.iter()) {
+    let mut table = Vec::new(rt.alloc());
+    add_integers(&mut table)?;
+    add_times(&mut table)?;
+    add_flat(&mut table)?;
+    add_lists(&mut table, rt.alloc())?;
+    add_others(&mut table, rt.alloc())?;
+    for (data_type, physical_type) in &table {
         assert_eq!(rt;
             data_type.to_physical_type(),
             *physical_type,
@@ -186,65 +185,96 @@ fn carried_types_and_their_copies(rt: HostRuntime) {
     assert_eq!(rt; outcome, Ok(()));
 }
 
-/// Types that are not carried, each for one reason.
-fn uncarried_types(alloc: Global) -> Result<Vec<DataType>, Error> {
-    let mut types = Vec::new(alloc);
-    // a float, at the top or in any part
-    types.push(DataType::Float16)?;
-    types.push(DataType::Float32)?;
-    types.push(DataType::Float64)?;
-    types.push(DataType::List(item(alloc, DataType::Float32)?))?;
-    types.push(DataType::LargeList(item(alloc, DataType::Float32)?))?;
-    types.push(DataType::FixedSizeList(item(alloc, DataType::Float32)?, 1))?;
-    types.push(DataType::Struct(pair(alloc, DataType::Float16)?))?;
-    types.push(DataType::Union(pair(alloc, DataType::Float16)?, None, UnionMode::Dense))?;
+fn push(types: &mut Vec<DataType>, data_type: DataType) -> Result<(), Error> {
+    Ok(types.push(data_type)?)
+}
+
+/// Types with a float, at the top or in any part.
+fn push_floats(types: &mut Vec<DataType>, alloc: Global) -> Result<(), Error> {
+    push(types, DataType::Float16)?;
+    push(types, DataType::Float32)?;
+    push(types, DataType::Float64)?;
+    push(types, DataType::List(item(alloc, DataType::Float32)?))?;
+    push(types, DataType::LargeList(item(alloc, DataType::Float32)?))?;
+    push(
+        types,
+        DataType::FixedSizeList(item(alloc, DataType::Float32)?, 1),
+    )?;
+    push(types, DataType::Struct(pair(alloc, DataType::Float16)?))?;
+    push(types, extension(alloc, "x", DataType::Float64)?)
+}
+
+fn push_nested_floats(types: &mut Vec<DataType>, alloc: Global) -> Result<(), Error> {
+    let fields = pair(alloc, DataType::Float16)?;
+    push(types, DataType::Union(fields, None, UnionMode::Dense))?;
     let entries = DataType::Struct(pair(alloc, DataType::Float64)?);
-    types.push(DataType::Map(item(alloc, entries)?, false))?;
-    types.push(DataType::Dictionary(IntegerType::Int8, boxed(alloc, DataType::Float64)?, false))?;
-    types.push(extension(alloc, "x", DataType::Float64)?)?;
+    push(types, DataType::Map(item(alloc, entries)?, false))?;
+    let values = boxed(alloc, DataType::Float64)?;
+    push(
+        types,
+        DataType::Dictionary(IntegerType::Int8, values, false),
+    )?;
     let deep = DataType::Struct(pair(alloc, DataType::Float32)?);
-    types.push(DataType::List(item(alloc, deep)?))?;
-    // no field, and sizes of 0
-    types.push(DataType::Struct(Vec::new(alloc)))?;
-    types.push(DataType::Union(Vec::new(alloc), None, UnionMode::Sparse))?;
-    types.push(DataType::FixedSizeBinary(0))?;
-    types.push(DataType::FixedSizeList(item(alloc, DataType::Int32)?, 0))?;
-    // maps of what is no pair
-    types.push(DataType::Map(item(alloc, DataType::Int32)?, false))?;
+    push(types, DataType::List(item(alloc, deep)?))
+}
+
+/// Types without a field, sizes of 0, and maps of what is no pair.
+fn push_malformed(types: &mut Vec<DataType>, alloc: Global) -> Result<(), Error> {
+    push(types, DataType::Struct(Vec::new(alloc)))?;
+    push(
+        types,
+        DataType::Union(Vec::new(alloc), None, UnionMode::Sparse),
+    )?;
+    push(types, DataType::FixedSizeBinary(0))?;
+    push(
+        types,
+        DataType::FixedSizeList(item(alloc, DataType::Int32)?, 0),
+    )?;
+    push(types, DataType::Map(item(alloc, DataType::Int32)?, false))?;
     let one = DataType::Struct(numbers(alloc, 1)?);
-    types.push(DataType::Map(item(alloc, one)?, false))?;
+    push(types, DataType::Map(item(alloc, one)?, false))?;
     let three = DataType::Struct(numbers(alloc, 3)?);
-    types.push(DataType::Map(item(alloc, three)?, false))?;
-    // type ids: too few, too many, twice the same, below 0, above 127; too many fields
-    types.push(union_of(alloc, 2, &[5])?)?;
-    types.push(union_of(alloc, 2, &[5, 6, 7])?)?;
-    types.push(union_of(alloc, 2, &[5, 5])?)?;
-    types.push(union_of(alloc, 3, &[5, 7, 5])?)?;
-    types.push(union_of(alloc, 2, &[-1, 0])?)?;
-    types.push(union_of(alloc, 2, &[127, 128])?)?;
-    types.push(DataType::Union(numbers(alloc, 129)?, None, UnionMode::Dense))?;
-    Ok(types)
+    push(types, DataType::Map(item(alloc, three)?, false))
+}
+
+/// Type ids that are too few, too many, the same twice, below 0 or above 127, and too many fields
+/// without any.
+fn push_bad_ids(types: &mut Vec<DataType>, alloc: Global) -> Result<(), Error> {
+    push(types, union_of(alloc, 2, &[5])?)?;
+    push(types, union_of(alloc, 2, &[5, 6, 7])?)?;
+    push(types, union_of(alloc, 2, &[5, 5])?)?;
+    push(types, union_of(alloc, 3, &[5, 7, 5])?)?;
+    push(types, union_of(alloc, 2, &[-1, 0])?)?;
+    push(types, union_of(alloc, 2, &[127, 128])?)?;
+    let fields = numbers(alloc, 129)?;
+    push(types, DataType::Union(fields, None, UnionMode::Dense))
 }
 
 /// Types that the rule takes just so.
-fn edge_types(alloc: Global) -> Result<Vec<DataType>, Error> {
-    let mut types = Vec::new(alloc);
-    types.push(union_of(alloc, 2, &[5, 7])?)?;
-    types.push(union_of(alloc, 2, &[127, 0])?)?;
-    types.push(DataType::Union(numbers(alloc, 128)?, None, UnionMode::Sparse))?;
+fn push_edges(types: &mut Vec<DataType>, alloc: Global) -> Result<(), Error> {
+    push(types, union_of(alloc, 2, &[5, 7])?)?;
+    push(types, union_of(alloc, 2, &[127, 0])?)?;
+    let fields = numbers(alloc, 128)?;
+    push(types, DataType::Union(fields, None, UnionMode::Sparse))?;
     let entries = DataType::Struct(pair(alloc, DataType::Int32)?);
     let named = extension(alloc, "entries", entries)?;
-    types.push(DataType::Map(item(alloc, named)?, false))?;
-    Ok(types)
+    push(types, DataType::Map(item(alloc, named)?, false))
 }
 
 fn check_carried(rt: &(impl Abort + Alloc<A = Global>)) -> Result<(), Error> {
-    for data_type in &uncarried_types(rt.alloc())? {
+    let mut uncarried = Vec::new(rt.alloc());
+    push_floats(&mut uncarried, rt.alloc())?;
+    push_nested_floats(&mut uncarried, rt.alloc())?;
+    push_malformed(&mut uncarried, rt.alloc())?;
+    push_bad_ids(&mut uncarried, rt.alloc())?;
+    for data_type in &uncarried {
         assert!(rt; !data_type.is_carried(), "{data_type:?}");
         let copy = data_type.clone()?;
         assert!(rt; copy == *data_type, "{data_type:?}");
     }
-    for data_type in &edge_types(rt.alloc())? {
+    let mut edges = Vec::new(rt.alloc());
+    push_edges(&mut edges, rt.alloc())?;
+    for data_type in &edges {
         assert!(rt; data_type.is_carried(), "{data_type:?}");
     }
     Ok(())
@@ -275,56 +305,93 @@ fn logical_types(rt: HostRuntime) {
     assert_eq!(rt; outcome, Ok(()));
 }
 
+fn push_flat(types: &mut Vec<DataType>, alloc: Global) -> Result<(), Error> {
+    push(types, DataType::Timestamp(TimeUnit::Second, None))?;
+    push(types, DataType::Timestamp(TimeUnit::Millisecond, None))?;
+    let utc = text(alloc, "UTC")?;
+    push(types, DataType::Timestamp(TimeUnit::Second, Some(utc)))?;
+    let zone = text(alloc, "+02:00")?;
+    push(types, DataType::Timestamp(TimeUnit::Second, Some(zone)))?;
+    push(types, DataType::Time32(TimeUnit::Second))?;
+    push(types, DataType::Time64(TimeUnit::Second))?;
+    push(types, DataType::Duration(TimeUnit::Second))?;
+    push(types, DataType::Interval(IntervalUnit::DayTime))?;
+    push(types, DataType::Interval(IntervalUnit::YearMonth))?;
+    push(types, DataType::FixedSizeBinary(2))?;
+    push(types, DataType::FixedSizeBinary(3))?;
+    push(types, DataType::Decimal(10, 2))?;
+    push(types, DataType::Decimal(10, 3))?;
+    push(types, DataType::Decimal(11, 2))?;
+    push(types, DataType::Decimal256(10, 2))
+}
+
+/// Lists that differ in their form, a size, and the name, the type or the nullability of a field.
+fn push_lists(types: &mut Vec<DataType>, alloc: Global) -> Result<(), Error> {
+    push(types, DataType::List(item(alloc, DataType::Int32)?))?;
+    push(types, DataType::LargeList(item(alloc, DataType::Int32)?))?;
+    push(
+        types,
+        DataType::FixedSizeList(item(alloc, DataType::Int32)?, 2),
+    )?;
+    push(
+        types,
+        DataType::FixedSizeList(item(alloc, DataType::Int32)?, 3),
+    )?;
+    let named = child(alloc, "element", DataType::Int32)?;
+    push(types, DataType::List(Box::new(alloc, named)?))?;
+    push(types, DataType::List(item(alloc, DataType::Int64)?))?;
+    let required = Field::new(text(alloc, "item")?, DataType::Int32, false);
+    push(types, DataType::List(Box::new(alloc, required)?))
+}
+
+/// Structs and unions that differ in the number of fields, the mode and the ids.
+fn push_structs(types: &mut Vec<DataType>, alloc: Global) -> Result<(), Error> {
+    push(types, DataType::Struct(numbers(alloc, 2)?))?;
+    push(types, DataType::Struct(numbers(alloc, 3)?))?;
+    push(types, DataType::Struct(pair(alloc, DataType::Int32)?))?;
+    push(types, DataType::Struct(pair(alloc, DataType::Int64)?))?;
+    push(
+        types,
+        DataType::Union(numbers(alloc, 2)?, None, UnionMode::Sparse),
+    )?;
+    push(
+        types,
+        DataType::Union(numbers(alloc, 2)?, None, UnionMode::Dense),
+    )?;
+    push(types, union_of(alloc, 2, &[0, 1])?)?;
+    push(types, union_of(alloc, 2, &[5, 7])?)
+}
+
+/// Maps and dictionaries that differ in a flag or the type of the keys.
+fn push_flags(types: &mut Vec<DataType>, alloc: Global) -> Result<(), Error> {
+    for is_set in [false, true] {
+        let entries = DataType::Struct(pair(alloc, DataType::Int32)?);
+        push(types, DataType::Map(item(alloc, entries)?, is_set))?;
+        for keys in [IntegerType::Int8, IntegerType::UInt8] {
+            let values = boxed(alloc, DataType::Utf8)?;
+            push(types, DataType::Dictionary(keys, values, is_set))?;
+        }
+    }
+    Ok(())
+}
+
+/// Extensions that differ in the name or the metadata.
+fn push_extensions(types: &mut Vec<DataType>, alloc: Global) -> Result<(), Error> {
+    push(types, extension(alloc, "a", DataType::Utf8)?)?;
+    push(types, extension(alloc, "b", DataType::Utf8)?)?;
+    let name = text(alloc, "a")?;
+    let inner = boxed(alloc, DataType::Utf8)?;
+    push(types, DataType::Extension(name, inner, None))
+}
+
 /// Types that differ from one another, many of them in one part alone.
 fn different_types(alloc: Global) -> Result<Vec<DataType>, Error> {
     let mut types = Vec::new(alloc);
-    types.push(DataType::Timestamp(TimeUnit::Second, None))?;
-    types.push(DataType::Timestamp(TimeUnit::Millisecond, None))?;
-    let utc = text(alloc, "UTC")?;
-    types.push(DataType::Timestamp(TimeUnit::Second, Some(utc)))?;
-    let zone = text(alloc, "+02:00")?;
-    types.push(DataType::Timestamp(TimeUnit::Second, Some(zone)))?;
-    types.push(DataType::Time32(TimeUnit::Second))?;
-    types.push(DataType::Time64(TimeUnit::Second))?;
-    types.push(DataType::Duration(TimeUnit::Second))?;
-    types.push(DataType::Interval(IntervalUnit::DayTime))?;
-    types.push(DataType::Interval(IntervalUnit::YearMonth))?;
-    types.push(DataType::FixedSizeBinary(2))?;
-    types.push(DataType::FixedSizeBinary(3))?;
-    types.push(DataType::Decimal(10, 2))?;
-    types.push(DataType::Decimal(10, 3))?;
-    types.push(DataType::Decimal(11, 2))?;
-    types.push(DataType::Decimal256(10, 2))?;
-    types.push(DataType::List(item(alloc, DataType::Int32)?))?;
-    types.push(DataType::LargeList(item(alloc, DataType::Int32)?))?;
-    types.push(DataType::FixedSizeList(item(alloc, DataType::Int32)?, 2))?;
-    types.push(DataType::FixedSizeList(item(alloc, DataType::Int32)?, 3))?;
-    // a nested name, a nested type, and whether nulls are allowed there
-    let named = child(alloc, "element", DataType::Int32)?;
-    types.push(DataType::List(Box::new(alloc, named)?))?;
-    types.push(DataType::List(item(alloc, DataType::Int64)?))?;
-    let required = Field::new(text(alloc, "item")?, DataType::Int32, false);
-    types.push(DataType::List(Box::new(alloc, required)?))?;
-    types.push(DataType::Struct(numbers(alloc, 2)?))?;
-    types.push(DataType::Struct(numbers(alloc, 3)?))?;
-    // modes and id lists
-    types.push(DataType::Union(numbers(alloc, 2)?, None, UnionMode::Sparse))?;
-    types.push(DataType::Union(numbers(alloc, 2)?, None, UnionMode::Dense))?;
-    types.push(union_of(alloc, 2, &[0, 1])?)?;
-    types.push(union_of(alloc, 2, &[5, 7])?)?;
-    // flags
-    let entries = DataType::Struct(pair(alloc, DataType::Int32)?);
-    let same = entries.clone()?;
-    types.push(DataType::Map(item(alloc, entries)?, false))?;
-    types.push(DataType::Map(item(alloc, same)?, true))?;
-    for keys in [IntegerType::Int8, IntegerType::UInt8] {
-        types.push(DataType::Dictionary(keys, boxed(alloc, DataType::Utf8)?, false))?;
-        types.push(DataType::Dictionary(keys, boxed(alloc, DataType::Utf8)?, true))?;
-    }
-    // names and metadata
-    types.push(extension(alloc, "a", DataType::Utf8)?)?;
-    types.push(extension(alloc, "b", DataType::Utf8)?)?;
-    types.push(DataType::Extension(text(alloc, "a")?, boxed(alloc, DataType::Utf8)?, None))?;
+    push_flat(&mut types, alloc)?;
+    push_lists(&mut types, alloc)?;
+    push_structs(&mut types, alloc)?;
+    push_flags(&mut types, alloc)?;
+    push_extensions(&mut types, alloc)?;
     Ok(types)
 }
 
