@@ -1,12 +1,13 @@
 //! Bitmaps: shared, packed lists of bits.
 
-ghost use Rattle.std.specs.Prelude.{◌≡◌, ◌+◌, ◌*◌, ◌<◌, ◌≤◌, ◌↔◌, [], length, not, count_by, slice_get, IsTrue, IfOk, IsOkUnless};
+ghost use Rattle.std.specs.Prelude.{◌≡◌, ◌+◌, ◌*◌, ◌<◌, ◌≤◌, ◌↔◌, [], length, map, replicate, false, not, count_by, slice_get, IsTrue, IfOk, IsOkUnless};
 ghost use Rattle.std.specs.Bool.{beq};
 ghost use Rattle.std.specs.Cmp.{partial_equiv_from_equiv, bool_eq_equiv};
 ghost use Rattle.std.specs.Cmp.Lexicographic.{pointwise, lists_equiv};
 ghost use Rattle.arrow_types.specs.declared.error.Error.{Error};
 ghost use Rattle.arrow_memory.specs.Sliced.{sliced};
-ghost use Rattle.arrow_memory.specs.Words.{word_of};
+ghost use Rattle.arrow_memory.specs.Bits.{both_bits, either_bits};
+ghost use Rattle.arrow_memory.specs.Words.{bits_in, word_of};
 
 use crate::words::{WORD_BITS, count_ones, pack, word_from};
 use arrow_types::error::Error;
@@ -48,10 +49,31 @@ impl Bitmap {
         for chunk in bits.chunks(WORD_BITS) {
             words.push(pack(chunk))?;
         }
+        Bitmap::from_words(alloc, words, bits.len())
+    }
+
+    /// So many bits that are not set.
+    ///
+    /// # Errors
+    /// `OutOfMemory` where the memory of a bit each, or that of one shared owner, is refused.
+    pub fn new_zeroed(alloc: Global, len: usize) -> Result<Bitmap, Error>
+        ensures ok { IfOk result (λ bitmap. bitmap ≡ replicate len false) }
+        ensures err { IsOkUnless result Error.OutOfMemory }
+    {
+        let words = vec![in alloc; 0; len.div_ceil(WORD_BITS)]?;
+        Bitmap::from_words(alloc, words, len)
+    }
+
+    /// The first bits of some words.
+    fn from_words(alloc: Global, words: Vec<u64>, len: usize) -> Result<Bitmap, Error>
+        requires { len ≤ 64 * length words.items }
+        ensures ok { IfOk result (λ bitmap. bitmap ≡ bits_in words.items 0 len) }
+        ensures err { IsOkUnless result Error.OutOfMemory }
+    {
         Ok(Bitmap {
             words: Rc::new(alloc, words)?,
             offset: 0,
-            len: bits.len(),
+            len,
         })
     }
 
@@ -102,6 +124,56 @@ impl Bitmap {
         let mut part = self;
         part.slice(offset, len);
         part
+    }
+
+    /// The bits that are set in both, word by word.
+    ///
+    /// # Errors
+    /// `OutOfMemory` as of [`Bitmap::new_zeroed`].
+    pub fn and(&self, alloc: Global, other: &Bitmap) -> Result<Bitmap, Error>
+        requires { length self.now ≡ length other.now }
+        ensures ok { IfOk result (λ bitmap. bitmap ≡ both_bits self.now other.now) }
+        ensures err { IsOkUnless result Error.OutOfMemory }
+    {
+        let len = self.len();
+        let mut words = vec![in alloc; 0; len.div_ceil(WORD_BITS)]?;
+        for j in 0..words.len() {
+            words[j] = self.word(j) & other.word(j);
+        }
+        Bitmap::from_words(alloc, words, len)
+    }
+
+    /// The bits that are set in one at least, word by word.
+    ///
+    /// # Errors
+    /// `OutOfMemory` as of [`Bitmap::new_zeroed`].
+    pub fn or(&self, alloc: Global, other: &Bitmap) -> Result<Bitmap, Error>
+        requires { length self.now ≡ length other.now }
+        ensures ok { IfOk result (λ bitmap. bitmap ≡ either_bits self.now other.now) }
+        ensures err { IsOkUnless result Error.OutOfMemory }
+    {
+        let len = self.len();
+        let mut words = vec![in alloc; 0; len.div_ceil(WORD_BITS)]?;
+        for j in 0..words.len() {
+            words[j] = self.word(j) | other.word(j);
+        }
+        Bitmap::from_words(alloc, words, len)
+    }
+
+    /// Each bit turned, word by word.
+    ///
+    /// # Errors
+    /// `OutOfMemory` as of [`Bitmap::new_zeroed`].
+    pub fn not(&self, alloc: Global) -> Result<Bitmap, Error>
+        ensures ok { IfOk result (λ bitmap. bitmap ≡ map not self.now) }
+        ensures err { IsOkUnless result Error.OutOfMemory }
+    {
+        let len = self.len();
+        let mut words = vec![in alloc; 0; len.div_ceil(WORD_BITS)]?;
+        for j in 0..words.len() {
+            words[j] = !self.word(j);
+        }
+        Bitmap::from_words(alloc, words, len)
     }
 
     /// The 64 bits from bit `64 * j` on as a word, with zeros past the last.

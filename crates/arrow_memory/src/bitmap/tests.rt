@@ -66,6 +66,66 @@ fn slices_are_their_bits(rt: HostRuntime) {
     assert_eq!(rt; outcome, Ok(()));
 }
 
+/// A plain list of bits against a bitmap.
+fn check_bits(rt: &impl Abort, found: &Bitmap, want: &[bool]) {
+    assert_eq!(rt; found.len(), want.len());
+    for (i, bit) in want.iter().enumerate() {
+        assert!(rt; i < found.len());
+        assert_eq!(rt; found.get_bit(i), *bit, "bit {i}");
+    }
+}
+
+/// Both, either and neither of two runs of bits, each at a bit offset of its own.
+fn check_logic(
+    rt: &(impl Abort + Alloc<A = Global>),
+    offset: usize,
+    len: usize,
+) -> Result<(), Error> {
+    let alloc = rt.alloc();
+    let bits = pattern(alloc, 160)?;
+    assert!(rt; offset <= 9 && len <= 130 && bits.len() == 160);
+    let left = &bits[offset..offset + len];
+    let right = &bits[20..20 + len];
+    let whole = Bitmap::from_bools(alloc, &bits)?;
+    assert!(rt; whole.len() == 160);
+    let a = whole.clone()?.sliced(offset, len);
+    let b = whole.sliced(20, len);
+    let mut both = Vec::with_capacity(alloc, len)?;
+    let mut either = Vec::with_capacity(alloc, len)?;
+    let mut turned = Vec::with_capacity(alloc, len)?;
+    for (x, y) in left.iter().zip(right) {
+        both.push(*x && *y)?;
+        either.push(*x || *y)?;
+        turned.push(!*x)?;
+    }
+    assert!(rt; a.len() == b.len());
+    check_bits(rt, &a.and(alloc, &b)?, &both);
+    check_bits(rt, &a.or(alloc, &b)?, &either);
+    let not = a.not(alloc)?;
+    check_bits(rt, &not, &turned);
+    assert_eq!(rt; not.unset_bits(), len.saturating_sub(a.unset_bits()));
+    let zeros = Bitmap::new_zeroed(alloc, len)?;
+    assert_eq!(rt; zeros.len(), len);
+    assert_eq!(rt; zeros.unset_bits(), len);
+    Ok(())
+}
+
+/// Each length at each bit offset.
+fn check_all_logic(rt: &(impl Abort + Alloc<A = Global>)) -> Result<(), Error> {
+    for len in [0, 1, 7, 8, 9, 63, 64, 65, 130] {
+        for offset in 0..10 {
+            check_logic(rt, offset, len)?;
+        }
+    }
+    Ok(())
+}
+
+#[test]
+fn logic_by_words(rt: HostRuntime) {
+    let outcome = check_all_logic(&rt).or_else(|_| check_all_logic(&rt));
+    assert_eq!(rt; outcome, Ok(()));
+}
+
 /// The validity of [0, 1, null, 2, null, 3], after the example of Arrow's format: 00101011, written
 /// with the least significant bit last.
 fn check_order(rt: &(impl Abort + Alloc<A = Global>)) -> Result<(), Error> {

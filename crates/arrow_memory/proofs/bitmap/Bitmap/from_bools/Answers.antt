@@ -23,4 +23,4 @@ returns-clause-ok c =
     let bits = c.args.bits.now in
     let none = rw c.loop-chunk.invariant.1 at c.in-None.ensures.steps.1.0 in
     let left = length-drop (64 * length words) bits in
-    rw (ap (λ v. v.items) c.in_ok-new.ensures.ok) (bits_in-packed words bits c.loop-chunk.invariant.0 (omega arith))
+    rw (bits_in-packed words bits c.loop-chunk.invariant.0 (omega arith)) at c.from_words.ensures.ok
