@@ -98,22 +98,40 @@ fn add_integers(table: &mut Table) -> Result<(), Error> {
 }
 
 fn add_times(table: &mut Table) -> Result<(), Error> {
-    let days = DataType::Interval(IntervalUnit::DayTime);
-    let months = DataType::Interval(IntervalUnit::MonthDayNano);
-    let years = DataType::Interval(IntervalUnit::YearMonth);
-    let timestamp = DataType::Timestamp(TimeUnit::Second, None);
-    add_primitive(table, years, PrimitiveType::Int32)?;
-    add_primitive(table, days, PrimitiveType::DaysMs)?;
-    add_primitive(table, months, PrimitiveType::MonthDayNano)?;
-    add_primitive(table, timestamp, PrimitiveType::Int64)?;
     add_primitive(table, DataType::Date32, PrimitiveType::Int32)?;
     add_primitive(table, DataType::Date64, PrimitiveType::Int64)?;
-    let duration = DataType::Duration(TimeUnit::Nanosecond);
-    add_primitive(table, duration, PrimitiveType::Int64)?;
-    let time = DataType::Time32(TimeUnit::Millisecond);
-    add_primitive(table, time, PrimitiveType::Int32)?;
-    let time = DataType::Time64(TimeUnit::Microsecond);
-    add_primitive(table, time, PrimitiveType::Int64)
+    add_primitive(
+        table,
+        DataType::Time32(TimeUnit::Millisecond),
+        PrimitiveType::Int32,
+    )?;
+    add_primitive(
+        table,
+        DataType::Time64(TimeUnit::Microsecond),
+        PrimitiveType::Int64,
+    )?;
+    add_primitive(
+        table,
+        DataType::Timestamp(TimeUnit::Second, None),
+        PrimitiveType::Int64,
+    )?;
+    add_primitive(
+        table,
+        DataType::Duration(TimeUnit::Nanosecond),
+        PrimitiveType::Int64,
+    )?;
+    add_primitive(
+        table,
+        DataType::Interval(IntervalUnit::YearMonth),
+        PrimitiveType::Int32,
+    )?;
+    add_primitive(
+        table,
+        DataType::Interval(IntervalUnit::DayTime),
+        PrimitiveType::DaysMs,
+    )?;
+    let months = DataType::Interval(IntervalUnit::MonthDayNano);
+    add_primitive(table, months, PrimitiveType::MonthDayNano)
 }
 
 fn add_flat(table: &mut Table) -> Result<(), Error> {
