@@ -33,7 +33,7 @@ digit_is true = refl
 digit_is false = refl
 
 -- a bit of a word that holds a list of bits
-bit_of-word_of : (bits : List Bool) (k : ℕ) → (bit_at (word_of bits) k == 1) ≡ get_or bits k false
+pub bit_of-word_of : (bits : List Bool) (k : ℕ) → (bit_at (word_of bits) k == 1) ≡ get_or bits k false
 bit_of-word_of bits k = ap (λ x. nat_eq x 1) (bit_mask_l bits k) ∙ digit_is (get_or bits k false)
 
 -- ---- equality by words
@@ -181,7 +181,7 @@ min_is zero b small other = let none : min 0 b ≡ 0 = omega arith in rw none re
 min_is (suc zero) b small other = let same : min 1 b ≡ b = omega arith in rw same refl
 min_is (suc (suc a)) b small other = absurd (omega arith)
 
-max_is : (a b : ℕ) → a < 2 → b < 2 → (max a b == 1) ≡ ((a == 1) || (b == 1))
+pub max_is : (a b : ℕ) → a < 2 → b < 2 → (max a b == 1) ≡ ((a == 1) || (b == 1))
 max_is a b small other = grind (arith, nat_tests)
 
 turned_is : (a : ℕ) → a < 2 → (1 - a == 1) ≡ not (a == 1)
@@ -227,7 +227,7 @@ bits_in-not words xs within each =
     let a = word_of (sliced xs (64 * (i / 64)) 64) in
     ap (λ word. bit_at word k == 1) (each (i / 64) (omega arith)) ∙ (ap (λ x. x == 1) (bit_at_not w64 a k (word_of-below xs (64 * (i / 64))) (omega arith)) ∙ (turned_is (bit_at a k) (bit_at-lt a k) ∙ (ap not (bit_of-part xs i) ∙ get_or-turned xs i (omega arith))))))
 
-get_or-replicate_same : (n i : ℕ) → get_or (replicate n false) i false ≡ false
+pub get_or-replicate_same : (n i : ℕ) → get_or (replicate n false) i false ≡ false
 get_or-replicate_same zero i = refl
 get_or-replicate_same (suc n) zero = refl
 get_or-replicate_same (suc n) (suc i) = get_or-replicate_same n i

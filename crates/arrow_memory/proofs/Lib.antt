@@ -1,3 +1,5 @@
+pub mod AppendLemmas
 pub mod BitmapLemmas
+pub mod MutableLemmas
 pub mod SlicedLemmas
 pub mod WordLemmas

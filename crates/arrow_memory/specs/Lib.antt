@@ -1,3 +1,4 @@
 pub mod Bits
+pub mod Grown
 pub mod Sliced
 pub mod Words

@@ -9,8 +9,11 @@ ghost use Rattle.arrow_memory.specs.Sliced.{sliced};
 ghost use Rattle.arrow_memory.specs.Bits.{both_bits, either_bits};
 ghost use Rattle.arrow_memory.specs.Words.{bits_in, word_of};
 
+mod mutable;
+
 use crate::words::{WORD_BITS, count_ones, pack, word_from};
 use arrow_types::error::Error;
+pub use mutable::MutableBitmap;
 use std::alloc::{AllocError, Global};
 use std::marker::Model;
 use std::rc::Rc;
@@ -186,6 +189,20 @@ impl Bitmap {
         let word = word_from(&self.words, self.offset + first);
         if len - first < WORD_BITS {
             word & ((1 << (len - first)) - 1)
+        } else {
+            word
+        }
+    }
+
+    /// So many bits from bit `first` on as a word, with zeros above.
+    fn bits_from(&self, first: usize, count: usize) -> u64
+        requires within { first + count ≤ length self.now }
+        requires in_word { count ≤ 64 }
+        ensures { result ≡ word_of (sliced self.now first count) }
+    {
+        let word = word_from(&self.words, self.offset + first);
+        if count < WORD_BITS {
+            word & ((1 << count) - 1)
         } else {
             word
         }

@@ -1,7 +1,7 @@
 //! Bits in words of 64.
 
-ghost use Rattle.std.specs.Prelude.{◌≡◌, ◌+◌, ◌-◌, ◌*◌, ◌%◌, ◌≤◌, length, slice_index};
-ghost use Rattle.arrow_memory.specs.Words.{bits_in, set_count, word_of};
+ghost use Rattle.std.specs.Prelude.{◌≡◌, ◌+◌, ◌-◌, ◌*◌, ◌%◌, ◌/◌, ◌<◌, ◌≤◌, length, slice_index};
+ghost use Rattle.arrow_memory.specs.Words.{bits_in, set_count, word_of, AppendsWord};
 
 /// The bits of a word.
 pub(crate) const WORD_BITS: usize = 64;
@@ -56,4 +56,17 @@ pub(crate) fn word_from(words: &[u64], place: usize) -> u64
         return low;
     }
     low | word_at(words, place / WORD_BITS + 1) << (WORD_BITS - shift)
+}
+
+/// Puts the bits of a word behind those that the words hold before a place. What lies there is zeros.
+pub(crate) fn append_word(words: &mut [u64], place: usize, word: u64)
+    requires { place / 64 < length words.old }
+    ensures { AppendsWord words.old words.new place word }
+{
+    let index = place / WORD_BITS;
+    let shift = place % WORD_BITS;
+    words[index] |= word << shift;
+    if shift != 0 && index + 1 < words.len() {
+        words[index + 1] |= word >> (WORD_BITS - shift);
+    }
 }

@@ -144,3 +144,84 @@ fn least_significant_bit_first(rt: HostRuntime) {
     let outcome = check_order(&rt).or_else(|_| check_order(&rt));
     assert_eq!(rt; outcome, Ok(()));
 }
+
+/// Bits appended in each way behind others, against a plain list of them.
+fn check_appended(
+    rt: &(impl Abort + Alloc<A = Global>),
+    before: usize,
+    start: usize,
+    len: usize,
+) -> Result<(), Error> {
+    let alloc = rt.alloc();
+    let bits = pattern(alloc, 160)?;
+    assert!(rt; start <= 10 && len <= 130 && before <= 130 && bits.len() == 160);
+    let source = Bitmap::from_bools(alloc, &bits)?;
+    assert!(rt; source.len() == 160);
+    let mut plain = Vec::new(alloc);
+    let mut appended = MutableBitmap::new(alloc);
+    for bit in &bits[..before] {
+        plain.push(*bit)?;
+        appended.push(*bit)?;
+    }
+    appended.extend_from_bitmap(&source, start, len)?;
+    plain.extend_from_slice(&bits[start..start + len])?;
+    for bit in [true, false] {
+        appended.extend_constant(len, bit)?;
+        for _ in 0..len {
+            plain.push(bit)?;
+        }
+    }
+    appended.push(true)?;
+    plain.push(true)?;
+    assert_eq!(rt; appended.len(), plain.len());
+    let found = appended.into_bitmap()?;
+    check_bits(rt, &found, &plain);
+    assert!(rt; found == Bitmap::from_bools(alloc, &plain)?);
+    Ok(())
+}
+
+/// Each length behind each bit offset, from each bit offset.
+fn check_all_appended(rt: &(impl Abort + Alloc<A = Global>)) -> Result<(), Error> {
+    for len in [0, 1, 7, 8, 9, 63, 64, 65, 130] {
+        for offset in 0..10 {
+            check_appended(rt, len, offset, len)?;
+            check_appended(rt, offset, 1, len)?;
+        }
+    }
+    Ok(())
+}
+
+#[test]
+fn appended_bits(rt: HostRuntime) {
+    let outcome = check_all_appended(&rt).or_else(|_| check_all_appended(&rt));
+    assert_eq!(rt; outcome, Ok(()));
+}
+
+fn check_room(rt: &(impl Abort + Alloc<A = Global>)) -> Result<(), Error> {
+    let mut bits = MutableBitmap::with_capacity(rt.alloc(), 100)?;
+    assert!(rt; bits.is_empty());
+    bits.push(true)?;
+    assert!(rt; !bits.is_empty());
+    // more bits than can be counted
+    assert_eq!(rt;
+        bits.extend_constant(usize::MAX, false),
+        Err(Error::Overflow)
+    );
+    // and more than there is memory for: the bits stay
+    assert_eq!(rt;
+        bits.extend_constant(1 << 62, true),
+        Err(Error::OutOfMemory)
+    );
+    assert_eq!(rt; bits.len(), 1);
+    let too_many = MutableBitmap::with_capacity(rt.alloc(), 1 << 62);
+    assert!(rt; too_many.is_err_and(|error| error == Error::OutOfMemory));
+    let shared = bits.into_bitmap()?;
+    check_bits(rt, &shared, &[true]);
+    Ok(())
+}
+
+#[test]
+fn room_for_bits(rt: HostRuntime) {
+    let outcome = check_room(&rt).or_else(|_| check_room(&rt));
+    assert_eq!(rt; outcome, Ok(()));
+}
