@@ -1,5 +1,5 @@
 -- A beginning of rows that fit a type fits it, so no work in between refuses rows that fit as a whole.
-use Rattle.std.proofs.Common.{◌≡◌, ℕ, suc, ◌*◌, ◌<◌, ◌≤◌, ◌^◌, ℤ, true, false, Bool, Option, List, [], ◌∷◌, ◌++◌, length, map, flat_map, sum_by, if◌then◌else◌, refl, ap, subst, arith, length-append}
+use Rattle.std.proofs.Common.{◌≡◌, ℕ, suc, ◌*◌, ◌<◌, ◌≤◌, ◌^◌, ℤ, true, false, Bool, Option, List, [], ◌∷◌, ◌++◌, length, map, sum_by, if◌then◌else◌, refl, ap, subst, arith, length-append}
 use Rattle.std.proofs.Math.Nat.{mul-le-mul_left}
 use Rattle.std.proofs.lemmas.Grind.{flat_map-append}
 use Rattle.std.proofs.lemmas.List.{map-append}
@@ -7,7 +7,7 @@ use Rattle.std.proofs.lemmas.List.Sums.{sum_by-append}
 use Rattle.std.specs.Ordering.{int_eq}
 use Rattle.arrow_types.specs.declared.datatypes.UnionMode.TheVariants.{Dense, Sparse}
 use Rattle.arrow_types.specs.ArrowType.{ArrowType, ArrowFields, PlainType, ListForm, plain, list, struct, union, dictionary, extension, field, no_fields, more_fields, small, large, fixed_size, mapped, binary, large_binary, utf8, large_utf8, fixed_size_binary}
-use Rattle.arrow_types.specs.Slot.{Slot, Null, Variant, id_at}
+use Rattle.arrow_types.specs.Slot.{Slot, Variant, id_at}
 use Rattle.arrow_types.specs.Fits.{IsCounted, byte_count, items_in, all_items, fixed_items_in, part_in, sparse_part, dense_part, FitsPlain, FitsForm, child_rows, Fits, FitsParts, FitsSparse, FitsDense}
 
 sum_by-beginning : (f : Slot → ℕ) (xs ys : List Slot) → sum_by f xs ≤ sum_by f (xs ++ ys)

@@ -7,7 +7,7 @@ use Rattle.arrow_types.specs.ArrowType.{ArrowType, ArrowField, ArrowFields, plai
 use Rattle.arrow_types.specs.Physical.{physical_type_of}
 use Rattle.arrow_types.specs.Relation.{Relation, related, same}
 use Rattle.arrow_types.specs.SameTree.{same_by-decides}
-use Rattle.arrow_types.specs.Slot.{Slot, Slots, Null, Boolean, Number, DayTime, MonthDayNano, Bytes, Text, Variant, no_slots, more_slots, to_slots, from_slots, id_at, null_slot}
+use Rattle.arrow_types.specs.Slot.{Slot, Slots, Null, Boolean, Variant, no_slots, more_slots, to_slots, from_slots, id_at, null_slot}
 use Rattle.arrow_types.specs.StoredSlot.{slot_code}
 
 pub from_slots-to_slots : (xs : List Slot) → from_slots (to_slots xs) ≡ xs

@@ -1,5 +1,5 @@
 -- Worked rows, computed from the definitions: if a definition changes its meaning, one of these fails.
-use Rattle.std.specs.Prelude.{ℕ, zero, ℤ, pos, negsuc, Bool, true, false, None, Some, List, [], ◌∷◌, ◌^◌, map, codes, ◌≡◌, refl}
+use Rattle.std.specs.Prelude.{ℕ, pos, negsuc, Bool, true, false, None, Some, List, [], ◌∷◌, ◌^◌, map, codes, ◌≡◌, refl}
 use Rattle.std.specs.Str.{chars}
 use lib.Utf8.{encode}
 use Rattle.arrow_types.specs.declared.datatypes.IntegerType.TheVariants.{Int8, Int32}
@@ -8,8 +8,7 @@ use Rattle.arrow_types.specs.declared.datatypes.UnionMode.{UnionMode}
 use Rattle.arrow_types.specs.declared.datatypes.UnionMode.TheVariants.{Sparse, Dense}
 use Rattle.arrow_types.specs.declared.datatypes.physical_type.PhysicalType.TheVariants as physical
 use Rattle.arrow_types.specs.declared.types.PrimitiveType.TheVariants as primitive
-use Rattle.arrow_types.specs.ArrowType.{ArrowType, plain, integer, interval, utf8, small, fixed_size, list, struct, union, dictionary, extension, field, no_fields, more_fields, logical}
-use Rattle.arrow_types.specs.Carried.{IsCarried, IsTypeId}
+use Rattle.arrow_types.specs.ArrowType.{ArrowType, plain, integer, interval, utf8, small, fixed_size, list, union, dictionary, extension, field, no_fields, more_fields, logical}
 use Rattle.arrow_types.specs.Fits.{all_items, child_rows, part_in, sparse_part, dense_part}
 use Rattle.arrow_types.specs.Logic.{both, either, negated, kleene_both, kleene_either, finished_eq, finished_neq}
 use Rattle.arrow_types.specs.Part.{bytes_of, part}
@@ -18,7 +17,7 @@ use Rattle.arrow_types.specs.Ranges.{named, named_sides, true_rows}
 use Rattle.arrow_types.specs.Relation.{related, eq, neq, lt, gt_eq, through, same, nulled}
 use Rattle.arrow_types.specs.Rows.{masked, mask_of, select, joined, shifted, gather, chosen}
 use Rattle.arrow_types.specs.SameTree.{same_by}
-use Rattle.arrow_types.specs.Slot.{Slot, Slots, Null, Boolean, Number, DayTime, Text, Bytes, Items, Parts, Entry, Variant, to_slots, id_at, null_slot}
+use Rattle.arrow_types.specs.Slot.{Slot, Null, Boolean, Number, DayTime, Text, Bytes, Items, Parts, Entry, Variant, to_slots, id_at, null_slot}
 
 abbrev int32 : ArrowType
 int32 = plain (integer Int32)

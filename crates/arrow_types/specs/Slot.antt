@@ -1,6 +1,6 @@
 -- One row of an array, whatever the layout beneath it: the slot of Arrow's columnar format ("Terminology").
 use Rattle.std.specs.Prelude.{ℕ, zero, suc, ℤ, pos, Bool, List, [], ◌∷◌, Option, Some, None}
-use Rattle.arrow_types.specs.ArrowType.{ArrowType, ArrowField, ArrowFields, plain, list, struct, union, dictionary, extension, field, no_fields, more_fields}
+use Rattle.arrow_types.specs.ArrowType.{ArrowType, plain, list, struct, union, dictionary, extension, field, no_fields, more_fields}
 
 mutual
   pub data Slot : Type 0 where
