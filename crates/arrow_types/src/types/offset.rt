@@ -1,6 +1,6 @@
 //! The integers that offsets are made of.
 
-ghost use Rattle.std.specs.Prelude.{◌≡◌, Bool, true, false};
+ghost use Rattle.std.specs.Prelude.{◌≡◌, ◌+ℤ◌, ◌-ℤ◌, ◌≤ℤ◌, pos, Bool, true, false};
 ghost use Rattle.std.proofs.Common.{rules};
 ghost use Rattle.arrow_types.specs.Greatest.{greatest_offset};
 
@@ -14,6 +14,15 @@ pub trait Offset: Index {
     /// Whether it is that of the large forms.
     const IS_LARGE: bool;
 
+    /// The offset, counted on from `to` where it was counted on from `from`: `to + (self - from)`,
+    /// which must not pass the greatest of the type.
+    fn shifted(self, from: Self, to: Self) -> Self
+        requires starts { pos 0 ≤ℤ Self.number from }
+        requires rises { Self.number from ≤ℤ Self.number self }
+        requires not_negative { pos 0 ≤ℤ Self.number to }
+        requires fits { (Self.number to +ℤ (Self.number self -ℤ Self.number from)) ≤ℤ pos Self.greatest }
+        ensures { Self.number result ≡ Self.number to +ℤ (Self.number self -ℤ Self.number from) };
+
     ghost greatest_is: { Self.greatest ≡ greatest_offset IS_LARGE };
 }
 
@@ -22,6 +31,10 @@ impl Offset for i32 {
 
     const IS_LARGE: bool = false;
 
+    fn shifted(self, from: i32, to: i32) -> i32 {
+        to + (self - from)
+    }
+
     ghost greatest_is = { Prim.search rules };
 }
 
@@ -29,6 +42,10 @@ impl Offset for i64 {
     ghost IS_LARGE = { true };
 
     const IS_LARGE: bool = true;
+
+    fn shifted(self, from: i64, to: i64) -> i64 {
+        to + (self - from)
+    }
 
     ghost greatest_is = { Prim.search rules };
 }

@@ -15,6 +15,8 @@ pub trait NativeOrd: NativeType + Ord {
 
     ghost slot_is_number: { (x : Self) → Self.slot x ≡ Number (number x) };
 
+    ghost zero_is_zero: { number Self.zero ≡ pos 0 };
+
     // equal where the numbers are,
     ghost eq_by_number: { (x y : Self) → IsTrue (Self.eq x y) ↔ (number x ≡ number y) };
 
@@ -27,6 +29,8 @@ impl NativeOrd for i8 {
 
     ghost slot_is_number = { Prim.search rules };
 
+    ghost zero_is_zero = { Prim.search rules };
+
     ghost eq_by_number = { Prim.search rules };
 
     ghost cmp_by_number = { Prim.search rules };
@@ -36,6 +40,8 @@ impl NativeOrd for i16 {
     ghost number = { λ n. n };
 
     ghost slot_is_number = { Prim.search rules };
+
+    ghost zero_is_zero = { Prim.search rules };
 
     ghost eq_by_number = { Prim.search rules };
 
@@ -47,6 +53,8 @@ impl NativeOrd for i32 {
 
     ghost slot_is_number = { Prim.search rules };
 
+    ghost zero_is_zero = { Prim.search rules };
+
     ghost eq_by_number = { Prim.search rules };
 
     ghost cmp_by_number = { Prim.search rules };
@@ -56,6 +64,8 @@ impl NativeOrd for i64 {
     ghost number = { λ n. n };
 
     ghost slot_is_number = { Prim.search rules };
+
+    ghost zero_is_zero = { Prim.search rules };
 
     ghost eq_by_number = { Prim.search rules };
 
@@ -67,6 +77,8 @@ impl NativeOrd for i128 {
 
     ghost slot_is_number = { Prim.search rules };
 
+    ghost zero_is_zero = { Prim.search rules };
+
     ghost eq_by_number = { Prim.search rules };
 
     ghost cmp_by_number = { Prim.search rules };
@@ -76,6 +88,8 @@ impl NativeOrd for i256 {
     ghost number = { λ n. n };
 
     ghost slot_is_number = { Prim.search rules };
+
+    ghost zero_is_zero = { Prim.search rules };
 
     ghost eq_by_number = { Prim.search rules };
 
@@ -87,6 +101,8 @@ impl NativeOrd for u8 {
 
     ghost slot_is_number = { Prim.search rules };
 
+    ghost zero_is_zero = { Prim.search rules };
+
     ghost eq_by_number = { Prim.search rules };
 
     ghost cmp_by_number = { Prim.search rules };
@@ -96,6 +112,8 @@ impl NativeOrd for u16 {
     ghost number = { pos };
 
     ghost slot_is_number = { Prim.search rules };
+
+    ghost zero_is_zero = { Prim.search rules };
 
     ghost eq_by_number = { Prim.search rules };
 
@@ -107,6 +125,8 @@ impl NativeOrd for u32 {
 
     ghost slot_is_number = { Prim.search rules };
 
+    ghost zero_is_zero = { Prim.search rules };
+
     ghost eq_by_number = { Prim.search rules };
 
     ghost cmp_by_number = { Prim.search rules };
@@ -116,6 +136,8 @@ impl NativeOrd for u64 {
     ghost number = { pos };
 
     ghost slot_is_number = { Prim.search rules };
+
+    ghost zero_is_zero = { Prim.search rules };
 
     ghost eq_by_number = { Prim.search rules };
 

@@ -1,0 +1,317 @@
+//! Offsets: where the rows of a text, binary, list or map array lie.
+
+ghost use Rattle.std.specs.Prelude.{◌≡◌, pos, ◌+◌, ◌-◌, ◌<◌, ◌≤◌, ◌+ℤ◌, ◌-ℤ◌, ◌≤ℤ◌, [], ◌∷◌, ◌++◌, length, map, replicate, slice_index, slice_index_or, unsigned_abs, IsTrue, ◌↔◌, IfOk, IfErr, OnOk, OnErr, IsOkUnless, Err};
+ghost use Rattle.std.specs.List.{All};
+ghost use Rattle.std.specs.Vec.{vec_len, vec_capacity};
+ghost use Rattle.arrow_types.specs.declared.error.Error.{Error};
+ghost use Rattle.arrow_types.specs.declared.error.SpecPart.{SpecPart};
+ghost use Rattle.arrow_memory.specs.Grown.{IsGrowthError};
+ghost use Rattle.arrow_memory.specs.Offsets.{AreOffsets, IsOffsets, last_of, with_row, counted_on, with_rows};
+ghost use Rattle.arrow_memory.specs.Sliced.{sliced};
+
+use crate::buffer::Buffer;
+use arrow_types::error::{Error, SpecPart};
+use arrow_types::types::{NativeType, Offset};
+use std::alloc::{AllocError, Global};
+use std::marker::Model;
+
+/// Offsets that are shared by their clones and slices: at least one, the first not negative, and none
+/// less than the one before it. Row `i` is the range from offset `i` to offset `i + 1`.
+#[derive(Drop)]
+pub struct OffsetsBuffer<O: Offset> {
+    offsets: Buffer<O>,
+}
+
+impl<O: Offset> Model for OffsetsBuffer<O> {
+    ghost use Rattle.std.specs.Prelude.{ℕ, List, map, unsigned_abs};
+    ghost use Rattle.arrow_memory.specs.Offsets.{AreOffsets};
+
+    ghost Value = { List ℕ };
+
+    ghost view = { λ a. map unsigned_abs (map O.number a.offsets) };
+
+    ghost invariant = { λ a. AreOffsets (map O.number a.offsets) };
+}
+
+#[tactic(auto, using(crate::proofs::OffsetLemmas::as_stored, crate::proofs::OffsetLemmas::seen_offsets))]
+impl<O: Offset> OffsetsBuffer<O> {
+    /// The offsets of a `Vec`, which is moved and not copied. It takes the memory of one shared owner.
+    ///
+    /// # Errors
+    /// `OutOfSpec(Offsets)` where there is none, the first is negative, or one is less than the one
+    /// before it; otherwise `OutOfMemory` where the memory is refused.
+    pub fn try_from(alloc: Global, offsets: Vec<O>) -> Result<OffsetsBuffer<O>, Error>
+        ensures ok { IfOk result (λ buffer. map pos buffer ≡ map O.number offsets.items) }
+        ensures memory { AreOffsets (map O.number offsets.items) → IsOkUnless result Error.OutOfMemory }
+        ensures fault { (AreOffsets (map O.number offsets.items) → ⊥) → result ≡ Err (Error.OutOfSpec SpecPart.Offsets) }
+    {
+        if !are_offsets(&offsets) {
+            return Err(Error::OutOfSpec(SpecPart::Offsets));
+        }
+        Ok(OffsetsBuffer {
+            offsets: Buffer::from_vec(alloc, offsets)?,
+        })
+    }
+
+    /// How many offsets there are: one more than the rows.
+    pub fn len(&self) -> usize
+        ensures count { result ≡ length self.now }
+        ensures sound { IsOffsets self.now }
+    {
+        self.offsets.len()
+    }
+
+    /// The offsets.
+    pub fn buffer(&self) -> &[O]
+        ensures values { map O.number result.now ≡ map pos self.now }
+        ensures sound { IsOffsets self.now }
+    {
+        self.offsets.as_slice()
+    }
+
+    /// Where the last row ends, or, with no row, where it would begin.
+    pub fn last(&self) -> &O
+        ensures { O.number result.now ≡ pos (last_of self.now) }
+    {
+        last(self.buffer())
+    }
+
+    /// Where row `i` begins and ends.
+    pub fn start_end(&self, i: usize) -> (usize, usize)
+        requires { i + 1 < length self.now }
+        ensures start { result.0 ≡ slice_index self.now i }
+        ensures end { result.1 ≡ slice_index self.now (i + 1) }
+        ensures rises { result.0 ≤ result.1 }
+        ensures within { result.1 ≤ last_of self.now }
+    {
+        self.range(i, 1)
+    }
+
+    /// Where the first of `len` rows from row `start` on begins, and the last of them ends.
+    fn range(&self, start: usize, len: usize) -> (usize, usize)
+        requires { start + len < length self.now }
+        ensures start { result.0 ≡ slice_index self.now start }
+        ensures end { result.1 ≡ slice_index self.now (start + len) }
+        ensures rises { result.0 ≤ result.1 }
+        ensures within { result.1 ≤ last_of self.now }
+        ensures fits { result.1 ≤ O.greatest }
+        ensures sound { IsOffsets self.now }
+    {
+        let offsets = self.buffer();
+        (offsets[start].to_usize(), offsets[start + len].to_usize())
+    }
+
+    /// Keeps `len` offsets from place `offset` on: those of `len - 1` rows. Nothing is copied.
+    pub fn slice(&mut self, offset: usize, len: usize)
+        requires part { offset + len ≤ length self.old }
+        requires some { 0 < len }
+        ensures { self.new ≡ sliced self.old offset len }
+    {
+        self.offsets.slice(offset, len);
+    }
+}
+
+/// A clone shares the offsets and copies none. It is refused only where the count of owners is full.
+impl<O: Offset> Clone for OffsetsBuffer<O> {
+    ghost is_clone = { λ offsets copy. copy ≡ offsets };
+
+    fn clone(&self) -> Result<OffsetsBuffer<O>, AllocError> {
+        Ok(OffsetsBuffer {
+            offsets: self.offsets.clone()?,
+        })
+    }
+}
+
+/// Offsets that rows are appended to, and that are then shared as an [`OffsetsBuffer`].
+#[derive(Drop)]
+pub struct Offsets<O: Offset> {
+    offsets: Vec<O>,
+}
+
+impl<O: Offset> Model for Offsets<O> {
+    ghost use Rattle.std.specs.Prelude.{ℕ, List, map, unsigned_abs};
+    ghost use Rattle.arrow_memory.specs.Offsets.{AreOffsets};
+
+    ghost Value = { List ℕ };
+
+    ghost view = { λ a. map unsigned_abs (map O.number a.offsets.items) };
+
+    ghost invariant = { λ a. AreOffsets (map O.number a.offsets.items) };
+}
+
+#[tactic(auto, using(crate::proofs::OffsetLemmas::as_stored, crate::proofs::OffsetLemmas::seen_offsets))]
+impl<O: Offset> Offsets<O> {
+    /// The offset 0 alone, with room for so many rows.
+    ///
+    /// # Errors
+    /// `OutOfMemory` where it is refused.
+    pub fn with_capacity(alloc: Global, capacity: usize) -> Result<Offsets<O>, Error>
+        ensures ok { IfOk result (λ offsets. offsets ≡ 0 ∷ []) }
+        ensures err { IsOkUnless result Error.OutOfMemory }
+    {
+        let mut offsets = Vec::with_capacity(alloc, capacity.saturating_add(1))?;
+        offsets.push_reserved(O::default());
+        Ok(Offsets { offsets })
+    }
+
+    /// How many offsets there are: one more than the rows.
+    pub fn len(&self) -> usize
+        ensures count { result ≡ length self.now }
+        ensures sound { IsOffsets self.now }
+    {
+        self.offsets.len()
+    }
+
+    /// Where the last row ends, or, with no row, where it would begin.
+    pub fn last(&self) -> &O
+        ensures { O.number result.now ≡ pos (last_of self.now) }
+    {
+        last(self.buffer())
+    }
+
+    /// The offsets so far.
+    fn buffer(&self) -> &[O]
+        ensures values { map O.number result.now ≡ map pos self.now }
+        ensures sound { IsOffsets self.now }
+    {
+        &self.offsets
+    }
+
+    /// Appends a row of so many items.
+    ///
+    /// # Errors
+    /// `Overflow` where it would end past the greatest offset, `OutOfMemory` where a growth is refused.
+    /// The offsets are then as before.
+    pub fn try_push_usize(&mut self, length: usize) -> Result<(), Error>
+        ensures ok { OnOk result (self.new ≡ with_row self.old length) }
+        ensures overflow { (result ≡ Err Error.Overflow) ↔ (O.greatest < last_of self.old + length) }
+        ensures others { IfErr result IsGrowthError }
+        ensures err { OnErr result (self.new ≡ self.old) }
+    {
+        let Some(end) = self.last().to_usize().checked_add(length) else {
+            return Err(Error::Overflow);
+        };
+        let Some(offset) = O::from_usize(end) else {
+            return Err(Error::Overflow);
+        };
+        self.offsets.push(offset)?;
+        Ok(())
+    }
+
+    /// Appends so many rows of no item.
+    ///
+    /// # Errors
+    /// `OutOfMemory` where a growth is refused; the offsets are then as before.
+    pub fn extend_constant(&mut self, additional: usize) -> Result<(), Error>
+        ensures ok { OnOk result (self.new ≡ self.old ++ replicate additional (last_of self.old)) }
+        ensures err { IsOkUnless result Error.OutOfMemory }
+        ensures unchanged { OnErr result (self.new ≡ self.old) }
+    {
+        let offset = *self.last();
+        let Some(len) = self.offsets.len().checked_add(additional) else {
+            return Err(Error::OutOfMemory);
+        };
+        self.offsets.resize(len, offset)?;
+        Ok(())
+    }
+
+    /// Appends `len` rows of other offsets, from row `start` on: as long as they are there.
+    ///
+    /// # Errors
+    /// As of [`Offsets::try_push_usize`].
+    pub fn try_extend_from_slice(
+        &mut self,
+        other: &OffsetsBuffer<O>,
+        start: usize,
+        len: usize,
+    ) -> Result<(), Error>
+        requires { start + len < length other.now }
+        ensures ok { OnOk result (self.new ≡ with_rows self.old other.now start len) }
+        ensures overflow { (result ≡ Err Error.Overflow) ↔ (O.greatest < last_of self.old + (slice_index other.now (start + len) - slice_index other.now start)) }
+        ensures others { IfErr result IsGrowthError }
+        ensures err { OnErr result (self.new ≡ self.old) }
+    {
+        let (first, end) = other.range(start, len);
+        let to = *self.last();
+        if O::from_usize(to.to_usize() + (end - first)).is_none() {
+            return Err(Error::Overflow);
+        }
+        self.offsets.reserve(len)?;
+        append_rows(&mut self.offsets, to, other, start, len);
+        Ok(())
+    }
+
+    /// The offsets so far, shared from now on. Nothing is copied.
+    ///
+    /// # Errors
+    /// `OutOfMemory` where the memory of one shared owner is refused; the offsets are then dropped.
+    pub fn into_buffer(self) -> Result<OffsetsBuffer<O>, Error>
+        ensures ok { IfOk result (λ buffer. buffer ≡ self) }
+        ensures err { IsOkUnless result Error.OutOfMemory }
+    {
+        let alloc = *self.offsets.allocator();
+        let Offsets { offsets } = self;
+        Ok(OffsetsBuffer {
+            offsets: Buffer::from_vec(alloc, offsets)?,
+        })
+    }
+}
+
+/// The last of some offsets.
+fn last<O: Offset>(offsets: &[O]) -> &O
+    requires { 0 < length offsets.now }
+    ensures { O.number result.now ≡ slice_index_or (map O.number offsets.now) (length offsets.now - 1) (pos 0) }
+{
+    &offsets[offsets.len() - 1]
+}
+
+/// Appends the offsets of `len` rows from row `start` on, counted on from `to`. There is room for
+/// them.
+fn append_rows<O: Offset>(
+    offsets: &mut Vec<O>,
+    to: O,
+    other: &OffsetsBuffer<O>,
+    start: usize,
+    len: usize,
+)
+    requires part { start + len < length other.now }
+    requires room { vec_len offsets.old + len ≤ vec_capacity offsets.old }
+    requires not_negative { pos 0 ≤ℤ O.number to }
+    requires fits { unsigned_abs (O.number to) + (slice_index other.now (start + len) - slice_index other.now start) ≤ O.greatest }
+    ensures { map O.number offsets.new.items ≡ map O.number offsets.old.items ++ map pos (counted_on (unsigned_abs (O.number to)) other.now start len) }
+{
+    let values = other.buffer();
+    let from = values[start];
+    append_shifted(offsets, &values[start + 1..start + 1 + len], from, to);
+}
+
+/// Appends offsets, counted on from `to` where they were counted on from `from`. There is room for
+/// them.
+fn append_shifted<O: Offset>(offsets: &mut Vec<O>, rows: &[O], from: O, to: O)
+    requires room { vec_len offsets.old + length rows.now ≤ vec_capacity offsets.old }
+    requires starts { pos 0 ≤ℤ O.number from }
+    requires not_negative { pos 0 ≤ℤ O.number to }
+    requires fits { All (λ x. (O.number from ≤ℤ O.number x) × ((O.number to +ℤ (O.number x -ℤ O.number from)) ≤ℤ pos O.greatest)) rows.now }
+    ensures { map O.number offsets.new.items ≡ map O.number offsets.old.items ++ map (λ z. O.number to +ℤ (z -ℤ O.number from)) (map O.number rows.now) }
+{
+    for offset in rows {
+        offsets.push_reserved(offset.shifted(from, to));
+    }
+}
+
+/// Whether numbers are offsets.
+fn are_offsets<O: Offset>(offsets: &[O]) -> bool
+    ensures { IsTrue result ↔ AreOffsets (map O.number offsets.now) }
+{
+    let mut low = O::default();
+    for &offset in offsets {
+        if offset < low {
+            return false;
+        }
+        low = offset;
+    }
+    !offsets.is_empty()
+}
+
+#[cfg(test)]
+mod tests;
