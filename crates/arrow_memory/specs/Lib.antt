@@ -1,4 +1,5 @@
 pub mod Bits
+pub mod Examples
 pub mod Grown
 pub mod Offsets
 pub mod Sliced
