@@ -146,7 +146,10 @@ fn offsets(rt: HostRuntime) {
     assert_eq!(rt; offset_again::<i64>(greatest + 1), None);
     assert!(rt; !i32::IS_LARGE && i64::IS_LARGE);
     assert_eq!(rt; 13i32.shifted(10, 4), 7);
-    assert_eq!(rt; 9_223_372_036_854_775_806i64.shifted(1, 2), 9_223_372_036_854_775_807);
+    assert_eq!(rt;
+        9_223_372_036_854_775_806i64.shifted(1, 2),
+        9_223_372_036_854_775_807
+    );
 }
 
 #[test]
