@@ -1,0 +1,5 @@
+pub mod FixedLemmas
+pub mod PartsLemmas
+pub mod PieceLemmas
+pub mod ScalarLemmas
+pub mod StoredLemmas

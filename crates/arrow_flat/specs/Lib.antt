@@ -1,0 +1,15 @@
+pub mod AnyPrimitive
+pub mod AnyPrimitiveScalar
+pub mod AnyScalar
+pub mod ByteRows
+pub mod DictionaryScalar
+pub mod Examples
+pub mod Faults
+pub mod FixedRows
+pub mod Laws
+pub mod NullParts
+pub mod Parts
+pub mod PieceLaws
+pub mod Pieces
+pub mod ScalarFalls
+pub mod Scalars

@@ -1,0 +1,271 @@
+//! Flat arrays: those without children.
+
+ghost use Rattle.std.specs.Prelude.{◌≡◌, ◌+◌, ◌≤◌, ◌<◌, ◌↔◌, [], List, Option, Bool, ℕ, length, count_by, slice_index_or, option_copied, IsTrue, IfSome, option_map};
+ghost use Rattle.std.specs.List.{All};
+ghost use Rattle.std.specs.Cmp.{partial_equiv_from_equiv, on_equiv};
+ghost use Rattle.arrow_types.specs.ArrowType.{ArrowType};
+ghost use Rattle.arrow_types.specs.Carried.{IsCarried};
+ghost use Rattle.arrow_types.specs.Relation.{is_null};
+ghost use Rattle.arrow_types.specs.SameTree.{same_by, same_by-equivalence};
+ghost use Rattle.arrow_types.specs.Slot.{Slot, Null};
+ghost use Rattle.arrow_types.specs.Rows.{valid_at};
+ghost use Rattle.arrow_types.specs.TypeOf.{type_of};
+ghost use Rattle.arrow_memory.specs.Sliced.{sliced};
+ghost use Rattle.arrow_flat.specs.Faults.{IsCarriedAs};
+ghost use Rattle.arrow_flat.specs.Parts.{Parts, FitsRows, IsValue, rows_by, meaning_by, meaning_code, part_by, with_bits};
+
+mod any_primitive;
+mod boolean;
+mod byte_rows;
+mod fixed_size_binary;
+mod null;
+mod primitive;
+
+pub use any_primitive::AnyPrimitive;
+use arrow_memory::bitmap::Bitmap;
+use arrow_types::datatypes::{DataType, PhysicalType};
+pub use boolean::BooleanArray;
+pub use byte_rows::{Binary, BinaryArray, ByteKind, ByteRows, Text, Utf8Array};
+pub use fixed_size_binary::{FixedRows, FixedSizeBinaryArray};
+pub use null::NullArray;
+pub use primitive::PrimitiveArray;
+use std::alloc::AllocError;
+use std::marker::Model;
+
+/// What the rows of a flat array are stored in: bits, values of a fixed width, or bytes.
+pub trait Values: Clone + Drop {
+    // the rows, where none is null
+    ghost slots: { Self → List Slot };
+
+    // a data type whose rows are stored so
+    ghost are_of: { Self → ArrowType → Type 0 };
+
+    // what stores a part of the rows
+    ghost part: { Self → ℕ → ℕ → Self };
+
+    /// How many rows are stored.
+    fn len(&self) -> usize
+        ensures { result ≡ length (slots self.now) };
+
+    /// Keeps `len` rows from row `offset` on. Nothing is copied.
+    fn slice(&mut self, offset: usize, len: usize)
+        requires { offset + len ≤ length (slots self.old) }
+        ensures { self.new ≡ part self.old offset len };
+
+    /// Whether the same rows are stored.
+    fn equal(&self, other: &Self) -> bool
+        ensures { IsTrue result ↔ (slots self.now ≡ slots other.now) };
+
+    /// Whether the same is stored in row `i`.
+    fn equal_at(&self, other: &Self, i: usize) -> bool
+        requires here { i < length (slots self.now) }
+        requires there { i < length (slots other.now) }
+        ensures { IsTrue result ↔ (slice_index_or (slots self.now) i Null ≡ slice_index_or (slots other.now) i Null) };
+
+    ghost copies: { (x y : Self) → Self.is_clone x y → y ≡ x };
+
+    // what is stored is no null
+    ghost stored: { (x : Self) → All IsValue (slots x) };
+
+    // a part has that part of the rows, and the same data types
+    ghost slots_of_part: { (x : Self) (offset len : ℕ) → offset + len ≤ length (slots x) → slots (part x offset len) ≡ sliced (slots x) offset len };
+
+    ghost part_is_of: { (x : Self) (t : ArrowType) (offset len : ℕ) → are_of x t → are_of (part x offset len) t };
+}
+
+/// An array of a data type whose rows are stored as `V`, null where its validity has a bit that is
+/// not set.
+#[derive(Drop)]
+pub struct FlatArray<V: Values> {
+    data_type: DataType,
+    values: V,
+    validity: Option<Bitmap>,
+}
+
+impl<V: Values> Model for FlatArray<V> {
+    ghost use Rattle.std.specs.Prelude.{length};
+    ghost use Rattle.arrow_types.specs.TypeOf.{type_of};
+    ghost use Rattle.arrow_flat.specs.Faults.{IsCarriedAs};
+    ghost use Rattle.arrow_flat.specs.Parts.{Parts, parts_code, IsArray};
+
+    ghost Value = { Parts V };
+
+    ghost coded = { parts_code V.code };
+
+    ghost view = { λ a. record { arrow_type = type_of a.data_type; values = a.values; validity = a.validity } };
+
+    ghost invariant = { λ a. IsArray V.slots V.are_of (record { arrow_type = type_of a.data_type; values = a.values; validity = a.validity }) };
+}
+
+impl<V: Values> FlatArray<V> {
+    /// The data type.
+    pub fn data_type(&self) -> &DataType
+        ensures same { type_of result.now ≡ self.now.arrow_type }
+        ensures carried { IsCarried self.now.arrow_type }
+        ensures kind { V.are_of self.now.values self.now.arrow_type }
+    {
+        &self.data_type
+    }
+
+    /// How many rows there are.
+    pub fn len(&self) -> usize
+        ensures rows { result ≡ length (rows_by V.slots self.now) }
+        ensures values { result ≡ length (V.slots self.now.values) }
+    {
+        self.values.len()
+    }
+
+    /// Whether there is no row.
+    pub fn is_empty(&self) -> bool
+        ensures { IsTrue result ↔ (rows_by V.slots self.now ≡ []) }
+    {
+        self.len() == 0
+    }
+
+    /// The validity: a bit for each row, set where the row is valid. Without it no row is null.
+    pub fn validity(&self) -> Option<&Bitmap>
+        ensures same { option_copied result ≡ self.now.validity }
+        ensures fits { FitsRows self.now.validity (length (V.slots self.now.values)) }
+    {
+        self.validity.as_ref()
+    }
+
+    /// How many rows are null, counted a word of the validity at a time.
+    pub fn null_count(&self) -> usize
+        ensures { result ≡ count_by is_null (rows_by V.slots self.now) }
+    {
+        match &self.validity {
+            None => 0,
+            Some(validity) => validity.unset_bits(),
+        }
+    }
+
+    /// Keeps `len` rows from row `offset` on. Nothing is copied.
+    pub fn slice(&mut self, offset: usize, len: usize)
+        requires { offset + len ≤ length (rows_by V.slots self.old) }
+        ensures part { self.new ≡ part_by V.part self.old offset len }
+        ensures rows { rows_by V.slots self.new ≡ sliced (rows_by V.slots self.old) offset len }
+    {
+        self.values.slice(offset, len);
+        slice_validity(&mut self.validity, offset, len);
+    }
+
+    /// The `len` rows from row `offset` on. Nothing is copied.
+    pub fn sliced(self, offset: usize, len: usize) -> FlatArray<V>
+        requires { offset + len ≤ length (rows_by V.slots self) }
+        ensures part { result ≡ part_by V.part self offset len }
+        ensures rows { rows_by V.slots result ≡ sliced (rows_by V.slots self) offset len }
+    {
+        let mut part = self;
+        part.slice(offset, len);
+        part
+    }
+
+    /// The same rows under another validity: what is stored is null where a bit is not set.
+    pub fn with_validity(self, validity: Option<Bitmap>) -> FlatArray<V>
+        requires { FitsRows validity (length (V.slots self.values)) }
+        ensures { result ≡ with_bits self validity }
+    {
+        FlatArray { validity, ..self }
+    }
+
+    /// Whether row `i` is valid.
+    fn is_valid(&self, i: usize) -> bool
+        requires { i < length (V.slots self.now.values) }
+        ensures { result ≡ valid_at self.now.validity i }
+    {
+        match &self.validity {
+            None => true,
+            Some(validity) => validity.get_bit(i),
+        }
+    }
+
+    /// Whether row `i` is the same, null or not.
+    fn equal_row(&self, other: &FlatArray<V>, i: usize) -> bool
+        requires here { i < length (V.slots self.now.values) }
+        requires there { i < length (V.slots other.now.values) }
+        ensures { IsTrue result ↔ (slice_index_or (rows_by V.slots self.now) i Null ≡ slice_index_or (rows_by V.slots other.now) i Null) }
+    {
+        match (self.is_valid(i), other.is_valid(i)) {
+            (true, true) => self.values.equal_at(&other.values, i),
+            (false, false) => true,
+            (true, false) | (false, true) => false,
+        }
+    }
+
+    /// Whether the rows are the same: at once where none is null, and else row by row.
+    pub(crate) fn equal_rows(&self, other: &FlatArray<V>) -> bool
+        ensures { IsTrue result ↔ (rows_by V.slots self.now ≡ rows_by V.slots other.now) }
+    {
+        if self.len() != other.len() {
+            return false;
+        }
+        if self.null_count() == 0 && other.null_count() == 0 {
+            return self.values.equal(&other.values);
+        }
+        for i in 0..self.len() {
+            if !self.equal_row(other, i) {
+                return false;
+            }
+        }
+        true
+    }
+}
+
+/// Keeps `len` bits of a validity from place `offset` on.
+fn slice_validity(validity: &mut Option<Bitmap>, offset: usize, len: usize)
+    requires { IfSome validity.old (λ bits. offset + len ≤ length bits) }
+    ensures { validity.new ≡ option_map (λ bits. sliced bits offset len) validity.old }
+{
+    if let Some(validity) = validity {
+        validity.slice(offset, len);
+    }
+}
+
+/// Whether a data type is carried and lies in memory so.
+pub(crate) fn is_carried_as(data_type: &DataType, layout: PhysicalType) -> bool
+    ensures { IsTrue result ↔ IsCarriedAs layout (type_of data_type.now) }
+{
+    data_type.is_carried() && data_type.to_physical_type() == layout
+}
+
+/// Whether a validity, where there is one, has a bit for each of so many rows.
+fn fits_rows(validity: &Option<Bitmap>, len: usize) -> bool
+    ensures { IsTrue result ↔ FitsRows validity.now len }
+{
+    match validity {
+        None => true,
+        Some(validity) => validity.len() == len,
+    }
+}
+
+/// A clone shares what is stored and copies none of it. It takes the memory of the data type's names.
+impl<V: Values> Clone for FlatArray<V> {
+    ghost is_clone = { λ array copy. copy ≡ array };
+
+    fn clone(&self) -> Result<FlatArray<V>, AllocError> {
+        Ok(FlatArray {
+            data_type: self.data_type.clone()?,
+            values: self.values.clone()?,
+            validity: self.validity.clone()?,
+        })
+    }
+}
+
+/// Two arrays are equal where their data types and their rows are, whatever is stored beneath nulls.
+impl<V: Values> PartialEq for FlatArray<V> {
+    ghost eq = { λ a b. same_by meaning_code (meaning_by V.slots a) (meaning_by V.slots b) };
+
+    ghost laws = { partial_equiv_from_equiv (on_equiv (meaning_by V.slots) (same_by-equivalence meaning_code)) };
+
+    fn eq(&self, other: &FlatArray<V>) -> bool
+        ensures value { result ≡ same_by meaning_code (meaning_by V.slots self.now) (meaning_by V.slots other.now) }
+        ensures rows { IsTrue result ↔ ((self.now.arrow_type ≡ other.now.arrow_type) × (rows_by V.slots self.now ≡ rows_by V.slots other.now)) }
+    {
+        self.data_type == other.data_type && self.equal_rows(other)
+    }
+}
+
+impl<V: Values> Eq for FlatArray<V> {
+    ghost laws = { on_equiv (meaning_by V.slots) (same_by-equivalence meaning_code) };
+}

@@ -1,0 +1,186 @@
+//! A primitive array of any element type.
+
+ghost use Rattle.std.specs.Prelude.{◌≡◌, ◌+◌, ◌≤◌, ◌↔◌, [], length, count_by, option_copied, IsTrue, IfOk};
+ghost use Rattle.std.specs.Cmp.{partial_equiv_from_equiv, on_equiv};
+ghost use Rattle.arrow_types.specs.Carried.{IsCarried};
+ghost use Rattle.arrow_types.specs.Physical.{physical_type_of};
+ghost use Rattle.arrow_types.specs.Relation.{is_null};
+ghost use Rattle.arrow_types.specs.SameTree.{same_by, same_by-equivalence};
+ghost use Rattle.arrow_types.specs.TypeOf.{type_of};
+ghost use Rattle.arrow_types.specs.declared.datatypes.physical_type.PhysicalType.TheVariants as physical;
+ghost use Rattle.arrow_memory.specs.Sliced.{sliced};
+ghost use Rattle.arrow_flat.specs.AnyPrimitive.{any_parts, any_type, any_rows, any_meaning, element_of};
+ghost use Rattle.arrow_flat.specs.Parts.{meaning_code};
+
+use crate::array::PrimitiveArray;
+use arrow_memory::bitmap::Bitmap;
+use arrow_types::datatypes::DataType;
+use arrow_types::types::{days_ms, i256, months_days_ns};
+use std::alloc::AllocError;
+
+/// A primitive array of any element type.
+#[derive(Drop)]
+pub enum AnyPrimitive {
+    Int8(PrimitiveArray<i8>),
+    Int16(PrimitiveArray<i16>),
+    Int32(PrimitiveArray<i32>),
+    Int64(PrimitiveArray<i64>),
+    Int128(PrimitiveArray<i128>),
+    Int256(PrimitiveArray<i256>),
+    UInt8(PrimitiveArray<u8>),
+    UInt16(PrimitiveArray<u16>),
+    UInt32(PrimitiveArray<u32>),
+    UInt64(PrimitiveArray<u64>),
+    DaysMs(PrimitiveArray<days_ms>),
+    MonthDayNano(PrimitiveArray<months_days_ns>),
+}
+
+/// What an expression says of the array, whatever its element type.
+macro_rules! of_any {
+    ($any:expr, $array:ident => $result:expr) => {
+        match $any {
+            AnyPrimitive::Int8($array) => $result,
+            AnyPrimitive::Int16($array) => $result,
+            AnyPrimitive::Int32($array) => $result,
+            AnyPrimitive::Int64($array) => $result,
+            AnyPrimitive::Int128($array) => $result,
+            AnyPrimitive::Int256($array) => $result,
+            AnyPrimitive::UInt8($array) => $result,
+            AnyPrimitive::UInt16($array) => $result,
+            AnyPrimitive::UInt32($array) => $result,
+            AnyPrimitive::UInt64($array) => $result,
+            AnyPrimitive::DaysMs($array) => $result,
+            AnyPrimitive::MonthDayNano($array) => $result,
+        }
+    };
+}
+
+/// An array of the same element type that an expression makes of it.
+macro_rules! map_any {
+    ($any:expr, $array:ident => $result:expr) => {
+        match $any {
+            AnyPrimitive::Int8($array) => AnyPrimitive::Int8($result),
+            AnyPrimitive::Int16($array) => AnyPrimitive::Int16($result),
+            AnyPrimitive::Int32($array) => AnyPrimitive::Int32($result),
+            AnyPrimitive::Int64($array) => AnyPrimitive::Int64($result),
+            AnyPrimitive::Int128($array) => AnyPrimitive::Int128($result),
+            AnyPrimitive::Int256($array) => AnyPrimitive::Int256($result),
+            AnyPrimitive::UInt8($array) => AnyPrimitive::UInt8($result),
+            AnyPrimitive::UInt16($array) => AnyPrimitive::UInt16($result),
+            AnyPrimitive::UInt32($array) => AnyPrimitive::UInt32($result),
+            AnyPrimitive::UInt64($array) => AnyPrimitive::UInt64($result),
+            AnyPrimitive::DaysMs($array) => AnyPrimitive::DaysMs($result),
+            AnyPrimitive::MonthDayNano($array) => AnyPrimitive::MonthDayNano($result),
+        }
+    };
+}
+
+impl AnyPrimitive {
+    /// The data type.
+    pub fn data_type(&self) -> &DataType
+        ensures same { type_of result.now ≡ any_type self.now }
+        ensures carried { IsCarried (any_type self.now) }
+        ensures kind { physical_type_of (any_type self.now) ≡ physical.Primitive (element_of self.now) }
+    {
+        of_any!(self, array => array.data_type())
+    }
+
+    /// How many rows there are.
+    pub fn len(&self) -> usize
+        ensures { result ≡ length (any_rows self.now) }
+    {
+        of_any!(self, array => array.len())
+    }
+
+    /// Whether there is no row.
+    pub fn is_empty(&self) -> bool
+        ensures { IsTrue result ↔ (any_rows self.now ≡ []) }
+    {
+        self.len() == 0
+    }
+
+    /// The validity: a bit for each row, set where the row is valid. Without it no row is null.
+    pub fn validity(&self) -> Option<&Bitmap>
+        ensures { option_copied result ≡ (any_parts self.now).validity }
+    {
+        of_any!(self, array => array.validity())
+    }
+
+    /// How many rows are null, counted a word of the validity at a time.
+    pub fn null_count(&self) -> usize
+        ensures { result ≡ count_by is_null (any_rows self.now) }
+    {
+        of_any!(self, array => array.null_count())
+    }
+
+    /// Keeps `len` rows from row `offset` on. Nothing is copied.
+    pub fn slice(&mut self, offset: usize, len: usize)
+        requires { offset + len ≤ length (any_rows self.old) }
+        ensures same { any_type self.new ≡ any_type self.old }
+        ensures rows { any_rows self.new ≡ sliced (any_rows self.old) offset len }
+    {
+        of_any!(self, array => array.slice(offset, len))
+    }
+
+    /// The `len` rows from row `offset` on. Nothing is copied.
+    pub fn sliced(self, offset: usize, len: usize) -> AnyPrimitive
+        requires { offset + len ≤ length (any_rows self) }
+        ensures same { any_type result ≡ any_type self }
+        ensures rows { any_rows result ≡ sliced (any_rows self) offset len }
+    {
+        map_any!(self, array => array.sliced(offset, len))
+    }
+
+    /// Whether the rows are the same, of two arrays of one data type.
+    fn equal_rows(&self, other: &AnyPrimitive) -> bool
+        requires { element_of self.now ≡ element_of other.now }
+        ensures { IsTrue result ↔ (any_rows self.now ≡ any_rows other.now) }
+    {
+        match (self, other) {
+            (AnyPrimitive::Int8(left), AnyPrimitive::Int8(right)) => left.equal_rows(right),
+            (AnyPrimitive::Int16(left), AnyPrimitive::Int16(right)) => left.equal_rows(right),
+            (AnyPrimitive::Int32(left), AnyPrimitive::Int32(right)) => left.equal_rows(right),
+            (AnyPrimitive::Int64(left), AnyPrimitive::Int64(right)) => left.equal_rows(right),
+            (AnyPrimitive::Int128(left), AnyPrimitive::Int128(right)) => left.equal_rows(right),
+            (AnyPrimitive::Int256(left), AnyPrimitive::Int256(right)) => left.equal_rows(right),
+            (AnyPrimitive::UInt8(left), AnyPrimitive::UInt8(right)) => left.equal_rows(right),
+            (AnyPrimitive::UInt16(left), AnyPrimitive::UInt16(right)) => left.equal_rows(right),
+            (AnyPrimitive::UInt32(left), AnyPrimitive::UInt32(right)) => left.equal_rows(right),
+            (AnyPrimitive::UInt64(left), AnyPrimitive::UInt64(right)) => left.equal_rows(right),
+            (AnyPrimitive::DaysMs(left), AnyPrimitive::DaysMs(right)) => left.equal_rows(right),
+            (AnyPrimitive::MonthDayNano(left), AnyPrimitive::MonthDayNano(right)) =>
+                left.equal_rows(right),
+            _ => unreachable!(),
+        }
+    }
+}
+
+/// A clone shares what is stored and copies none of it. It takes the memory of the data type's names.
+impl Clone for AnyPrimitive {
+    ghost is_clone = { λ array copy. copy ≡ array };
+
+    fn clone(&self) -> Result<AnyPrimitive, AllocError> {
+        Ok(map_any!(self, array => array.clone()?))
+    }
+}
+
+/// Two arrays are equal where their data types and their rows are, whatever is stored beneath nulls.
+impl PartialEq for AnyPrimitive {
+    ghost eq = { λ a b. same_by meaning_code (any_meaning a) (any_meaning b) };
+
+    ghost laws = { partial_equiv_from_equiv (on_equiv any_meaning (same_by-equivalence meaning_code)) };
+
+    fn eq(&self, other: &AnyPrimitive) -> bool
+        ensures value { result ≡ same_by meaning_code (any_meaning self.now) (any_meaning other.now) }
+        ensures rows { IsTrue result ↔ ((any_type self.now ≡ any_type other.now) × (any_rows self.now ≡ any_rows other.now)) }
+    {
+        self.data_type() == other.data_type() && self.equal_rows(other)
+    }
+}
+
+impl Eq for AnyPrimitive {
+    ghost laws = { on_equiv any_meaning (same_by-equivalence meaning_code) };
+}
+
+#[cfg(test)]
+mod tests;
