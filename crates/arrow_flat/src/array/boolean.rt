@@ -95,3 +95,6 @@ impl FlatArray<Bitmap> {
         self.values.get_bit(i)
     }
 }
+
+#[cfg(test)]
+mod tests;

@@ -313,3 +313,6 @@ impl<O: Offset> FlatArray<ByteRows<O, Binary>> {
         self.values.row(i)
     }
 }
+
+#[cfg(test)]
+mod tests;

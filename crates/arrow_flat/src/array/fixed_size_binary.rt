@@ -184,3 +184,6 @@ impl FlatArray<FixedRows> {
         self.values.row(i)
     }
 }
+
+#[cfg(test)]
+mod tests;

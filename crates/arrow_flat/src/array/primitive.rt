@@ -95,3 +95,6 @@ impl<T: NativeType> FlatArray<Buffer<T>> {
         self.values.as_slice()[i]
     }
 }
+
+#[cfg(test)]
+mod tests;
