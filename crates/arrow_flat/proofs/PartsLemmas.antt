@@ -1,5 +1,5 @@
 -- Rows of a flat array, by what is stored and its validity.
-use Rattle.std.proofs.Common.{◌≡◌, ℕ, zero, suc, ◌+◌, ◌-◌, ◌<◌, ◌≤◌, Bool, true, false, not, Option, Some, None, List, [], ◌∷◌, length, take, drop, get_or, replicate, if◌then◌else◌, refl, ap, sym, ◌∙◌, arith}
+use Rattle.std.proofs.Common.{◌≡◌, ℕ, zero, suc, ◌+◌, ◌-◌, ◌<◌, ◌≤◌, Bool, true, false, not, Option, Some, None, List, [], ◌∷◌, length, take, drop, get_or, replicate, if◌then◌else◌, refl, ap, sym, subst, ◌∙◌, arith}
 use Rattle.std.specs.Prelude.{cond, count_by, option_map, IfSome}
 use Rattle.std.specs.Bool.{Decides}
 use Rattle.std.specs.List.{All}
@@ -135,9 +135,11 @@ row_null {V} {slots} p i array within told =
 pub stored_not_null : (xs : List Slot) (i : ℕ) → All IsValue xs → i < length xs → get_or xs i Null ≡ Null → ⊥
 stored_not_null xs i values within is = value_not_null (get_or xs i Null) (values i Null within) is
 
--- a place among the rows is one among what is stored
-pub within_stored : {V : Type 0} {slots : V → List Slot} {are_of : V → ArrowType → Type 0} (p : Parts V) (k : ℕ) → IsArray slots are_of p → k ≤ length (rows_by slots p) → k ≤ length (slots p.values)
-within_stored {V} {slots} p k array within = omega (arith, within, length-masked p.validity (slots p.values) array.fits)
+-- a place among the rows is one among what is stored, where the parts are seen so
+pub within_stored : {V : Type 0} {slots : V → List Slot} {are_of : V → ArrowType → Type 0} (p q : Parts V) (k : ℕ) → IsArray slots are_of p → p ≡ q → k ≤ length (rows_by slots q) → k ≤ length (slots p.values)
+within_stored {V} {slots} p q k array seen within =
+    let there = subst (λ r. k ≤ length (rows_by slots r)) (sym seen) within in
+    omega (arith, there, length-masked p.validity (slots p.values) array.fits)
 
 pub length-rows_by : {V : Type 0} {slots : V → List Slot} {are_of : V → ArrowType → Type 0} (p : Parts V) → IsArray slots are_of p → length (rows_by slots p) ≡ length (slots p.values)
 length-rows_by {V} {slots} p array = length-masked p.validity (slots p.values) array.fits

@@ -1,5 +1,5 @@
 -- Scalars, and whether they are null.
-use Rattle.std.proofs.Common.{◌≡◌, false, not, Option, Some, None, refl}
+use Rattle.std.proofs.Common.{◌≡◌, not, Option, Some, None, refl}
 use Rattle.std.specs.Prelude.{is_some}
 use Rattle.arrow_types.specs.Relation.{is_null}
 use Rattle.arrow_types.specs.Slot.{Slot}

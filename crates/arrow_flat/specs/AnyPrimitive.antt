@@ -1,5 +1,5 @@
 -- A primitive array of any element type as contracts see it.
-use Rattle.std.specs.Prelude.{ℤ, pos, List, map}
+use Rattle.std.specs.Prelude.{pos, List, map}
 use Rattle.arrow_types.specs.ArrowType.{ArrowType}
 use Rattle.arrow_types.specs.Slot.{Slot, Number, DayTime, MonthDayNano as Months}
 use Rattle.arrow_types.specs.declared.types.PrimitiveType.{PrimitiveType}

@@ -1,5 +1,5 @@
 -- A scalar of any type as contracts see it: its type and its slot.
-use Rattle.std.specs.Prelude.{Option, Some, None, option_map}
+use Rattle.std.specs.Prelude.{Option, option_map}
 use Rattle.std.specs.Global.{Box}
 use Rattle.arrow_types.specs.ArrowType.{ArrowType}
 use Rattle.arrow_types.specs.Slot.{Slot, Boolean as truth, Text, Bytes}

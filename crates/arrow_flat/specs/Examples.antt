@@ -1,7 +1,7 @@
 -- Worked rows of flat arrays and scalars, computed from the definitions.
 use Rattle.std.specs.Prelude.{◌≡◌, pos, true, false, None, Some, List, [], ◌∷◌, map, refl}
 use Rattle.arrow_types.specs.declared.datatypes.IntegerType.TheVariants.{Int8, Int32}
-use Rattle.arrow_types.specs.ArrowType.{ArrowType, plain, integer, utf8, large_utf8, dictionary, extension, fixed_size_binary}
+use Rattle.arrow_types.specs.ArrowType.{plain, integer, utf8, large_utf8, dictionary, extension, fixed_size_binary}
 use Rattle.arrow_types.specs.Slot.{Slot, Null, Number, Text, Bytes, Entry}
 use Rattle.arrow_flat.specs.ByteRows.{ByteParts, byte_slots, byte_part}
 use Rattle.arrow_flat.specs.DictionaryScalar.{entry_by, values_in, slot_depth}

@@ -1,16 +1,10 @@
 -- What the laws of stored rows rest on.
-use Rattle.std.specs.Prelude.{◌≡◌, ℕ, Bool, List, map, take, drop, refl}
-use Rattle.std.specs.List.{All, take-map, drop-map}
-use Rattle.std.proofs.Common.{sym, ap, ◌∙◌}
+use Rattle.std.specs.Prelude.{◌≡◌, Bool, List, map, refl}
+use Rattle.std.specs.List.{All}
 use Rattle.std.proofs.lemmas.List.Elements.{All-map}
 use Rattle.arrow_types.specs.Relation.{related, eq}
 use Rattle.arrow_types.specs.Slot.{Slot, Null, Boolean, Number, DayTime, MonthDayNano, Bytes, Text, Items, Parts, Entry, Variant}
-use Rattle.arrow_memory.specs.Sliced.{sliced}
 use Rattle.arrow_flat.specs.Parts.{IsValue}
-
--- a slice, value by value
-pub map-sliced : {A B : Type 0} (f : A → B) (xs : List A) (offset len : ℕ) → map f (sliced xs offset len) ≡ sliced (map f xs) offset len
-map-sliced f xs offset len = sym (take-map f len (drop offset xs)) ∙ ap (take len) (sym (drop-map f offset xs))
 
 -- what a relation answers about is a value
 pub is_value : (s : Slot) (b : Bool) → related eq s s ≡ Boolean b → IsValue s

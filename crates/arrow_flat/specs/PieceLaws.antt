@@ -4,7 +4,7 @@ use Rattle.std.proofs.Common.{ap, sym, ◌∙◌, arith}
 use Rattle.std.proofs.lemmas.List.{length-map, drop-drop, drop-take, take-take}
 use Rattle.arrow_types.specs.Slot.{Slot}
 use Rattle.arrow_memory.specs.Sliced.{sliced}
-use Rattle.arrow_flat.specs.Laws.{map-sliced}
+use Rattle.arrow_memory.proofs.OffsetLemmas.{map_sliced}
 use Rattle.arrow_flat.specs.Pieces.{pieces, pieces_from, chunks}
 
 take-pieces_from : {A : Type 0} (start n : ℕ) (offsets : List ℕ) (xs : List A) → pieces_from start (take n offsets) xs ≡ take n (pieces_from start offsets xs)
@@ -39,7 +39,7 @@ pieces-sliced offsets xs offset len =
 -- and as slots
 pub slots_of_pieces : (slot : List ℕ → Slot) (offsets bytes : List ℕ) (offset len : ℕ) → map slot (pieces (sliced offsets offset (len + 1)) bytes) ≡ sliced (map slot (pieces offsets bytes)) offset len
 slots_of_pieces slot offsets bytes offset len =
-    ap (map slot) (pieces-sliced offsets bytes offset len) ∙ map-sliced slot (pieces offsets bytes) offset len
+    ap (map slot) (pieces-sliced offsets bytes offset len) ∙ map_sliced slot (pieces offsets bytes) offset len
 
 drop-chunks : {A : Type 0} (n count size : ℕ) (xs : List A) → chunks count size (drop (n * size) xs) ≡ drop n (chunks (n + count) size xs)
 drop-chunks zero count size xs =
@@ -73,4 +73,4 @@ length-chunks (suc count) size xs = ap suc (length-chunks count size (drop size 
 -- and as slots
 pub slots_of_chunks : (slot : List ℕ → Slot) (count size : ℕ) (xs : List ℕ) (offset len : ℕ) → offset + len ≤ length (map slot (chunks count size xs)) → map slot (chunks len size (sliced xs (offset * size) (len * size))) ≡ sliced (map slot (chunks count size xs)) offset len
 slots_of_chunks slot count size xs offset len within =
-    ap (map slot) (chunks-sliced count size xs offset len (omega (arith, within, length-map (chunks count size xs) slot, length-chunks count size xs))) ∙ map-sliced slot (chunks count size xs) offset len
+    ap (map slot) (chunks-sliced count size xs offset len (omega (arith, within, length-map (chunks count size xs) slot, length-chunks count size xs))) ∙ map_sliced slot (chunks count size xs) offset len

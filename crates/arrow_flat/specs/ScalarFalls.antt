@@ -1,5 +1,5 @@
 -- A dictionary's value is less deep than the scalar that holds it.
-use Rattle.std.specs.Prelude.{ℕ, ◌≡◌, ◌+◌, ◌≤◌, max, suc, Option, None, Some}
+use Rattle.std.specs.Prelude.{◌+◌, ◌≤◌, Option, None, Some}
 use Rattle.std.specs.Global.{Box}
 use Rattle.std.proofs.Common.{arith}
 use Rattle.arrow_types.specs.declared.datatypes.DataType.{DataType}

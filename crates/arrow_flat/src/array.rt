@@ -85,7 +85,6 @@ pub struct FlatArray<V: Values> {
 impl<V: Values> Model for FlatArray<V> {
     ghost use Rattle.std.specs.Prelude.{length};
     ghost use Rattle.arrow_types.specs.TypeOf.{type_of};
-    ghost use Rattle.arrow_flat.specs.Faults.{IsCarriedAs};
     ghost use Rattle.arrow_flat.specs.Parts.{Parts, parts_code, IsArray};
 
     ghost Value = { Parts V };

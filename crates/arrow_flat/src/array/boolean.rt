@@ -8,8 +8,8 @@ ghost use Rattle.arrow_types.specs.declared.datatypes.physical_type.PhysicalType
 ghost use Rattle.arrow_types.specs.Physical.{physical_type_of};
 ghost use Rattle.arrow_types.specs.TypeOf.{type_of};
 ghost use Rattle.arrow_memory.specs.Sliced.{sliced};
+ghost use Rattle.arrow_memory.proofs.OffsetLemmas.{map_sliced};
 ghost use Rattle.arrow_flat.specs.Faults.{IsCarriedAs, NamesKindOrLength};
-ghost use Rattle.arrow_flat.specs.Laws.{map-sliced};
 ghost use Rattle.arrow_flat.specs.Parts.{FitsRows, IsValue};
 
 use crate::array::{FlatArray, Values, fits_rows, is_carried_as};
@@ -47,7 +47,7 @@ impl Values for Bitmap {
 
     ghost stored = { λ bits. All-map IsValue Boolean bits (λ k d within. refl) };
 
-    ghost slots_of_part = { λ bits offset len within. map-sliced Boolean bits offset len };
+    ghost slots_of_part = { λ bits offset len within. map_sliced Boolean bits offset len };
 
     ghost part_is_of = { λ x t offset len kind. kind };
 }

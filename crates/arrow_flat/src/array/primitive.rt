@@ -6,8 +6,9 @@ ghost use Rattle.arrow_types.specs.declared.datatypes.physical_type.PhysicalType
 ghost use Rattle.arrow_types.specs.Physical.{physical_type_of};
 ghost use Rattle.arrow_types.specs.TypeOf.{type_of};
 ghost use Rattle.arrow_memory.specs.Sliced.{sliced};
+ghost use Rattle.arrow_memory.proofs.OffsetLemmas.{map_sliced};
 ghost use Rattle.arrow_flat.specs.Faults.{IsCarriedAs, NamesKindOrLength};
-ghost use Rattle.arrow_flat.specs.Laws.{map-sliced, all_values};
+ghost use Rattle.arrow_flat.specs.Laws.{all_values};
 ghost use Rattle.arrow_flat.specs.Parts.{FitsRows};
 
 use crate::array::{FlatArray, Values, fits_rows, is_carried_as};
@@ -47,7 +48,7 @@ impl<T: NativeType> Values for Buffer<T> {
 
     ghost stored = { all_values T.slot T.eq T.slots };
 
-    ghost slots_of_part = { λ values offset len within. map-sliced T.slot values offset len };
+    ghost slots_of_part = { λ values offset len within. map_sliced T.slot values offset len };
 
     ghost part_is_of = { λ x t offset len kind. kind };
 }

@@ -1,7 +1,6 @@
-use Rattle.std.proofs.Common.{◌≡◌, sym, ap, ◌∙◌}
-use Rattle.std.specs.Bool.{Decides}
+use Rattle.std.proofs.Common.{sym, ap, ◌∙◌}
 use Rattle.arrow_types.specs.Physical.{physical_type_of}
-use Rattle.arrow_flat.specs.AnyPrimitive.{any_type, any_meaning, element_of}
+use Rattle.arrow_flat.specs.AnyPrimitive.{any_type, any_meaning}
 use Rattle.arrow_flat.proofs.PartsLemmas.{same_where_types_are, differs_where_types_do, types_decide}
 use Rattle.arrow_flat.proofs.array.any_primitive.AnyPrimitivePartialEq.eq.Goals as goal
 
