@@ -1,10 +1,11 @@
 -- Rows of a flat array, by what is stored and its validity.
-use Rattle.std.proofs.Common.{◌≡◌, ℕ, zero, suc, ◌+◌, ◌-◌, ◌<◌, ◌≤◌, Bool, true, false, not, Option, Some, None, List, [], ◌∷◌, length, take, drop, get_or, replicate, if◌then◌else◌, refl, ap, sym, subst, ◌∙◌, arith}
+use Rattle.std.proofs.Common.{◌≡◌, ℕ, zero, suc, ◌+◌, ◌-◌, ◌<◌, ◌≤◌, Bool, true, false, not, Option, Some, None, List, [], ◌∷◌, length, map, take, drop, get_or, replicate, if◌then◌else◌, refl, ap, sym, subst, ◌∙◌, arith}
 use Rattle.std.specs.Prelude.{cond, count_by, option_map, IfSome}
 use Rattle.std.specs.Bool.{Decides}
 use Rattle.std.specs.List.{All}
 use Rattle.std.proofs.lemmas.Bool.Decides.{same_from_decides}
-use Rattle.std.proofs.lemmas.List.{take_all, drop-replicate, take-replicate}
+use Rattle.std.proofs.Math.Seq.{take-suc}
+use Rattle.std.proofs.lemmas.List.{take_all, drop-replicate, take-replicate, get_or-drop, length-drop}
 use Rattle.std.proofs.lemmas.List.Sums.{sum_by-cons}
 use Rattle.arrow_types.specs.ArrowType.{ArrowType}
 use Rattle.arrow_types.specs.Relation.{is_null}
@@ -15,7 +16,7 @@ use Rattle.arrow_memory.specs.Sliced.{sliced}
 use Rattle.arrow_memory.proofs.SlicedLemmas.{length-sliced}
 use Rattle.arrow_types.specs.StoredType.{type_code}
 use Rattle.arrow_types.specs.SameTree.{same_by, same_by-decides}
-use Rattle.arrow_flat.specs.Parts.{Parts, meaning_code, FitsRows, IsValue, IsArray, rows_by, part_by}
+use Rattle.arrow_flat.specs.Parts.{Parts, meaning_code, FitsRows, IsValue, IsArray, rows_by, part_by, unset_in, MarksNulls}
 
 -- as many rows as are stored
 
@@ -41,7 +42,7 @@ drop-mask (suc n) [] xs = refl
 drop-mask (suc n) (b ∷ bits) [] = sym (mask-none (drop n bits))
 drop-mask (suc n) (b ∷ bits) (x ∷ xs) = drop-mask n bits xs
 
-masked-sliced : (v : Option (List Bool)) (xs : List Slot) (offset len : ℕ) → masked (option_map (λ bits. sliced bits offset len) v) (sliced xs offset len) ≡ sliced (masked v xs) offset len
+pub masked-sliced : (v : Option (List Bool)) (xs : List Slot) (offset len : ℕ) → masked (option_map (λ bits. sliced bits offset len) v) (sliced xs offset len) ≡ sliced (masked v xs) offset len
 masked-sliced None xs offset len = refl
 masked-sliced (Some bits) xs offset len =
     sym (take-mask len (drop offset bits) (drop offset xs)) ∙ ap (take len) (sym (drop-mask offset bits xs))
@@ -51,7 +52,7 @@ pub rows_of_part : {V : Type 0} (slots : V → List Slot) (part : V → ℕ → 
 rows_of_part slots part p offset len stored =
     ap (masked (option_map (λ bits. sliced bits offset len) p.validity)) stored ∙ masked-sliced p.validity (slots p.values) offset len
 
-fits_part : (v : Option (List Bool)) (n offset len : ℕ) → FitsRows v n → offset + len ≤ n → FitsRows (option_map (λ bits. sliced bits offset len) v) len
+pub fits_part : (v : Option (List Bool)) (n offset len : ℕ) → FitsRows v n → offset + len ≤ n → FitsRows (option_map (λ bits. sliced bits offset len) v) len
 fits_part None n offset len fits within = tt
 fits_part (Some bits) n offset len fits within = length-sliced bits offset len (omega (arith, fits))
 
@@ -74,14 +75,14 @@ fits_within (Some bits) n k fits within = omega (arith, fits)
 next_values : (x : Slot) (xs : List Slot) → All IsValue (x ∷ xs) → All IsValue xs
 next_values x xs values = λ k d within. values (suc k) d (omega (arith, within))
 
-pub none_null : (xs : List Slot) → All IsValue xs → count_by is_null xs ≡ 0
+none_null : (xs : List Slot) → All IsValue xs → count_by is_null xs ≡ 0
 none_null [] values = refl
 none_null (x ∷ xs) values =
     let first : is_null x ≡ false = values 0 x (omega arith) in
     let rest = none_null xs (next_values x xs values) in
     sum_by-cons (λ s. cond (is_null s) 1 0) x xs ∙ rw (first, rest) refl
 
-pub null_count-mask : (bits : List Bool) (xs : List Slot) → All IsValue xs → length bits ≡ length xs → count_by is_null (mask bits xs) ≡ count_by not bits
+null_count-mask : (bits : List Bool) (xs : List Slot) → All IsValue xs → length bits ≡ length xs → count_by is_null (mask bits xs) ≡ count_by not bits
 null_count-mask [] xs values fits = refl
 null_count-mask (b ∷ bits) [] values fits = absurd (omega (arith, fits))
 null_count-mask (true ∷ bits) (x ∷ xs) values fits =
@@ -91,6 +92,27 @@ null_count-mask (true ∷ bits) (x ∷ xs) values fits =
 null_count-mask (false ∷ bits) (x ∷ xs) values fits =
     let rest = null_count-mask bits xs (next_values x xs values) (omega (arith, fits)) in
     sum_by-cons (λ s. cond (is_null s) 1 0) Null (mask bits xs) ∙ rw rest (sym (sum_by-cons (λ b. cond (not b) 1 0) false bits))
+
+-- as many rows are null as bits are not set
+pub null_count-masked : (v : Option (List Bool)) (xs : List Slot) → All IsValue xs → FitsRows v (length xs) → count_by is_null (masked v xs) ≡ unset_in v
+null_count-masked None xs values fits = none_null xs values
+null_count-masked (Some bits) xs values fits = null_count-mask bits xs values fits
+
+-- and they mark which
+marks-mask : (bits : List Bool) (xs : List Slot) → All IsValue xs → length bits ≡ length xs → bits ≡ map (λ s. not (is_null s)) (mask bits xs)
+marks-mask [] xs values fits = refl
+marks-mask (b ∷ bits) [] values fits = absurd (omega (arith, fits))
+marks-mask (true ∷ bits) (x ∷ xs) values fits =
+    let first : is_null x ≡ false = values 0 x (omega arith) in
+    let rest = marks-mask bits xs (next_values x xs values) (omega (arith, fits)) in
+    λ i. not (sym first i) ∷ rest i
+marks-mask (false ∷ bits) (x ∷ xs) values fits =
+    let rest = marks-mask bits xs (next_values x xs values) (omega (arith, fits)) in
+    λ i. false ∷ rest i
+
+pub marks-masked : (v : Option (List Bool)) (xs : List Slot) → All IsValue xs → FitsRows v (length xs) → MarksNulls v (masked v xs)
+marks-masked None xs values fits = values
+marks-masked (Some bits) xs values fits = marks-mask bits xs values fits
 
 mask-all : (bits : List Bool) (xs : List Slot) → length bits ≡ length xs → count_by is_null (mask bits xs) ≡ 0 → mask bits xs ≡ xs
 mask-all [] [] fits none = refl
@@ -117,7 +139,7 @@ mask_at [] (x ∷ xs) i fits within = absurd (omega (arith, fits))
 mask_at (b ∷ bits) (x ∷ xs) zero fits within = refl
 mask_at (b ∷ bits) (x ∷ xs) (suc i) fits within = mask_at bits xs i (omega (arith, fits)) (omega (arith, within))
 
-row_at : (v : Option (List Bool)) (xs : List Slot) (i : ℕ) → FitsRows v (length xs) → i < length xs → get_or (masked v xs) i Null ≡ (if valid_at v i then get_or xs i Null else Null)
+pub row_at : (v : Option (List Bool)) (xs : List Slot) (i : ℕ) → FitsRows v (length xs) → i < length xs → get_or (masked v xs) i Null ≡ (if valid_at v i then get_or xs i Null else Null)
 row_at None xs i fits within = refl
 row_at (Some bits) xs i fits within = mask_at bits xs i fits within
 
@@ -151,6 +173,25 @@ rows_without_nulls {V} {slots} p array none = masked-all p.validity (slots p.val
 -- rows of which each is the same are the same
 pub all_same : (xs ys : List Slot) (n : ℕ) → length xs ≡ n → length ys ≡ n → take n xs ≡ take n ys → xs ≡ ys
 all_same xs ys n left right same = sym (take_all n xs (omega (arith, left))) ∙ (same ∙ take_all n ys (omega (arith, right)))
+
+-- all rows are a part from the first on
+pub sliced_all : {A : Type 0} (xs : List A) (start len : ℕ) → start + len ≤ length xs → len ≡ length xs → sliced xs start len ≡ xs
+sliced_all xs start len within whole =
+    let first : start ≡ 0 = omega (arith, within, whole) in
+    rw first (take_all len xs (omega (arith, whole)))
+
+-- two parts with one more row of each
+pub sliced_next : {A : Type 0} (xs ys : List A) (start other_start i : ℕ) (d : A) → start + i < length xs → other_start + i < length ys → sliced xs start i ≡ sliced ys other_start i → get_or xs (start + i) d ≡ get_or ys (other_start + i) d → sliced xs start (i + 1) ≡ sliced ys other_start (i + 1)
+sliced_next xs ys start other_start i d here there same row =
+    let next : i + 1 ≡ suc i = omega arith in
+    let left = take-suc (drop start xs) i d (omega (arith, here, length-drop start xs)) in
+    let right = take-suc (drop other_start ys) i d (omega (arith, there, length-drop other_start ys)) in
+    rw (next, left, right, get_or-drop start xs i d, get_or-drop other_start ys i d, same, row) refl
+
+-- a validity has a bit for each row that it is asked of
+pub bit_within : (v : Option (List Bool)) (n i : ℕ) → FitsRows v n → i < n → IfSome v (λ bits. i < length bits)
+bit_within None n i fits within = tt
+bit_within (Some bits) n i fits within = omega (arith, fits, within)
 
 -- equality by type and rows, where the types are equal
 pub same_where_types_are : (x y : ArrowType × List Slot) (r : Bool) → x.0 ≡ y.0 → Decides r (x.1 ≡ y.1) → r ≡ same_by meaning_code x y

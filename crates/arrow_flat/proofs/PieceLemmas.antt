@@ -43,12 +43,12 @@ piece_at (start ∷ offsets) xs i within =
 pub holds_at : {A : Type 0} (P : A → Type 0) (xs : List A) (i : ℕ) (x : A) → All P xs → slice_get xs i ≡ Some x → i < length xs → P x
 holds_at P xs i x all read within = subst P (get_or_from_slice_get xs i x x read) (all i x within)
 
-part_of_offsets : (os : List ℕ) (o n : ℕ) → IsOffsets os → o + n ≤ length os → 0 < n → IsOffsets (sliced os o n)
+pub part_of_offsets : (os : List ℕ) (o n : ℕ) → IsOffsets os → o + n ≤ length os → 0 < n → IsOffsets (sliced os o n)
 part_of_offsets os o n held within some =
     rw (map_sliced pos os o n) (sliced_offsets (map pos os) o n held (omega (arith, within, length-map os pos)) some)
 
 -- the last offset of a part is none behind the last
-last_of_part : (os : List ℕ) (o n : ℕ) → IsOffsets os → o + (n + 1) ≤ length os → last_of (sliced os o (n + 1)) ≤ last_of os
+pub last_of_part : (os : List ℕ) (o n : ℕ) → IsOffsets os → o + (n + 1) ≤ length os → last_of (sliced os o (n + 1)) ≤ last_of os
 last_of_part os o n held within =
     let long = length-sliced os o (n + 1) within in
     let last : length (sliced os o (n + 1)) - 1 ≡ n = omega (arith, long) in

@@ -1,6 +1,7 @@
 -- A flat array as contracts see it: its type, what is stored, and which rows are valid. Its rows follow.
-use Rattle.std.specs.Prelude.{◌≡◌, ℕ, Bool, false, Option, Some, None, List, length, option_map, refl}
+use Rattle.std.specs.Prelude.{◌≡◌, ℕ, Bool, false, not, Option, Some, None, List, length, map, count_by, option_map, refl}
 use Rattle.std.specs.Coded.{Coded, code_by, coded×, coded_list, coded_bool, coded_option}
+use Rattle.std.specs.List.{All}
 use Rattle.arrow_types.specs.ArrowType.{ArrowType}
 use Rattle.arrow_types.specs.Carried.{IsCarried}
 use Rattle.arrow_types.specs.Relation.{is_null}
@@ -26,6 +27,11 @@ abbrev pub FitsRows : Option (List Bool) → ℕ → Type 0
 FitsRows None n = Unit {0}
 FitsRows (Some validity) n = length validity ≡ n
 
+-- how many rows a validity marks as null
+abbrev pub unset_in : Option (List Bool) → ℕ
+unset_in None = 0
+unset_in (Some validity) = count_by not validity
+
 -- the rows: what is stored where it is valid, and Null elsewhere
 abbrev pub rows_by : {V : Type 0} → (V → List Slot) → Parts V → List Slot
 rows_by slots p = masked p.validity (slots p.values)
@@ -49,6 +55,11 @@ with_bits p validity = record { arrow_type = p.arrow_type; values = p.values; va
 -- a slot that is not null
 abbrev pub IsValue : Slot → Type 0
 IsValue s = is_null s ≡ false
+
+-- a validity that marks the null rows: without it none is null, and else its bits are set where a row is not
+abbrev pub MarksNulls : Option (List Bool) → List Slot → Type 0
+MarksNulls None xs = All IsValue xs
+MarksNulls (Some validity) xs = validity ≡ map (λ s. not (is_null s)) xs
 
 -- the parts of an array: a carried type whose rows are stored so, and a validity with a bit for each row
 pub record IsArray {V : Type 0} (slots : V → List Slot) (are_of : V → ArrowType → Type 0) (p : Parts V) : Type 0 where

@@ -12,7 +12,7 @@ ghost use Rattle.arrow_types.specs.Rows.{valid_at};
 ghost use Rattle.arrow_types.specs.TypeOf.{type_of};
 ghost use Rattle.arrow_memory.specs.Sliced.{sliced};
 ghost use Rattle.arrow_flat.specs.Faults.{IsCarriedAs};
-ghost use Rattle.arrow_flat.specs.Parts.{Parts, FitsRows, IsValue, rows_by, meaning_by, meaning_code, part_by, with_bits};
+ghost use Rattle.arrow_flat.specs.Parts.{Parts, FitsRows, IsValue, MarksNulls, rows_by, meaning_by, meaning_code, part_by, with_bits};
 
 mod any_primitive;
 mod boolean;
@@ -20,6 +20,7 @@ mod byte_rows;
 mod fixed_size_binary;
 mod null;
 mod primitive;
+pub mod validity;
 
 pub use any_primitive::AnyPrimitive;
 use arrow_memory::bitmap::Bitmap;
@@ -56,11 +57,11 @@ pub trait Values: Clone + Drop {
     fn equal(&self, other: &Self) -> bool
         ensures { IsTrue result ↔ (slots self.now ≡ slots other.now) };
 
-    /// Whether the same is stored in row `i`.
-    fn equal_at(&self, other: &Self, i: usize) -> bool
+    /// Whether the same is stored in row `i` as in row `j` of the other.
+    fn equal_at(&self, i: usize, other: &Self, j: usize) -> bool
         requires here { i < length (slots self.now) }
-        requires there { i < length (slots other.now) }
-        ensures { IsTrue result ↔ (slice_index_or (slots self.now) i Null ≡ slice_index_or (slots other.now) i Null) };
+        requires there { j < length (slots other.now) }
+        ensures { IsTrue result ↔ (slice_index_or (slots self.now) i Null ≡ slice_index_or (slots other.now) j Null) };
 
     ghost copies: { (x y : Self) → Self.is_clone x y → y ≡ x };
 
@@ -125,6 +126,7 @@ impl<V: Values> FlatArray<V> {
     pub fn validity(&self) -> Option<&Bitmap>
         ensures same { option_copied result ≡ self.now.validity }
         ensures fits { FitsRows self.now.validity (length (V.slots self.now.values)) }
+        ensures marks { MarksNulls (option_copied result) (rows_by V.slots self.now) }
     {
         self.validity.as_ref()
     }
@@ -133,10 +135,7 @@ impl<V: Values> FlatArray<V> {
     pub fn null_count(&self) -> usize
         ensures { result ≡ count_by is_null (rows_by V.slots self.now) }
     {
-        match &self.validity {
-            None => 0,
-            Some(validity) => validity.unset_bits(),
-        }
+        validity::unset_bits(&self.validity)
     }
 
     /// Keeps `len` rows from row `offset` on. Nothing is copied.
@@ -146,7 +145,7 @@ impl<V: Values> FlatArray<V> {
         ensures rows { rows_by V.slots self.new ≡ sliced (rows_by V.slots self.old) offset len }
     {
         self.values.slice(offset, len);
-        slice_validity(&mut self.validity, offset, len);
+        validity::slice(&mut self.validity, offset, len);
     }
 
     /// The `len` rows from row `offset` on. Nothing is copied.
@@ -169,73 +168,75 @@ impl<V: Values> FlatArray<V> {
     }
 
     /// Whether row `i` is valid.
-    fn is_valid(&self, i: usize) -> bool
+    pub fn is_valid(&self, i: usize) -> bool
         requires { i < length (V.slots self.now.values) }
         ensures { result ≡ valid_at self.now.validity i }
     {
-        match &self.validity {
-            None => true,
-            Some(validity) => validity.get_bit(i),
-        }
+        validity::is_valid(&self.validity, i)
     }
 
-    /// Whether row `i` is the same, null or not.
-    fn equal_row(&self, other: &FlatArray<V>, i: usize) -> bool
+    /// Whether row `i` is the same as row `j` of the other, null or not.
+    fn equal_row(&self, i: usize, other: &FlatArray<V>, j: usize) -> bool
         requires here { i < length (V.slots self.now.values) }
-        requires there { i < length (V.slots other.now.values) }
-        ensures { IsTrue result ↔ (slice_index_or (rows_by V.slots self.now) i Null ≡ slice_index_or (rows_by V.slots other.now) i Null) }
+        requires there { j < length (V.slots other.now.values) }
+        ensures { IsTrue result ↔ (slice_index_or (rows_by V.slots self.now) i Null ≡ slice_index_or (rows_by V.slots other.now) j Null) }
     {
-        match (self.is_valid(i), other.is_valid(i)) {
-            (true, true) => self.values.equal_at(&other.values, i),
+        match (self.is_valid(i), other.is_valid(j)) {
+            (true, true) => self.values.equal_at(i, &other.values, j),
             (false, false) => true,
             (true, false) | (false, true) => false,
         }
     }
 
-    /// Whether the rows are the same: at once where none is null, and else row by row.
-    pub(crate) fn equal_rows(&self, other: &FlatArray<V>) -> bool
-        ensures { IsTrue result ↔ (rows_by V.slots self.now ≡ rows_by V.slots other.now) }
+    /// Whether `len` rows from row `start` on are the same as those of the other from row
+    /// `other_start` on, null or not: at once where these are all rows and none is null, and else row
+    /// by row.
+    pub fn equal_range(
+        &self,
+        start: usize,
+        other: &FlatArray<V>,
+        other_start: usize,
+        len: usize,
+    ) -> bool
+        requires here { start + len ≤ length (rows_by V.slots self.now) }
+        requires there { other_start + len ≤ length (rows_by V.slots other.now) }
+        ensures { IsTrue result ↔ (sliced (rows_by V.slots self.now) start len ≡ sliced (rows_by V.slots other.now) other_start len) }
     {
-        if self.len() != other.len() {
-            return false;
-        }
-        if self.null_count() == 0 && other.null_count() == 0 {
+        let (rows, other_rows) = (self.len(), other.len());
+        let is_whole = len == rows && len == other_rows;
+        if is_whole && self.is_without_nulls() && other.is_without_nulls() {
             return self.values.equal(&other.values);
         }
-        for i in 0..self.len() {
-            if !self.equal_row(other, i) {
+        for i in 0..len {
+            if !self.equal_row(start + i, other, other_start + i) {
                 return false;
             }
         }
         true
     }
-}
 
-/// Keeps `len` bits of a validity from place `offset` on.
-fn slice_validity(validity: &mut Option<Bitmap>, offset: usize, len: usize)
-    requires { IfSome validity.old (λ bits. offset + len ≤ length bits) }
-    ensures { validity.new ≡ option_map (λ bits. sliced bits offset len) validity.old }
-{
-    if let Some(validity) = validity {
-        validity.slice(offset, len);
+    /// Whether the rows are the same.
+    fn equal_rows(&self, other: &FlatArray<V>) -> bool
+        ensures { IsTrue result ↔ (rows_by V.slots self.now ≡ rows_by V.slots other.now) }
+    {
+        let len = self.len();
+        len == other.len() && self.equal_range(0, other, 0, len)
+    }
+
+    /// Whether no row is null: then the rows are what is stored.
+    fn is_without_nulls(&self) -> bool
+        ensures { IsTrue result → rows_by V.slots self.now ≡ V.slots self.now.values }
+    {
+        let _ = &self.validity;
+        self.null_count() == 0
     }
 }
 
 /// Whether a data type is carried and lies in memory so.
-pub(crate) fn is_carried_as(data_type: &DataType, layout: PhysicalType) -> bool
+pub fn is_carried_as(data_type: &DataType, layout: PhysicalType) -> bool
     ensures { IsTrue result ↔ IsCarriedAs layout (type_of data_type.now) }
 {
     data_type.is_carried() && data_type.to_physical_type() == layout
-}
-
-/// Whether a validity, where there is one, has a bit for each of so many rows.
-fn fits_rows(validity: &Option<Bitmap>, len: usize) -> bool
-    ensures { IsTrue result ↔ FitsRows validity.now len }
-{
-    match validity {
-        None => true,
-        Some(validity) => validity.len() == len,
-    }
 }
 
 /// A clone shares what is stored and copies none of it. It takes the memory of the data type's names.

@@ -10,7 +10,7 @@ ghost use Rattle.arrow_types.specs.TypeOf.{type_of};
 ghost use Rattle.arrow_types.specs.declared.datatypes.physical_type.PhysicalType.TheVariants as physical;
 ghost use Rattle.arrow_memory.specs.Sliced.{sliced};
 ghost use Rattle.arrow_flat.specs.AnyPrimitive.{any_parts, any_type, any_rows, any_meaning, element_of};
-ghost use Rattle.arrow_flat.specs.Parts.{meaning_code};
+ghost use Rattle.arrow_flat.specs.Parts.{MarksNulls, meaning_code};
 
 use crate::array::PrimitiveArray;
 use arrow_memory::bitmap::Bitmap;
@@ -51,6 +51,27 @@ macro_rules! of_any {
             AnyPrimitive::UInt64($array) => $result,
             AnyPrimitive::DaysMs($array) => $result,
             AnyPrimitive::MonthDayNano($array) => $result,
+        }
+    };
+}
+
+/// What an expression says of two arrays of one element type.
+macro_rules! of_both {
+    ($both:expr, ($left:ident, $right:ident) => $result:expr) => {
+        match $both {
+            (AnyPrimitive::Int8($left), AnyPrimitive::Int8($right)) => $result,
+            (AnyPrimitive::Int16($left), AnyPrimitive::Int16($right)) => $result,
+            (AnyPrimitive::Int32($left), AnyPrimitive::Int32($right)) => $result,
+            (AnyPrimitive::Int64($left), AnyPrimitive::Int64($right)) => $result,
+            (AnyPrimitive::Int128($left), AnyPrimitive::Int128($right)) => $result,
+            (AnyPrimitive::Int256($left), AnyPrimitive::Int256($right)) => $result,
+            (AnyPrimitive::UInt8($left), AnyPrimitive::UInt8($right)) => $result,
+            (AnyPrimitive::UInt16($left), AnyPrimitive::UInt16($right)) => $result,
+            (AnyPrimitive::UInt32($left), AnyPrimitive::UInt32($right)) => $result,
+            (AnyPrimitive::UInt64($left), AnyPrimitive::UInt64($right)) => $result,
+            (AnyPrimitive::DaysMs($left), AnyPrimitive::DaysMs($right)) => $result,
+            (AnyPrimitive::MonthDayNano($left), AnyPrimitive::MonthDayNano($right)) => $result,
+            _ => unreachable!(),
         }
     };
 }
@@ -101,7 +122,8 @@ impl AnyPrimitive {
 
     /// The validity: a bit for each row, set where the row is valid. Without it no row is null.
     pub fn validity(&self) -> Option<&Bitmap>
-        ensures { option_copied result ≡ (any_parts self.now).validity }
+        ensures same { option_copied result ≡ (any_parts self.now).validity }
+        ensures marks { MarksNulls (option_copied result) (any_rows self.now) }
     {
         of_any!(self, array => array.validity())
     }
@@ -131,27 +153,30 @@ impl AnyPrimitive {
         map_any!(self, array => array.sliced(offset, len))
     }
 
-    /// Whether the rows are the same, of two arrays of one data type.
+    /// Whether `len` rows from row `start` on are the same as those of the other from row
+    /// `other_start` on, null or not. Both arrays have the same element type.
+    pub fn equal_range(
+        &self,
+        start: usize,
+        other: &AnyPrimitive,
+        other_start: usize,
+        len: usize,
+    ) -> bool
+        requires one_type { element_of self.now ≡ element_of other.now }
+        requires here { start + len ≤ length (any_rows self.now) }
+        requires there { other_start + len ≤ length (any_rows other.now) }
+        ensures { IsTrue result ↔ (sliced (any_rows self.now) start len ≡ sliced (any_rows other.now) other_start len) }
+    {
+        of_both!((self, other), (left, right) => left.equal_range(start, right, other_start, len))
+    }
+
+    /// Whether the rows are the same, of two arrays of one element type.
     fn equal_rows(&self, other: &AnyPrimitive) -> bool
         requires { element_of self.now ≡ element_of other.now }
         ensures { IsTrue result ↔ (any_rows self.now ≡ any_rows other.now) }
     {
-        match (self, other) {
-            (AnyPrimitive::Int8(left), AnyPrimitive::Int8(right)) => left.equal_rows(right),
-            (AnyPrimitive::Int16(left), AnyPrimitive::Int16(right)) => left.equal_rows(right),
-            (AnyPrimitive::Int32(left), AnyPrimitive::Int32(right)) => left.equal_rows(right),
-            (AnyPrimitive::Int64(left), AnyPrimitive::Int64(right)) => left.equal_rows(right),
-            (AnyPrimitive::Int128(left), AnyPrimitive::Int128(right)) => left.equal_rows(right),
-            (AnyPrimitive::Int256(left), AnyPrimitive::Int256(right)) => left.equal_rows(right),
-            (AnyPrimitive::UInt8(left), AnyPrimitive::UInt8(right)) => left.equal_rows(right),
-            (AnyPrimitive::UInt16(left), AnyPrimitive::UInt16(right)) => left.equal_rows(right),
-            (AnyPrimitive::UInt32(left), AnyPrimitive::UInt32(right)) => left.equal_rows(right),
-            (AnyPrimitive::UInt64(left), AnyPrimitive::UInt64(right)) => left.equal_rows(right),
-            (AnyPrimitive::DaysMs(left), AnyPrimitive::DaysMs(right)) => left.equal_rows(right),
-            (AnyPrimitive::MonthDayNano(left), AnyPrimitive::MonthDayNano(right)) =>
-                left.equal_rows(right),
-            _ => unreachable!(),
-        }
+        let len = self.len();
+        len == other.len() && self.equal_range(0, other, 0, len)
     }
 }
 

@@ -12,7 +12,7 @@ ghost use Rattle.arrow_memory.proofs.OffsetLemmas.{map_sliced};
 ghost use Rattle.arrow_flat.specs.Faults.{IsCarriedAs, NamesKindOrLength};
 ghost use Rattle.arrow_flat.specs.Parts.{FitsRows, IsValue};
 
-use crate::array::{FlatArray, Values, fits_rows, is_carried_as};
+use crate::array::{FlatArray, Values, is_carried_as, validity};
 use arrow_memory::bitmap::Bitmap;
 use arrow_types::datatypes::{DataType, PhysicalType};
 use arrow_types::error::{Error, SpecPart};
@@ -39,8 +39,8 @@ impl Values for Bitmap {
         self == other
     }
 
-    fn equal_at(&self, other: &Bitmap, i: usize) -> bool {
-        self.get_bit(i) == other.get_bit(i)
+    fn equal_at(&self, i: usize, other: &Bitmap, j: usize) -> bool {
+        self.get_bit(i) == other.get_bit(j)
     }
 
     ghost copies = { Prim.search rules };
@@ -70,7 +70,7 @@ impl FlatArray<Bitmap> {
         if !is_carried_as(&data_type, PhysicalType::Boolean) {
             return Err(Error::OutOfSpec(SpecPart::Kind));
         }
-        if !fits_rows(&validity, values.len()) {
+        if !validity::fits_rows(&validity, values.len()) {
             return Err(Error::OutOfSpec(SpecPart::Length));
         }
         Ok(FlatArray {

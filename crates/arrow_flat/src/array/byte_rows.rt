@@ -17,7 +17,7 @@ ghost use Rattle.arrow_flat.specs.Parts.{FitsRows, IsValue};
 ghost use Rattle.arrow_flat.specs.PieceLaws.{slots_of_pieces};
 ghost use Rattle.arrow_flat.specs.Pieces.{pieces};
 
-use crate::array::{FlatArray, Values, fits_rows, is_carried_as};
+use crate::array::{FlatArray, Values, is_carried_as, validity};
 use arrow_memory::bitmap::Bitmap;
 use arrow_memory::buffer::Buffer;
 use arrow_memory::offset::OffsetsBuffer;
@@ -190,15 +190,15 @@ impl<O: Offset, K: ByteKind> Values for ByteRows<O, K> {
             return false;
         }
         for i in 0..self.len() {
-            if !self.equal_at(other, i) {
+            if !self.equal_at(i, other, i) {
                 return false;
             }
         }
         true
     }
 
-    fn equal_at(&self, other: &ByteRows<O, K>, i: usize) -> bool {
-        self.row(i) == other.row(i)
+    fn equal_at(&self, i: usize, other: &ByteRows<O, K>, j: usize) -> bool {
+        self.row(i) == other.row(j)
     }
 
     ghost copies = { Prim.search rules };
@@ -258,7 +258,7 @@ impl<O: Offset, K: ByteKind> FlatArray<ByteRows<O, K>> {
         if !is_carried_as(&data_type, K::layout(O::IS_LARGE)) {
             return Err(Error::OutOfSpec(SpecPart::Kind));
         }
-        if !fits_rows(&validity, offsets.len() - 1) {
+        if !validity::fits_rows(&validity, offsets.len() - 1) {
             return Err(Error::OutOfSpec(SpecPart::Length));
         }
         if offsets.last().to_usize() > values.len() {

@@ -12,7 +12,7 @@ ghost use Rattle.arrow_flat.specs.FixedRows.{FixedParts, fixed_row_bytes, fixed_
 ghost use Rattle.arrow_flat.specs.Parts.{IsValue};
 ghost use Rattle.arrow_flat.specs.PieceLaws.{slots_of_chunks};
 
-use crate::array::{FlatArray, Values, fits_rows, is_carried_as};
+use crate::array::{FlatArray, Values, is_carried_as, validity};
 use arrow_memory::bitmap::Bitmap;
 use arrow_memory::buffer::Buffer;
 use arrow_types::datatypes::{DataType, PhysicalType};
@@ -86,8 +86,8 @@ impl Values for FixedRows {
         self.count == other.count && self.bytes.as_slice() == other.bytes.as_slice()
     }
 
-    fn equal_at(&self, other: &FixedRows, i: usize) -> bool {
-        self.row(i) == other.row(i)
+    fn equal_at(&self, i: usize, other: &FixedRows, j: usize) -> bool {
+        self.row(i) == other.row(j)
     }
 
     ghost copies = { Prim.search rules };
@@ -146,7 +146,7 @@ impl FlatArray<FixedRows> {
         let size = fixed_size(&data_type);
         let len = values.len();
         let count = len / size;
-        if len % size != 0 || !fits_rows(&validity, count) {
+        if len % size != 0 || !validity::fits_rows(&validity, count) {
             return Err(Error::OutOfSpec(SpecPart::Length));
         }
         Ok(FlatArray {

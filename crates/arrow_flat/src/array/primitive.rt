@@ -11,7 +11,7 @@ ghost use Rattle.arrow_flat.specs.Faults.{IsCarriedAs, NamesKindOrLength};
 ghost use Rattle.arrow_flat.specs.Laws.{all_values};
 ghost use Rattle.arrow_flat.specs.Parts.{FitsRows};
 
-use crate::array::{FlatArray, Values, fits_rows, is_carried_as};
+use crate::array::{FlatArray, Values, is_carried_as, validity};
 use arrow_memory::bitmap::Bitmap;
 use arrow_memory::buffer::Buffer;
 use arrow_types::datatypes::{DataType, PhysicalType};
@@ -40,8 +40,8 @@ impl<T: NativeType> Values for Buffer<T> {
         self.as_slice() == other.as_slice()
     }
 
-    fn equal_at(&self, other: &Buffer<T>, i: usize) -> bool {
-        self.as_slice()[i] == other.as_slice()[i]
+    fn equal_at(&self, i: usize, other: &Buffer<T>, j: usize) -> bool {
+        self.as_slice()[i] == other.as_slice()[j]
     }
 
     ghost copies = { Prim.search rules };
@@ -71,7 +71,7 @@ impl<T: NativeType> FlatArray<Buffer<T>> {
         if !is_carried_as(&data_type, PhysicalType::Primitive(T::PRIMITIVE)) {
             return Err(Error::OutOfSpec(SpecPart::Kind));
         }
-        if !fits_rows(&validity, values.len()) {
+        if !validity::fits_rows(&validity, values.len()) {
             return Err(Error::OutOfSpec(SpecPart::Length));
         }
         Ok(FlatArray {

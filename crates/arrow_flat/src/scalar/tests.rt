@@ -7,166 +7,166 @@ use std::process::Abort;
 
 #[test]
 fn truth_values(rt: HostRuntime) {
-    let scalar = BooleanScalar::new(Some(true));
-    assert!(rt; scalar.is_valid() && scalar.value() == Some(true));
-    assert!(rt; *scalar.data_type() == DataType::Boolean);
-    let null = BooleanScalar::new(None);
-    assert!(rt; !null.is_valid() && null.value() == None);
-    assert!(rt; *null.data_type() == DataType::Boolean);
+    for value in [None, Some(false), Some(true)] {
+        let scalar = BooleanScalar::new(value);
+        assert!(rt; scalar.value() == value && scalar.is_valid() == value.is_some());
+        assert!(rt; *scalar.data_type() == DataType::Boolean);
+    }
 }
 
-/// A value and a null of this data type.
-fn check_number<T: NativeType>(rt: &impl Abort, value: T, types: (DataType, DataType)) {
-    let valid = PrimitiveScalar::try_new(types.0, Some(value));
-    assert!(rt; valid.is_ok_and(|scalar| scalar.is_valid() && scalar.value() == Some(value)));
-    let null = PrimitiveScalar::<T>::try_new(types.1, None);
-    assert!(rt; null.is_ok_and(|scalar| !scalar.is_valid() && scalar.value().is_none()));
+/// A number of this data type, or a null.
+fn number<T: NativeType>(
+    rt: &impl Abort,
+    data_type: DataType,
+    value: Option<T>,
+) -> PrimitiveScalar<T> {
+    let scalar = PrimitiveScalar::try_new(data_type, value).expect(rt, "a type of such numbers");
+    assert!(rt; scalar.value() == value && scalar.is_valid() == value.is_some());
+    scalar
+}
+
+/// A scalar of any element type, valid or null.
+fn check_any(rt: &impl Abort, scalar: AnyPrimitiveScalar, data_type: DataType, is_valid: bool) {
+    assert!(rt; *scalar.data_type() == data_type && scalar.is_valid() == is_valid);
+    let any = AnyScalar::Primitive(scalar);
+    assert!(rt; *any.data_type() == data_type && any.is_valid() == is_valid);
+}
+
+fn check_integers(rt: &impl Abort) {
+    let scalar = number(rt, DataType::Int8, Some(i8::MIN));
+    check_any(rt, AnyPrimitiveScalar::Int8(scalar), DataType::Int8, true);
+    let scalar = number(rt, DataType::Int16, Some(i16::MIN));
+    check_any(rt, AnyPrimitiveScalar::Int16(scalar), DataType::Int16, true);
+    let scalar = number(rt, DataType::Date32, Some(i32::MIN));
+    check_any(
+        rt,
+        AnyPrimitiveScalar::Int32(scalar),
+        DataType::Date32,
+        true,
+    );
+    let scalar = number::<i64>(rt, DataType::Date64, None);
+    check_any(
+        rt,
+        AnyPrimitiveScalar::Int64(scalar),
+        DataType::Date64,
+        false,
+    );
+    let scalar = number(rt, DataType::UInt8, Some(u8::MAX));
+    check_any(rt, AnyPrimitiveScalar::UInt8(scalar), DataType::UInt8, true);
+    let scalar = number(rt, DataType::UInt16, Some(u16::MAX));
+    check_any(
+        rt,
+        AnyPrimitiveScalar::UInt16(scalar),
+        DataType::UInt16,
+        true,
+    );
+    let scalar = number(rt, DataType::UInt32, Some(u32::MAX));
+    check_any(
+        rt,
+        AnyPrimitiveScalar::UInt32(scalar),
+        DataType::UInt32,
+        true,
+    );
+    let scalar = number(rt, DataType::UInt64, Some(u64::MAX));
+    check_any(
+        rt,
+        AnyPrimitiveScalar::UInt64(scalar),
+        DataType::UInt64,
+        true,
+    );
 }
 
 #[test]
 fn numbers(rt: HostRuntime) {
-    check_number(&rt, -8i8, (DataType::Int8, DataType::Int8));
-    check_number(&rt, -16i16, (DataType::Int16, DataType::Int16));
-    check_number(&rt, -32i32, (DataType::Int32, DataType::Date32));
-    check_number(
+    check_integers(&rt);
+    let scalar = number(&rt, DataType::Decimal(38, 2), Some(i128::MIN));
+    check_any(
         &rt,
-        -64i64,
-        (DataType::Int64, DataType::Duration(TimeUnit::Second)),
+        AnyPrimitiveScalar::Int128(scalar),
+        DataType::Decimal(38, 2),
+        true,
     );
-    check_number(&rt, 8u8, (DataType::UInt8, DataType::UInt8));
-    check_number(&rt, 16u16, (DataType::UInt16, DataType::UInt16));
-    check_number(&rt, 32u32, (DataType::UInt32, DataType::UInt32));
-    check_number(&rt, 64u64, (DataType::UInt64, DataType::UInt64));
-}
-
-#[test]
-fn wide_numbers_and_intervals(rt: HostRuntime) {
-    check_number(
+    let scalar = number(&rt, DataType::Decimal256(76, 2), Some(i256::new(-1, 7)));
+    check_any(
         &rt,
-        5i128,
-        (DataType::Decimal(9, 2), DataType::Decimal(38, 0)),
-    );
-    let wide = i256::new(-1, 7);
-    check_number(
-        &rt,
-        wide,
-        (DataType::Decimal256(76, 1), DataType::Decimal256(9, 9)),
+        AnyPrimitiveScalar::Int256(scalar),
+        DataType::Decimal256(76, 2),
+        true,
     );
     let days = DataType::Interval(IntervalUnit::DayTime);
-    check_number(
+    let scalar = number(
         &rt,
-        days_ms::new(1, -2),
-        (days, DataType::Interval(IntervalUnit::DayTime)),
-    );
-    let months = DataType::Interval(IntervalUnit::MonthDayNano);
-    let other = DataType::Interval(IntervalUnit::MonthDayNano);
-    check_number(&rt, months_days_ns::new(1, -2, 3), (months, other));
-}
-
-/// Whether a number of 32 bits of this data type is refused for its kind.
-fn is_refused(data_type: DataType) -> bool {
-    match PrimitiveScalar::try_new(data_type, Some(1i32)) {
-        Err(error) => error == Error::OutOfSpec(SpecPart::Kind),
-        Ok(_) => false,
-    }
-}
-
-/// A scalar of any element type, valid or null.
-fn check_any(rt: &impl Abort, scalar: AnyPrimitiveScalar, data_type: &DataType, is_valid: bool) {
-    assert!(rt; scalar.data_type() == data_type && scalar.is_valid() == is_valid);
-    let any = AnyScalar::Primitive(scalar);
-    assert!(rt; any.data_type() == data_type && any.is_valid() == is_valid);
-}
-
-fn check_element_types(rt: &impl Abort) -> Result<(), Error> {
-    let byte = PrimitiveScalar::try_new(DataType::UInt8, Some(255u8))?;
-    check_any(rt, AnyPrimitiveScalar::UInt8(byte), &DataType::UInt8, true);
-    let date = PrimitiveScalar::<i64>::try_new(DataType::Date64, None)?;
-    check_any(
-        rt,
-        AnyPrimitiveScalar::Int64(date),
-        &DataType::Date64,
-        false,
-    );
-    let days = PrimitiveScalar::try_new(
         DataType::Interval(IntervalUnit::DayTime),
         Some(days_ms::new(0, 0)),
-    )?;
-    let data_type = DataType::Interval(IntervalUnit::DayTime);
-    check_any(rt, AnyPrimitiveScalar::DaysMs(days), &data_type, true);
-    Ok(())
-}
-
-#[test]
-fn any_element_type(rt: HostRuntime) {
-    assert_eq!(rt; check_element_types(&rt), Ok(()));
-}
-
-/// A null of each type that has a scalar.
-#[test]
-fn any_scalar(rt: HostRuntime) {
-    let nulls = [
-        (
-            AnyScalar::Boolean(BooleanScalar::new(None)),
-            DataType::Boolean,
-        ),
-        (AnyScalar::Utf8(Utf8Scalar::new(None)), DataType::Utf8),
-        (
-            AnyScalar::LargeUtf8(Utf8Scalar::new(None)),
-            DataType::LargeUtf8,
-        ),
-        (AnyScalar::Binary(BinaryScalar::new(None)), DataType::Binary),
-        (
-            AnyScalar::LargeBinary(BinaryScalar::new(None)),
-            DataType::LargeBinary,
-        ),
+    );
+    check_any(&rt, AnyPrimitiveScalar::DaysMs(scalar), days, true);
+    let months = DataType::Interval(IntervalUnit::MonthDayNano);
+    let scalar = number(
+        &rt,
+        DataType::Interval(IntervalUnit::MonthDayNano),
+        Some(months_days_ns::new(1, -2, 3)),
+    );
+    assert_eq!(rt; scalar.data_type(), &months);
+    check_any(&rt, AnyPrimitiveScalar::MonthDayNano(scalar), months, true);
+    let others = [
+        DataType::Int64,
+        DataType::UInt32,
+        DataType::Float32,
+        DataType::Utf8,
     ];
-    for (null, data_type) in nulls {
-        assert!(rt; !null.is_valid() && *null.data_type() == data_type);
+    for data_type in others {
+        let refused = PrimitiveScalar::try_new(data_type, Some(1i32)).err();
+        assert_eq!(rt; refused, Some(Error::OutOfSpec(SpecPart::Kind)));
     }
+    number::<i32>(&rt, DataType::Time32(TimeUnit::Millisecond), None);
 }
 
-#[test]
-fn kinds_of_numbers(rt: HostRuntime) {
-    assert!(rt; is_refused(DataType::Int64));
-    assert!(rt; is_refused(DataType::UInt32));
-    assert!(rt; is_refused(DataType::Float32));
-    assert!(rt; is_refused(DataType::Utf8));
-    assert!(rt; !is_refused(DataType::Time32(TimeUnit::Millisecond)));
-}
-
-fn check_texts(rt: &(impl Abort + Alloc<A = Global>)) -> Result<(), Error> {
+fn check_texts_and_bytes(rt: &(impl Abort + Alloc<A = Global>)) -> Result<(), Error> {
     let text = String::from_str(rt.alloc(), "h\u{e9}")?;
-    let scalar = Utf8Scalar::<i32>::new(Some(text));
-    assert!(rt; scalar.is_valid() && scalar.value() == Some("h\u{e9}"));
-    assert!(rt; *scalar.data_type() == DataType::Utf8);
-    let null = Utf8Scalar::<i64>::new(None);
-    assert!(rt; !null.is_valid() && null.value().is_none());
-    assert!(rt; *null.data_type() == DataType::LargeUtf8);
+    let bytes = vec![in rt.alloc(); 255, 0]?;
+    let text = Utf8Scalar::<i32>::new(Some(text));
+    assert!(rt; text.is_valid() && text.value() == Some("h\u{e9}"));
+    assert!(rt; *text.data_type() == DataType::Utf8);
+    let bytes = BinaryScalar::<i64>::new(Some(bytes));
+    assert!(rt; bytes.is_valid() && bytes.value() == Some([255, 0].as_slice()));
+    assert!(rt; *bytes.data_type() == DataType::LargeBinary);
     Ok(())
 }
 
+/// A null of this type.
+fn check_null(rt: &impl Abort, null: AnyScalar, data_type: DataType) {
+    assert!(rt; !null.is_valid() && *null.data_type() == data_type);
+}
+
 #[test]
-fn texts(rt: HostRuntime) {
+fn texts_and_bytes(rt: HostRuntime) {
     // A request for memory that is refused is made once more.
-    let outcome = check_texts(&rt).or_else(|_| check_texts(&rt));
-    assert_eq!(rt; outcome, Ok(()));
-}
-
-fn check_bytes(rt: &(impl Abort + Alloc<A = Global>)) -> Result<(), Error> {
-    let scalar = BinaryScalar::<i64>::new(Some(vec![in rt.alloc(); 255, 0]?));
-    assert!(rt; scalar.is_valid() && scalar.value() == Some([255, 0].as_slice()));
-    assert!(rt; *scalar.data_type() == DataType::LargeBinary);
-    let null = BinaryScalar::<i32>::new(None);
-    assert!(rt; !null.is_valid() && null.value().is_none());
-    assert!(rt; *null.data_type() == DataType::Binary);
-    Ok(())
-}
-
-#[test]
-fn bytes(rt: HostRuntime) {
-    let outcome = check_bytes(&rt).or_else(|_| check_bytes(&rt));
-    assert_eq!(rt; outcome, Ok(()));
+    if check_texts_and_bytes(&rt).is_err() {
+        assert_eq!(rt; check_texts_and_bytes(&rt), Ok(()));
+    }
+    assert!(rt; Utf8Scalar::<i64>::new(None).value().is_none());
+    assert!(rt; BinaryScalar::<i32>::new(None).value().is_none());
+    check_null(
+        &rt,
+        AnyScalar::Boolean(BooleanScalar::new(None)),
+        DataType::Boolean,
+    );
+    check_null(&rt, AnyScalar::Utf8(Utf8Scalar::new(None)), DataType::Utf8);
+    check_null(
+        &rt,
+        AnyScalar::LargeUtf8(Utf8Scalar::new(None)),
+        DataType::LargeUtf8,
+    );
+    check_null(
+        &rt,
+        AnyScalar::Binary(BinaryScalar::new(None)),
+        DataType::Binary,
+    );
+    check_null(
+        &rt,
+        AnyScalar::LargeBinary(BinaryScalar::new(None)),
+        DataType::LargeBinary,
+    );
 }
 
 /// A dictionary of values of this type.
@@ -174,83 +174,48 @@ fn dictionary_of(alloc: Global, values: DataType) -> Result<DataType, Error> {
     Ok(DataType::Dictionary(IntegerType::Int8, Box::new(alloc, values)?, false))
 }
 
-/// The text "a" as a scalar.
-fn text_scalar(alloc: Global) -> Result<AnyScalar, Error> {
-    let text = String::from_str(alloc, "a")?;
-    Ok(AnyScalar::Utf8(Utf8Scalar::new(Some(text))))
+/// A text as a value of a dictionary.
+fn entry(alloc: Global) -> Result<Option<Box<AnyScalar>>, Error> {
+    let text = Utf8Scalar::new(Some(String::from_str(alloc, "a")?));
+    Ok(Some(Box::new(alloc, AnyScalar::Utf8(text))?))
 }
 
-/// The text "a" in a dictionary of this type.
-fn entry_of(alloc: Global, data_type: DataType) -> Result<DictionaryScalar, Error> {
-    DictionaryScalar::try_new(data_type, Some(Box::new(alloc, text_scalar(alloc)?)?))
-}
-
-/// The text of a scalar, if it is one.
-fn text_in(scalar: Option<&AnyScalar>) -> Option<&str> {
-    match scalar {
-        Some(AnyScalar::Utf8(scalar)) => scalar.value(),
-        _ => None,
-    }
-}
-
+/// Refused are a type that is no dictionary's, and a value of another type than its values.
 fn check_dictionary(rt: &(impl Abort + Alloc<A = Global>)) -> Result<(), Error> {
-    let alloc = rt.alloc();
-    let scalar = entry_of(alloc, dictionary_of(alloc, DataType::Utf8)?)?;
-    assert!(rt; scalar.is_valid());
-    assert_eq!(rt; text_in(scalar.value()), Some("a"));
-    assert!(rt; *scalar.data_type() == dictionary_of(alloc, DataType::Utf8)?);
-    let null = DictionaryScalar::try_new(dictionary_of(alloc, DataType::Int32)?, None)?;
+    let refused = DictionaryScalar::try_new(DataType::Utf8, entry(rt.alloc())?).err();
+    assert_eq!(rt; refused, Some(Error::OutOfSpec(SpecPart::Kind)));
+    let others = dictionary_of(rt.alloc(), DataType::LargeUtf8)?;
+    let null = DictionaryScalar::try_new(others.clone()?, None)?;
     assert!(rt; !null.is_valid() && null.value().is_none());
+    let refused = DictionaryScalar::try_new(others, entry(rt.alloc())?).err();
+    assert_eq!(rt; refused, Some(Error::OutOfSpec(SpecPart::Child)));
+    let texts = dictionary_of(rt.alloc(), DataType::Utf8)?;
+    let scalar = DictionaryScalar::try_new(texts.clone()?, entry(rt.alloc())?)?;
+    assert!(rt; scalar.is_valid() && *scalar.data_type() == texts);
+    assert!(rt; matches!(scalar.value(), Some(AnyScalar::Utf8(text)) if text.value() == Some("a")));
+    Ok(())
+}
+
+/// An entry of a dictionary in a dictionary, extensions around the types apart.
+fn check_nested(rt: &(impl Abort + Alloc<A = Global>)) -> Result<(), Error> {
+    let texts = dictionary_of(rt.alloc(), DataType::Utf8)?;
+    let inner = DictionaryScalar::try_new(texts.clone()?, entry(rt.alloc())?)?;
+    let name = String::from_str(rt.alloc(), "words")?;
+    let named = DataType::Extension(name, Box::new(rt.alloc(), texts)?, None);
+    let outer = dictionary_of(rt.alloc(), named)?;
+    let value = Box::new(rt.alloc(), AnyScalar::Dictionary(inner))?;
+    let scalar = DictionaryScalar::try_new(outer.clone()?, Some(value))?;
+    let any = AnyScalar::Dictionary(scalar);
+    assert!(rt; any.is_valid() && *any.data_type() == outer);
     Ok(())
 }
 
 #[test]
 fn dictionaries(rt: HostRuntime) {
-    let outcome = check_dictionary(&rt).or_else(|_| check_dictionary(&rt));
-    assert_eq!(rt; outcome, Ok(()));
-}
-
-/// The part that a dictionary's scalar of the text "a" is refused for.
-fn refusal(alloc: Global, data_type: DataType) -> Result<Option<SpecPart>, Error> {
-    match entry_of(alloc, data_type) {
-        Ok(_) => Ok(None),
-        Err(Error::OutOfSpec(part)) => Ok(Some(part)),
-        Err(error) => Err(error),
+    if check_dictionary(&rt).is_err() {
+        assert_eq!(rt; check_dictionary(&rt), Ok(()));
     }
-}
-
-fn check_refusals(rt: &(impl Abort + Alloc<A = Global>)) -> Result<(), Error> {
-    let alloc = rt.alloc();
-    assert_eq!(rt; refusal(alloc, DataType::Utf8)?, Some(SpecPart::Kind));
-    let other = dictionary_of(alloc, DataType::LargeUtf8)?;
-    assert_eq!(rt; refusal(alloc, other)?, Some(SpecPart::Child));
-    let same = dictionary_of(alloc, DataType::Utf8)?;
-    assert_eq!(rt; refusal(alloc, same)?, None);
-    Ok(())
-}
-
-#[test]
-fn refused_dictionaries(rt: HostRuntime) {
-    let outcome = check_refusals(&rt).or_else(|_| check_refusals(&rt));
-    assert_eq!(rt; outcome, Ok(()));
-}
-
-/// An entry of a dictionary in a dictionary, extensions around the types apart.
-fn check_nested(rt: &(impl Abort + Alloc<A = Global>)) -> Result<(), Error> {
-    let alloc = rt.alloc();
-    let inner = entry_of(alloc, dictionary_of(alloc, DataType::Utf8)?)?;
-    let values = Box::new(alloc, dictionary_of(alloc, DataType::Utf8)?)?;
-    let name = String::from_str(alloc, "words")?;
-    let outer = dictionary_of(alloc, DataType::Extension(name, values, None))?;
-    let value = Box::new(alloc, AnyScalar::Dictionary(inner))?;
-    let scalar = AnyScalar::Dictionary(DictionaryScalar::try_new(outer, Some(value))?);
-    assert!(rt; scalar.is_valid());
-    assert!(rt; *scalar.data_type() != dictionary_of(alloc, DataType::Utf8)?);
-    Ok(())
-}
-
-#[test]
-fn nested_dictionaries(rt: HostRuntime) {
-    let outcome = check_nested(&rt).or_else(|_| check_nested(&rt));
-    assert_eq!(rt; outcome, Ok(()));
+    if check_nested(&rt).is_err() {
+        assert_eq!(rt; check_nested(&rt), Ok(()));
+    }
 }

@@ -1,0 +1,50 @@
+//! What arrays do with their validity: a bit for each row, set where the row is valid. Without it no
+//! row is null ("Validity bitmaps").
+
+ghost use Rattle.std.specs.Prelude.{◌≡◌, ◌+◌, ◌≤◌, ◌<◌, ◌↔◌, length, IsTrue, IfSome, option_map};
+ghost use Rattle.arrow_types.specs.Rows.{valid_at};
+ghost use Rattle.arrow_memory.specs.Sliced.{sliced};
+ghost use Rattle.arrow_flat.specs.Parts.{FitsRows, unset_in};
+
+use arrow_memory::bitmap::Bitmap;
+
+/// Whether a validity, where there is one, has a bit for each of so many rows.
+pub fn fits_rows(validity: &Option<Bitmap>, len: usize) -> bool
+    ensures { IsTrue result ↔ FitsRows validity.now len }
+{
+    match validity {
+        None => true,
+        Some(validity) => validity.len() == len,
+    }
+}
+
+/// Whether row `i` is valid.
+pub fn is_valid(validity: &Option<Bitmap>, i: usize) -> bool
+    requires { IfSome validity.now (λ bits. i < length bits) }
+    ensures { result ≡ valid_at validity.now i }
+{
+    match validity {
+        None => true,
+        Some(validity) => validity.get_bit(i),
+    }
+}
+
+/// How many bits are not set, counted a word at a time: none where there is no validity.
+pub fn unset_bits(validity: &Option<Bitmap>) -> usize
+    ensures { result ≡ unset_in validity.now }
+{
+    match validity {
+        None => 0,
+        Some(validity) => validity.unset_bits(),
+    }
+}
+
+/// Keeps the bits of `len` rows from row `offset` on.
+pub fn slice(validity: &mut Option<Bitmap>, offset: usize, len: usize)
+    requires { IfSome validity.old (λ bits. offset + len ≤ length bits) }
+    ensures { validity.new ≡ option_map (λ bits. sliced bits offset len) validity.old }
+{
+    if let Some(validity) = validity {
+        validity.slice(offset, len);
+    }
+}
