@@ -1,0 +1,16 @@
+pub mod ColumnLemmas
+pub mod DepthLemmas
+pub mod EqualLemmas
+pub mod FaultLemmas
+pub mod FitNullLemmas
+pub mod FixedLemmas
+pub mod KeyLemmas
+pub mod ListLemmas
+pub mod NullLemmas
+pub mod NullPartsLemmas
+pub mod PartLemmas
+pub mod ShapeLemmas
+pub mod SliceLemmas
+pub mod StructLemmas
+pub mod TypeLemmas
+pub mod UnionLemmas

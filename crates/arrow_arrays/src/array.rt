@@ -1,0 +1,23 @@
+//! Arrays with children, and arrays of any type.
+
+mod any;
+mod dictionary;
+mod fixed_size_list;
+mod list;
+mod map;
+mod new;
+mod struct_;
+mod types;
+mod union;
+
+pub use any::AnyArray;
+pub use dictionary::{AnyKeys, DictionaryArray};
+pub use fixed_size_list::FixedSizeListArray;
+pub use list::{AnyOffsetsBuffer, ListArray};
+pub use map::MapArray;
+pub use new::{new_empty_array, new_null_array};
+pub use struct_::StructArray;
+pub use union::UnionArray;
+
+#[cfg(test)]
+mod tests;
