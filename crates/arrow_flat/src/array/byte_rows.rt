@@ -289,6 +289,7 @@ impl<O: Offset, K: ByteKind> FlatArray<ByteRows<O, K>> {
     pub fn values(&self) -> &Buffer<u8>
         ensures same { result.now ≡ self.now.values.bytes }
         ensures within { last_of self.now.values.offsets ≤ length self.now.values.bytes }
+        ensures allowed { All K.Allows (row_bytes self.now.values) }
     {
         &self.values.bytes
     }
