@@ -1,0 +1,15 @@
+-- Clauses on what a call answers.
+use Rattle.std.proofs.Common.{◌≡◌, Result, Ok, Err}
+use Rattle.std.specs.Prelude.{OnOk}
+use Rattle.std.specs.Result.{IsErrAnd}
+use Rattle.arrow_types.specs.declared.error.Error.{Error}
+
+-- what follows from a fact on success
+pub on_ok : {T E P Q : Type 0} (r : Result T E) → OnOk r P → (P → Q) → OnOk r Q
+on_ok (Ok x) p f = f p
+on_ok (Err e) p f = tt
+
+-- an error that is passed on is the one that came
+pub passed_on : {A : Type 0} (r : Result A Error) (e f : Error) → IsErrAnd r (λ x. x ≡ e) → r ≡ Err f → e ≡ f
+passed_on (Ok x) e f is same = absurd is
+passed_on (Err x) e f is same = cc

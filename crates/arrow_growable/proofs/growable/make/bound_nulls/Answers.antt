@@ -1,0 +1,39 @@
+use Rattle.std.proofs.Common.{arith, ◌≡◌, Bor, IfOk, length, map, ap, sym, subst, ◌∙◌}
+use Rattle.std.proofs.lemmas.List.{length-map}
+use Rattle.arrow_types.specs.Physical.{physical_type_of}
+use Rattle.arrow_arrays.specs.Any.{kind_in, layout_of}
+use Rattle.arrow_growable.specs.Nulls.{null_layout}
+use Rattle.arrow_growable.specs.Grown.{AreOfOneType, bound_to}
+use Rattle.arrow_growable.proofs.MakeLemmas.{bind_all, bind_next, type_at}
+use Rattle.arrow_growable.proofs.growable.make.bound_nulls.Goals as goal
+
+pub loop-array-init : goal.loop-array-init
+loop-array-init c =
+    ap (map (λ (r : Bor _). null_layout r.now)) c.in_ok-nulls.ensures.items
+
+pub as_null-requires : goal.as_null-requires
+as_null-requires c =
+    let same = type_at (λ (a : Bor _). layout_of a.now) c.args.arrays.now c.array-item.result c.loop-array.array-index c.loop-array-test.true c.array-item.is c.requires.one_type in
+    sym c.data_type.ensures.kind ∙ (ap (λ t. kind_in (physical_type_of t)) same ∙ ap kind_in c.requires.kind)
+
+pub loop-array-preserved : goal.loop-array-preserved
+loop-array-preserved c =
+    rw c.in_ok-push.ensures.items (bind_next (λ (r : Bor _). null_layout r.now) (λ (a : Bor _). layout_of a.now) c.loop-array.nulls.items c.as_null.result c.args.arrays.now c.array-item.result c.loop-array.array-index c.loop-array-test.true c.array-item.is c.as_null.ensures c.loop-array.invariant)
+
+pub new-requires-clause-some : goal.new-requires-clause-some
+new-requires-clause-some c =
+    let f = λ (r : Bor _). null_layout r.now in
+    let whole = bind_all f (λ (a : Bor _). layout_of a.now) c.loop-array.nulls.items c.args.arrays.now c.loop-array.array-index (omega (arith, c.loop-array-test.false)) c.loop-array.invariant in
+    omega (arith, c.requires.some, ap length whole, length-map c.loop-array.nulls.items f, length-map c.args.arrays.now (λ (a : Bor _). layout_of a.now))
+
+pub new-requires-clause-one_type : goal.new-requires-clause-one_type
+new-requires-clause-one_type c =
+    let f = λ (r : Bor _). null_layout r.now in
+    let whole = bind_all f (λ (a : Bor _). layout_of a.now) c.loop-array.nulls.items c.args.arrays.now c.loop-array.array-index (omega (arith, c.loop-array-test.false)) c.loop-array.invariant in
+    subst AreOfOneType (sym whole) c.requires.one_type
+
+pub returns-clause-ok : goal.returns-clause-ok
+returns-clause-ok c =
+    let f = λ (r : Bor _). null_layout r.now in
+    let whole = bind_all f (λ (a : Bor _). layout_of a.now) c.loop-array.nulls.items c.args.arrays.now c.loop-array.array-index (omega (arith, c.loop-array-test.false)) c.loop-array.invariant in
+    subst (λ ls. IfOk c.new.result (λ growable. growable ≡ bound_to ls)) whole c.new.ensures.ok

@@ -1,0 +1,464 @@
+//! Texts and bytes under construction.
+
+ghost use Rattle.std.specs.Prelude.{◌≡◌, ◌+◌, ◌-◌, ◌<◌, ◌≤◌, [], ◌∷◌, ◌++◌, Bool, List, ℕ, length, map, replicate, slice_index, true, false, Err, IfOk, IfErr, OnOk, OnErr, IsOkUnless, refl};
+ghost use Rattle.std.specs.List.{All};
+ghost use Rattle.arrow_types.specs.declared.error.Error.{Error};
+ghost use Rattle.arrow_types.specs.Fits.{byte_count};
+ghost use Rattle.arrow_types.specs.Physical.{physical_type_of};
+ghost use Rattle.arrow_memory.specs.Grown.{IsGrowthError};
+ghost use Rattle.arrow_memory.specs.Offsets.{IsOffsets, last_of, with_rows};
+ghost use Rattle.arrow_memory.specs.Sliced.{sliced};
+ghost use Rattle.arrow_flat.specs.ByteRows.{byte_slots, row_bytes};
+ghost use Rattle.arrow_flat.specs.Parts.{FitsRows};
+ghost use Rattle.arrow_flat.specs.Pieces.{pieces};
+ghost use Rattle.arrow_arrays.specs.Any.{Kind, kind_of, layout_of, utf8_kind, large_utf8_kind, binary_kind, large_binary_kind};
+ghost use Rattle.arrow_growable.specs.Bytes.{IsBytesLayout, SparesBytes, filled, rows_layout, stored_rows, total};
+ghost use Rattle.arrow_growable.specs.Validity.{bits_of_part};
+
+use crate::growable::flat::{FlatGrowable, GrowableValues};
+use arrow_arrays::array::AnyArray;
+use arrow_flat::array::{Binary, ByteKind, ByteRows, FlatArray, Text, Values};
+use arrow_memory::bitmap::Bitmap;
+use arrow_memory::buffer::Buffer;
+use arrow_memory::offset::{Offsets, OffsetsBuffer};
+use arrow_types::datatypes::DataType;
+use arrow_types::error::Error;
+use arrow_types::types::Offset;
+use std::alloc::Global;
+use std::marker::{Model, PhantomData};
+
+/// An array of texts under construction, under offsets of 32 or of 64 bits.
+pub type GrowableUtf8<'a, O> = FlatGrowable<'a, GrowableBytes<O, Text>>;
+
+/// An array of bytes under construction, under offsets of 32 or of 64 bits.
+pub type GrowableBinary<'a, O> = FlatGrowable<'a, GrowableBytes<O, Binary>>;
+
+/// Which rows of bytes can grow.
+pub trait GrowableKind: ByteKind {
+    // a row may be without bytes
+    ghost allows_empty: { Self.Allows [] };
+
+    // a row has the bytes that are counted
+    ghost counts: { (bytes : List ℕ) → byte_count (Self.slot bytes) ≡ length bytes };
+
+    // arrays of them lie in memory as texts or bytes
+    ghost lies_as_bytes: { (is_large : Bool) → IsBytesLayout is_large (Self.layout is_large) };
+}
+
+impl GrowableKind for Text {
+    ghost allows_empty = { ([], (refl, refl)) };
+
+    ghost counts = { λ bytes. refl };
+
+    ghost lies_as_bytes = { elim [ true ↦ tt | false ↦ tt ] };
+}
+
+impl GrowableKind for Binary {
+    ghost allows_empty = { tt };
+
+    ghost counts = { λ bytes. refl };
+
+    ghost lies_as_bytes = { elim [ true ↦ tt | false ↦ tt ] };
+}
+
+/// Which arrays of any type have rows of a kind under offsets of a type.
+pub trait AnyRows<O> {
+    /// What these rows are stored in.
+    type Rows: Values;
+
+    // the kind of these arrays
+    ghost any_kind: { Kind };
+
+    /// An array of any type as one of such rows.
+    fn of_any(array: &AnyArray) -> &FlatArray<Self::Rows>
+        requires { kind_of array.now ≡ any_kind }
+        ensures { rows_layout Self.Rows.slots result.now ≡ layout_of array.now };
+
+    /// The array as one of any type, which shares what is stored.
+    fn to_any(array: &FlatArray<Self::Rows>) -> Result<AnyArray, Error>
+        ensures ok { IfOk result (λ any. layout_of any ≡ rows_layout Self.Rows.slots array.now) }
+        ensures err { IsOkUnless result Error.OutOfMemory };
+}
+
+impl AnyRows<i32> for Text {
+    type Rows = ByteRows<i32, Text>;
+
+    ghost any_kind = { utf8_kind };
+
+    fn of_any(array: &AnyArray) -> &FlatArray<ByteRows<i32, Text>> {
+        match array {
+            AnyArray::Utf8(array) => array,
+            _ => unreachable!(),
+        }
+    }
+
+    fn to_any(array: &FlatArray<ByteRows<i32, Text>>) -> Result<AnyArray, Error> {
+        Ok(AnyArray::Utf8(array.clone()?))
+    }
+}
+
+impl AnyRows<i64> for Text {
+    type Rows = ByteRows<i64, Text>;
+
+    ghost any_kind = { large_utf8_kind };
+
+    fn of_any(array: &AnyArray) -> &FlatArray<ByteRows<i64, Text>> {
+        match array {
+            AnyArray::LargeUtf8(array) => array,
+            _ => unreachable!(),
+        }
+    }
+
+    fn to_any(array: &FlatArray<ByteRows<i64, Text>>) -> Result<AnyArray, Error> {
+        Ok(AnyArray::LargeUtf8(array.clone()?))
+    }
+}
+
+impl AnyRows<i32> for Binary {
+    type Rows = ByteRows<i32, Binary>;
+
+    ghost any_kind = { binary_kind };
+
+    fn of_any(array: &AnyArray) -> &FlatArray<ByteRows<i32, Binary>> {
+        match array {
+            AnyArray::Binary(array) => array,
+            _ => unreachable!(),
+        }
+    }
+
+    fn to_any(array: &FlatArray<ByteRows<i32, Binary>>) -> Result<AnyArray, Error> {
+        Ok(AnyArray::Binary(array.clone()?))
+    }
+}
+
+impl AnyRows<i64> for Binary {
+    type Rows = ByteRows<i64, Binary>;
+
+    ghost any_kind = { large_binary_kind };
+
+    fn of_any(array: &AnyArray) -> &FlatArray<ByteRows<i64, Binary>> {
+        match array {
+            AnyArray::LargeBinary(array) => array,
+            _ => unreachable!(),
+        }
+    }
+
+    fn to_any(array: &FlatArray<ByteRows<i64, Binary>>) -> Result<AnyArray, Error> {
+        Ok(AnyArray::LargeBinary(array.clone()?))
+    }
+}
+
+/// Rows of bytes that lie one behind the other, and that rows are appended to. A null row has no bytes.
+#[derive(Drop)]
+pub struct GrowableBytes<O: Offset, K: ByteKind> {
+    offsets: Offsets<O>,
+    bytes: Vec<u8>,
+    kind: PhantomData<K>,
+}
+
+impl<O: Offset, K: ByteKind> Model for GrowableBytes<O, K> {
+    ghost use Rattle.arrow_flat.specs.ByteRows.{ByteParts, byte_parts_code};
+    ghost use Rattle.arrow_growable.specs.Bytes.{AreGrownBytes};
+
+    ghost Value = { ByteParts };
+
+    ghost coded = { byte_parts_code };
+
+    ghost view = { λ a. record { offsets = a.offsets; bytes = a.bytes.items } };
+
+    ghost invariant = { λ a. AreGrownBytes K.Allows (record { offsets = a.offsets; bytes = a.bytes.items }) };
+}
+
+impl<O: Offset, K: GrowableKind> GrowableBytes<O, K> {
+    /// No rows, and room for so many, but for their bytes.
+    fn empty(alloc: Global, capacity: usize) -> Result<GrowableBytes<O, K>, Error>
+        ensures ok { IfOk result (λ rows. row_bytes rows ≡ []) }
+        ensures err { IsOkUnless result Error.OutOfMemory }
+    {
+        Ok(GrowableBytes {
+            offsets: Offsets::with_capacity(alloc, capacity)?,
+            bytes: Vec::new(alloc),
+            kind: PhantomData,
+        })
+    }
+
+    /// How many rows there are.
+    fn len(&self) -> usize
+        ensures rows { result ≡ length (row_bytes self.now) }
+        ensures bytes { total (row_bytes self.now) ≤ O.greatest }
+    {
+        let _ = self.offsets.last().to_usize();
+        self.offsets.len() - 1
+    }
+
+    /// Appends so many rows of no bytes.
+    fn append_empty(&mut self, additional: usize) -> Result<(), Error>
+        ensures ok { OnOk result (row_bytes self.new ≡ row_bytes self.old ++ replicate additional []) }
+        ensures err { IsOkUnless result Error.OutOfMemory }
+    {
+        prove!(0 < self.offsets.len());
+        self.offsets.extend_constant(additional)
+    }
+
+    /// Appends rows of an array, null or not, with their bytes.
+    fn append_all(
+        &mut self,
+        array: &FlatArray<ByteRows<O, K>>,
+        start: usize,
+        len: usize,
+    ) -> Result<(), Error>
+        requires some { 0 < len }
+        requires part { start + len ≤ length (row_bytes array.now.values) }
+        ensures ok { OnOk result (row_bytes self.new ≡ row_bytes self.old ++ sliced (row_bytes array.now.values) start len) }
+        ensures overflow { result ≡ Err Error.Overflow → O.greatest < total (row_bytes self.old ++ sliced (row_bytes array.now.values) start len) }
+        ensures others { IfErr result IsGrowthError }
+    {
+        let (rows, values) = parts(array);
+        copy_rows(&mut self.offsets, &mut self.bytes, rows, values, start, len)
+    }
+
+    /// Appends a run of rows of an array that are all valid or all null.
+    fn append_run(
+        &mut self,
+        array: &FlatArray<ByteRows<O, K>>,
+        is_valid: bool,
+        start: usize,
+        len: usize,
+    ) -> Result<(), Error>
+        requires some { 0 < len }
+        requires part { start + len ≤ length (row_bytes array.now.values) }
+        ensures ok { OnOk result (row_bytes self.new ≡ row_bytes self.old ++ filled (replicate len is_valid) (sliced (row_bytes array.now.values) start len)) }
+        ensures overflow { result ≡ Err Error.Overflow → O.greatest < total (row_bytes self.old ++ filled (replicate len is_valid) (sliced (row_bytes array.now.values) start len)) }
+        ensures others { IfErr result IsGrowthError }
+    {
+        if is_valid {
+            self.append_all(array, start, len)
+        } else {
+            self.append_empty(len)
+        }
+    }
+
+    /// Appends rows of an array under its validity, a run at a time.
+    fn append_runs(
+        &mut self,
+        array: &FlatArray<ByteRows<O, K>>,
+        validity: &Bitmap,
+        start: usize,
+        end: usize,
+    ) -> Result<(), Error>
+        requires order { start ≤ end }
+        requires covered { length validity.now ≡ length (row_bytes array.now.values) }
+        requires part { end ≤ length validity.now }
+        ensures ok { OnOk result (row_bytes self.new ≡ row_bytes self.old ++ filled (sliced validity.now start (end - start)) (sliced (row_bytes array.now.values) start (end - start))) }
+        ensures overflow { result ≡ Err Error.Overflow → O.greatest < total (row_bytes self.old ++ filled (sliced validity.now start (end - start)) (sliced (row_bytes array.now.values) start (end - start))) }
+        ensures others { IfErr result IsGrowthError }
+    {
+        let mut row = start;
+        while row < end {
+            let (is_valid, next) = run_at(validity, row, end);
+            self.append_run(array, is_valid, row, next - row)?;
+            row = next;
+        }
+        Ok(())
+    }
+
+    /// Appends rows of an array, those that are null without bytes.
+    fn append(
+        &mut self,
+        array: &FlatArray<ByteRows<O, K>>,
+        start: usize,
+        len: usize,
+    ) -> Result<(), Error>
+        requires { start + len ≤ length (row_bytes array.now.values) }
+        ensures ok { OnOk result (row_bytes self.new ≡ row_bytes self.old ++ stored_rows array.now.validity array.now.values start len) }
+        ensures overflow { result ≡ Err Error.Overflow → O.greatest < total (row_bytes self.old ++ stored_rows array.now.validity array.now.values start len) }
+        ensures others { IfErr result IsGrowthError }
+    {
+        if len == 0 {
+            return Ok(());
+        }
+        prove!(len <= array.len());
+        match array.validity() {
+            None => self.append_run(array, true, start, len),
+            Some(validity) => self.append_runs(array, validity, start, start + len),
+        }
+    }
+}
+
+/// Where the rows of an array lie, and the bytes that they lie in.
+fn parts<O: Offset, K: ByteKind>(array: &FlatArray<ByteRows<O, K>>) -> (&OffsetsBuffer<O>, &[u8])
+    ensures rows { row_bytes array.now.values ≡ pieces result.0.now result.1.now }
+    ensures within { last_of result.0.now ≤ length result.1.now }
+    ensures allowed { All K.Allows (pieces result.0.now result.1.now) }
+{
+    (array.offsets(), array.values().as_slice())
+}
+
+/// Where the bytes of `len` rows from row `start` on begin and end.
+fn span<O: Offset>(rows: &OffsetsBuffer<O>, start: usize, len: usize) -> (usize, usize)
+    requires some { 0 < len }
+    requires part { start + len < length rows.now }
+    ensures start { result.0 ≡ slice_index rows.now start }
+    ensures end { result.1 ≡ slice_index rows.now (start + len) }
+    ensures rises { result.0 ≤ result.1 }
+    ensures within { result.1 ≤ last_of rows.now }
+    ensures sound { IsOffsets rows.now }
+{
+    prove!(start < rows.len());
+    let (first, _) = rows.start_end(start);
+    let (_, end) = rows.start_end(start + (len - 1));
+    (first, end)
+}
+
+/// Appends rows that others name in their bytes. Where that is refused, all is as before.
+fn copy_rows<O: Offset>(
+    offsets: &mut Offsets<O>,
+    bytes: &mut Vec<u8>,
+    rows: &OffsetsBuffer<O>,
+    values: &[u8],
+    start: usize,
+    len: usize,
+) -> Result<(), Error>
+    requires some { 0 < len }
+    requires part { start + len < length rows.now }
+    requires within { last_of rows.now ≤ length values.now }
+    ensures sound { IsOffsets offsets.old }
+    ensures rows_sound { IsOffsets rows.now }
+    ensures ok { OnOk result ((offsets.new ≡ with_rows offsets.old rows.now start len) × (bytes.new.items ≡ bytes.old.items ++ sliced values.now (slice_index rows.now start) (slice_index rows.now (start + len) - slice_index rows.now start))) }
+    ensures overflow { result ≡ Err Error.Overflow → O.greatest < last_of offsets.old + (slice_index rows.now (start + len) - slice_index rows.now start) }
+    ensures others { IfErr result IsGrowthError }
+    ensures unchanged { OnErr result ((offsets.new ≡ offsets.old) × (bytes.new.items ≡ bytes.old.items)) }
+{
+    prove!(0 < offsets.len());
+    let (first, end) = span(rows, start, len);
+    let part = &values[first..end];
+    bytes.reserve(part.len())?;
+    offsets.try_extend_from_slice(rows, start, len)?;
+    let Ok(()) = bytes.extend_from_slice(part) else {
+        unreachable!();
+    };
+    Ok(())
+}
+
+/// Whether the bit at a place is set, and where the run of such bits ends, before `end` at the latest.
+fn run_at(bits: &Bitmap, start: usize, end: usize) -> (bool, usize)
+    requires some { start < end }
+    requires within { end ≤ length bits.now }
+    ensures some { start < result.1 }
+    ensures within { result.1 ≤ end }
+    ensures run { sliced bits.now start (result.1 - start) ≡ replicate (result.1 - start) result.0 }
+{
+    let is_set = bits.get_bit(start);
+    for place in start + 1..end {
+        if bits.get_bit(place) != is_set {
+            return (is_set, place);
+        }
+    }
+    (is_set, end)
+}
+
+impl<O: Offset, K: GrowableKind + AnyRows<O, Rows = ByteRows<O, K>>> GrowableValues
+    for GrowableBytes<O, K> {
+    ghost use Rattle.std.proofs.lemmas.List.{length-replicate};
+    ghost use Rattle.arrow_growable.specs.ByteLaws as laws;
+
+    type Array = FlatArray<ByteRows<O, K>>;
+
+    ghost type_in = { λ array. array.arrow_type };
+
+    ghost bits_in = { λ array. array.validity };
+
+    ghost stored_in = { λ array. byte_slots K.slot array.values };
+
+    ghost slots = { byte_slots K.slot };
+
+    ghost are_of = { λ rows t. physical_type_of t ≡ K.layout O.IS_LARGE };
+
+    ghost kind = { K.any_kind };
+
+    ghost stored_part = { λ array start len. map K.slot (stored_rows array.validity array.values start len) };
+
+    ghost blanks = { λ rows n. replicate n (K.slot []) };
+
+    ghost spares = { SparesBytes };
+
+    fn data_type(array: &FlatArray<ByteRows<O, K>>) -> &DataType {
+        array.data_type()
+    }
+
+    fn validity(array: &FlatArray<ByteRows<O, K>>) -> Option<&Bitmap> {
+        array.validity()
+    }
+
+    fn with_capacity(
+        alloc: Global,
+        array: &FlatArray<ByteRows<O, K>>,
+        capacity: usize,
+    ) -> Result<GrowableBytes<O, K>, Error> {
+        let _ = array.data_type();
+        GrowableBytes::empty(alloc, capacity)
+    }
+
+    fn fresh(&self) -> Result<GrowableBytes<O, K>, Error> {
+        GrowableBytes::empty(*self.bytes.allocator(), 0)
+    }
+
+    fn extend(
+        &mut self,
+        array: &FlatArray<ByteRows<O, K>>,
+        start: usize,
+        len: usize,
+    ) -> Result<(), Error> {
+        self.append(array, start, len)?;
+        let _ = self.len();
+        Ok(())
+    }
+
+    fn extend_nulls(&mut self, additional: usize) -> Result<(), Error> {
+        self.append_empty(additional)?;
+        let _ = self.len();
+        Ok(())
+    }
+
+    fn into_array(
+        self,
+        data_type: DataType,
+        validity: Option<Bitmap>,
+    ) -> Result<FlatArray<ByteRows<O, K>>, Error> {
+        let alloc = *self.bytes.allocator();
+        let GrowableBytes { offsets, bytes, .. } = self;
+        let offsets = offsets.into_buffer()?;
+        let bytes = Buffer::from_vec(alloc, bytes)?;
+        let Ok(array) = FlatArray::<ByteRows<O, K>>::try_new(data_type, offsets, bytes, validity)
+        else {
+            unreachable!();
+        };
+        Ok(array)
+    }
+
+    fn of_any(array: &AnyArray) -> &FlatArray<ByteRows<O, K>> {
+        K::of_any(array)
+    }
+
+    fn into_any(array: FlatArray<ByteRows<O, K>>) -> Result<AnyArray, Error> {
+        K::to_any(&array)
+    }
+
+    ghost rows_of_part = { λ a start len fits within. laws.rows_of_part K.slot a.validity a.values start len fits within };
+
+    ghost length_of_part = { λ a start len fits within. laws.length_of_part K.slot a.validity a.values start len fits within };
+
+    ghost length_of_blanks = { λ x n. length-replicate n (K.slot []) };
+
+    ghost null_of = { λ x t kind. laws.null_of O.IS_LARGE t (K.layout O.IS_LARGE) (K.lies_as_bytes O.IS_LARGE) kind };
+
+    ghost spares_none = { refl };
+
+    ghost spares_part = { λ bits stored a start len fits within spares same. laws.spares_part K.slot K.counts bits stored a.validity a.values start len fits within spares same };
+
+    ghost spares_blanks = { λ bits stored x n spares same. laws.spares_blanks (K.slot []) (K.counts []) bits stored n spares same };
+
+    ghost fits_stored = { λ x t bits stored kind spares same fits. laws.fits_stored O.IS_LARGE t (K.layout O.IS_LARGE) (K.lies_as_bytes O.IS_LARGE) kind bits stored spares same fits };
+
+    ghost fits_rows = { λ x t bits stored kind same fits. laws.fits_rows O.IS_LARGE t (K.layout O.IS_LARGE) (K.lies_as_bytes O.IS_LARGE) kind bits stored same fits };
+}

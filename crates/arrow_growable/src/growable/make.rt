@@ -1,0 +1,170 @@
+//! Growables over arrays of any type.
+
+ghost use Rattle.std.specs.Prelude.{◌≡◌, ◌<◌, length, map, IfOk, IsOkUnless};
+ghost use Rattle.arrow_types.specs.declared.error.Error.{Error};
+ghost use Rattle.arrow_types.specs.declared.datatypes.physical_type.PhysicalType.TheVariants as physical;
+ghost use Rattle.arrow_types.specs.Physical.{physical_type_of};
+ghost use Rattle.arrow_arrays.specs.Any.{kind_in, kind_of, layout_of, null_kind};
+ghost use Rattle.arrow_growable.specs.AnyGrowable.{IsFlatLayout, grown_of, primitive_grown_of};
+ghost use Rattle.arrow_growable.specs.Grown.{AreOfOneType, bound_to, first_type};
+ghost use Rattle.arrow_growable.specs.Nulls.{null_layout};
+
+use crate::growable::flat::{FlatGrowable, GrowableValues};
+use crate::growable::{AnyGrowable, AnyGrowablePrimitive, BoundNulls};
+use arrow_arrays::array::AnyArray;
+use arrow_flat::array::NullArray;
+use arrow_types::datatypes::PhysicalType;
+use arrow_types::error::Error;
+use arrow_types::types::PrimitiveType;
+use std::alloc::Global;
+
+/// A growable without rows, to which rows of these arrays, of one data type, can be appended, with room
+/// for `capacity` rows. The data type must be one without children. With `use_validity` it keeps a
+/// validity from the first row on, and else once a row may be null; no row depends on that.
+///
+/// # Errors
+/// `OutOfMemory` where memory is refused, as for a capacity that is too great.
+///
+/// Source: arrow2's `make_growable`.
+pub fn make_growable<'a>(
+    alloc: Global,
+    arrays: &[&'a AnyArray],
+    use_validity: bool,
+    capacity: usize,
+) -> Result<AnyGrowable<'a>, Error>
+    requires some { 0 < length arrays.now }
+    requires one_type { AreOfOneType (map (λ a. layout_of a.now) arrays.now) }
+    requires flat { IsFlatLayout (physical_type_of (first_type (map (λ a. layout_of a.now) arrays.now))) }
+    ensures ok { IfOk result (λ growable. grown_of growable ≡ bound_to (map (λ a. layout_of a.now) arrays.now)) }
+    ensures err { IsOkUnless result Error.OutOfMemory }
+{
+    let first: &'a AnyArray = arrays[0];
+    match first.data_type().to_physical_type() {
+        PhysicalType::Null => Ok(AnyGrowable::Null(bound_nulls(alloc, arrays)?)),
+        PhysicalType::Boolean => {
+            Ok(AnyGrowable::Boolean(bound(alloc, arrays, use_validity, capacity)?))
+        }
+        PhysicalType::Primitive(element) => {
+            let growable = bound_primitives(alloc, arrays, element, use_validity, capacity)?;
+            Ok(AnyGrowable::Primitive(growable))
+        }
+        PhysicalType::Utf8 => Ok(AnyGrowable::Utf8(bound(alloc, arrays, use_validity, capacity)?)),
+        PhysicalType::LargeUtf8 => {
+            Ok(AnyGrowable::LargeUtf8(bound(alloc, arrays, use_validity, capacity)?))
+        }
+        PhysicalType::Binary => {
+            Ok(AnyGrowable::Binary(bound(alloc, arrays, use_validity, capacity)?))
+        }
+        PhysicalType::LargeBinary => {
+            Ok(AnyGrowable::LargeBinary(bound(alloc, arrays, use_validity, capacity)?))
+        }
+        PhysicalType::FixedSizeBinary => {
+            Ok(AnyGrowable::FixedSizeBinary(bound(alloc, arrays, use_validity, capacity)?))
+        }
+        _ => unreachable!(),
+    }
+}
+
+/// A growable over arrays that lie in memory as its values do.
+fn bound<'a, G: GrowableValues>(
+    alloc: Global,
+    arrays: &[&'a AnyArray],
+    use_validity: bool,
+    capacity: usize,
+) -> Result<FlatGrowable<'a, G>, Error>
+    requires some { 0 < length arrays.now }
+    requires one_type { AreOfOneType (map (λ a. layout_of a.now) arrays.now) }
+    requires kind { kind_in (physical_type_of (first_type (map (λ a. layout_of a.now) arrays.now))) ≡ G.kind }
+    ensures ok { IfOk result (λ growable. growable ≡ bound_to (map (λ a. layout_of a.now) arrays.now)) }
+    ensures err { IsOkUnless result Error.OutOfMemory }
+{
+    let mut flat = Vec::with_capacity(alloc, arrays.len())?;
+    for array in arrays {
+        let _ = array.data_type();
+        flat.push(G::of_any(*array))?;
+    }
+    FlatGrowable::new(alloc, flat, use_validity, capacity)
+}
+
+/// A growable over arrays of the null type.
+fn bound_nulls<'a>(alloc: Global, arrays: &[&'a AnyArray]) -> Result<BoundNulls<'a>, Error>
+    requires some { 0 < length arrays.now }
+    requires one_type { AreOfOneType (map (λ a. layout_of a.now) arrays.now) }
+    requires kind { physical_type_of (first_type (map (λ a. layout_of a.now) arrays.now)) ≡ physical.Null }
+    ensures ok { IfOk result (λ growable. growable ≡ bound_to (map (λ a. layout_of a.now) arrays.now)) }
+    ensures err { IsOkUnless result Error.OutOfMemory }
+{
+    let mut nulls: Vec<&'a NullArray> = Vec::with_capacity(alloc, arrays.len())?;
+    for array in arrays {
+        let _ = array.data_type();
+        nulls.push(as_null(*array))?;
+    }
+    BoundNulls::new(nulls)
+}
+
+/// An array of any type as one of the null type.
+fn as_null(array: &AnyArray) -> &NullArray
+    requires { kind_of array.now ≡ null_kind }
+    ensures { null_layout result.now ≡ layout_of array.now }
+{
+    match array {
+        AnyArray::Null(array) => array,
+        _ => unreachable!(),
+    }
+}
+
+/// A growable over arrays of numbers or intervals of one element type.
+fn bound_primitives<'a>(
+    alloc: Global,
+    arrays: &[&'a AnyArray],
+    element: PrimitiveType,
+    use_validity: bool,
+    capacity: usize,
+) -> Result<AnyGrowablePrimitive<'a>, Error>
+    requires some { 0 < length arrays.now }
+    requires one_type { AreOfOneType (map (λ a. layout_of a.now) arrays.now) }
+    requires kind { physical_type_of (first_type (map (λ a. layout_of a.now) arrays.now)) ≡ physical.Primitive element }
+    ensures ok { IfOk result (λ growable. primitive_grown_of growable ≡ bound_to (map (λ a. layout_of a.now) arrays.now)) }
+    ensures err { IsOkUnless result Error.OutOfMemory }
+{
+    let _ = arrays[0].data_type();
+    match element {
+        PrimitiveType::Int8 => {
+            Ok(AnyGrowablePrimitive::Int8(bound(alloc, arrays, use_validity, capacity)?))
+        }
+        PrimitiveType::Int16 => {
+            Ok(AnyGrowablePrimitive::Int16(bound(alloc, arrays, use_validity, capacity)?))
+        }
+        PrimitiveType::Int32 => {
+            Ok(AnyGrowablePrimitive::Int32(bound(alloc, arrays, use_validity, capacity)?))
+        }
+        PrimitiveType::Int64 => {
+            Ok(AnyGrowablePrimitive::Int64(bound(alloc, arrays, use_validity, capacity)?))
+        }
+        PrimitiveType::Int128 => {
+            Ok(AnyGrowablePrimitive::Int128(bound(alloc, arrays, use_validity, capacity)?))
+        }
+        PrimitiveType::Int256 => {
+            Ok(AnyGrowablePrimitive::Int256(bound(alloc, arrays, use_validity, capacity)?))
+        }
+        PrimitiveType::UInt8 => {
+            Ok(AnyGrowablePrimitive::UInt8(bound(alloc, arrays, use_validity, capacity)?))
+        }
+        PrimitiveType::UInt16 => {
+            Ok(AnyGrowablePrimitive::UInt16(bound(alloc, arrays, use_validity, capacity)?))
+        }
+        PrimitiveType::UInt32 => {
+            Ok(AnyGrowablePrimitive::UInt32(bound(alloc, arrays, use_validity, capacity)?))
+        }
+        PrimitiveType::UInt64 => {
+            Ok(AnyGrowablePrimitive::UInt64(bound(alloc, arrays, use_validity, capacity)?))
+        }
+        PrimitiveType::DaysMs => {
+            Ok(AnyGrowablePrimitive::DaysMs(bound(alloc, arrays, use_validity, capacity)?))
+        }
+        PrimitiveType::MonthDayNano => {
+            Ok(AnyGrowablePrimitive::MonthDayNano(bound(alloc, arrays, use_validity, capacity)?))
+        }
+        _ => unreachable!(),
+    }
+}
