@@ -1,0 +1,47 @@
+-- Arrays that are given together: the type of each, and the rows of all.
+use Rattle.std.proofs.Common.{arith, ◌≡◌, ℕ, ◌+◌, ◌<◌, List, [], ◌∷◌, ◌++◌, Some, length, get_or, map, take, drop, refl, ap, sym, ◌∙◌, append_assoc}
+use Rattle.std.specs.Prelude.{slice_get, option_map, Contains}
+use Rattle.std.specs.List.{All}
+use Rattle.std.proofs.lemmas.List.{append-nil, get_or-map, length-map, take-append-drop}
+use Rattle.std.proofs.lemmas.Option.{slice_get_read, slice_get-map, get_or_from_slice_get}
+use Rattle.arrow_types.specs.ArrowType.{ArrowType}
+use Rattle.arrow_types.specs.Physical.{physical_type_of}
+use Rattle.arrow_types.specs.Rows.{joined}
+use Rattle.arrow_types.specs.Slot.{Slot}
+use Rattle.arrow_types.proofs.RowsLemmas.{drop_at_read, take_at_read}
+use Rattle.arrow_types.proofs.SelectLemmas.{joined-append}
+use Rattle.arrow_arrays.specs.Layout.{Layout, type_of_layout}
+use Rattle.arrow_growable.specs.AnyGrowable.{IsFlatLayout}
+use Rattle.arrow_growable.specs.Grown.{AreOfOneType, first_type}
+
+pub slice_get-map_read : {A B : Type 0} (f : A → B) (xs : List A) (i : ℕ) (x : A) → i < length xs → x ≡ get_or xs i x → slice_get (map f xs) i ≡ Some (f x)
+slice_get-map_read f xs i x within read =
+    slice_get-map f xs i ∙ ap (option_map f) (slice_get_read xs (length xs) i x refl within read)
+
+pub Contains-read : {A : Type 0} (xs : List A) (i : ℕ) (x : A) → slice_get xs i ≡ Some x → i < length xs → Contains xs x
+Contains-read xs i x read within = (i, within, get_or_from_slice_get xs i x x read)
+
+-- the rows of one more list
+pub joined_next : (xss : List (List Slot)) (i : ℕ) (xs : List Slot) → slice_get xss i ≡ Some xs → joined (take (i + 1) xss) ≡ joined (take i xss) ++ xs
+joined_next xss i xs read =
+    ap joined (take_at_read xss i xs read) ∙ (joined-append (take i xss) (xs ∷ []) ∙ ap (λ ys. joined (take i xss) ++ ys) (append-nil xs))
+
+-- all rows, by a list of them
+pub joined_around : (xss : List (List Slot)) (i : ℕ) (xs : List Slot) → slice_get xss i ≡ Some xs → joined xss ≡ (joined (take i xss) ++ xs) ++ joined (drop (i + 1) xss)
+joined_around xss i xs read =
+    ap joined (sym (take-append-drop i xss)) ∙ (joined-append (take i xss) (drop i xss) ∙ (ap (λ yss. joined (take i xss) ++ joined yss) (drop_at_read xss i xs read) ∙ sym (append_assoc (joined (take i xss)) xs (joined (drop (i + 1) xss)))))
+
+-- the first of arrays without children is without
+pub first_flat : {A : Type 0} (f : A → Layout) (arrays : List A) (i : ℕ) → i < length arrays → All (λ x. IsFlatLayout (physical_type_of (type_of_layout (f x)))) arrays → IsFlatLayout (physical_type_of (first_type (map f arrays)))
+first_flat f [] i within flat = absurd (omega (arith, within))
+first_flat f (x ∷ arrays) i within flat = flat 0 x (omega arith)
+
+-- the types of all are one where each is the same
+pub of_one_type : {A : Type 0} (f : A → Layout) (arrays : List A) (t : ArrowType) → All (λ u. u ≡ t) (map (λ x. type_of_layout (f x)) arrays) → AreOfOneType (map f arrays)
+of_one_type f [] t same k d within = absurd (omega (arith, within))
+of_one_type f (x ∷ arrays) t same k d within =
+    let bound : k < length (x ∷ arrays) = omega (arith, within, length-map (x ∷ arrays) f) in
+    let here = get_or-map f (x ∷ arrays) k x d bound in
+    let there = get_or-map (λ y. type_of_layout (f y)) (x ∷ arrays) k x t bound in
+    let long = length-map (x ∷ arrays) (λ y. type_of_layout (f y)) in
+    ap type_of_layout here ∙ (sym there ∙ (same k t (omega (arith, bound, long)) ∙ sym (same 0 t (omega arith))))

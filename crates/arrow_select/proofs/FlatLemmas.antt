@@ -1,0 +1,66 @@
+-- Arrays without children: no type of theirs holds a dense union, and no row is crowded.
+use Rattle.std.proofs.Common.{◌≡◌, ℕ, List, sym, subst}
+use Rattle.arrow_types.specs.declared.datatypes.physical_type.PhysicalType.{PhysicalType}
+use Rattle.arrow_types.specs.declared.datatypes.physical_type.PhysicalType.TheVariants as physical
+use Rattle.arrow_types.specs.ArrowType.{ArrowType, plain, list, struct, union, dictionary, extension, small, large, fixed_size, mapped}
+use Rattle.arrow_types.specs.Physical.{physical_type_of}
+use Rattle.arrow_arrays.specs.Any.{Kind, kind_in, kind_of, layout_of, any_array_type, list_kind, fixed_size_list_kind, struct_kind, union_kind, map_kind, dictionary_kind}
+use Rattle.arrow_arrays.specs.Crowded.{CrowdedRow}
+use Rattle.arrow_arrays.specs.Layout.{Layout}
+use Rattle.arrow_arrays.specs.declared.array.any.AnyArray.{AnyArray}
+use Rattle.arrow_arrays.specs.declared.array.any.AnyArray.TheVariants.{Null, Boolean, Primitive, Utf8, LargeUtf8, Binary, LargeBinary, FixedSizeBinary, List as ListOf, FixedSizeList, Struct, Union, Map, Dictionary}
+use Rattle.arrow_growable.specs.AnyGrowable.{IsFlatLayout}
+use Rattle.arrow_growable.specs.Dense.{HoldsDense}
+use Rattle.arrow_select.specs.Arrays.{IsFlat}
+
+pub without_dense : (t : ArrowType) → IsFlatLayout (physical_type_of t) → HoldsDense t → ⊥
+without_dense (plain p) flat dense = dense
+without_dense (list small f) flat dense = flat
+without_dense (list large f) flat dense = flat
+without_dense (list (fixed_size s) f) flat dense = flat
+without_dense (list (mapped sorted) f) flat dense = flat
+without_dense (struct fs) flat dense = flat
+without_dense (union mode ids fs) flat dense = flat
+without_dense (dictionary keys ordered t) flat dense = flat
+without_dense (extension name metadata t) flat dense = without_dense t flat dense
+
+-- the kinds of arrays with children
+abbrev IsNested : Kind → Type 0
+IsNested list_kind = Unit {0}
+IsNested fixed_size_list_kind = Unit {0}
+IsNested struct_kind = Unit {0}
+IsNested union_kind = Unit {0}
+IsNested map_kind = Unit {0}
+IsNested dictionary_kind = Unit {0}
+IsNested _ = ⊥
+
+nested_layout : (p : PhysicalType) → IsFlatLayout p → IsNested (kind_in p) → ⊥
+nested_layout physical.Null flat nested = nested
+nested_layout physical.Boolean flat nested = nested
+nested_layout (physical.Primitive element) flat nested = nested
+nested_layout physical.Utf8 flat nested = nested
+nested_layout physical.LargeUtf8 flat nested = nested
+nested_layout physical.Binary flat nested = nested
+nested_layout physical.LargeBinary flat nested = nested
+nested_layout physical.FixedSizeBinary flat nested = nested
+nested_layout _ flat nested = flat
+
+nested_array : (array : AnyArray) → IsFlat array → kind_in (physical_type_of (any_array_type array)) ≡ kind_of array → IsNested (kind_of array) → ⊥
+nested_array array flat kind nested =
+    nested_layout (physical_type_of (any_array_type array)) flat (subst IsNested (sym kind) nested)
+
+pub uncrowded : (array : AnyArray) (before : List Layout) (j : ℕ) → IsFlat array → kind_in (physical_type_of (any_array_type array)) ≡ kind_of array → CrowdedRow before (layout_of array) j → ⊥
+uncrowded (Null p) before j flat kind crowded = crowded
+uncrowded (Boolean p) before j flat kind crowded = crowded
+uncrowded (Primitive p) before j flat kind crowded = crowded
+uncrowded (Utf8 p) before j flat kind crowded = crowded
+uncrowded (LargeUtf8 p) before j flat kind crowded = crowded
+uncrowded (Binary p) before j flat kind crowded = crowded
+uncrowded (LargeBinary p) before j flat kind crowded = crowded
+uncrowded (FixedSizeBinary p) before j flat kind crowded = crowded
+uncrowded (ListOf p) before j flat kind crowded = nested_array (ListOf p) flat kind tt
+uncrowded (FixedSizeList p) before j flat kind crowded = nested_array (FixedSizeList p) flat kind tt
+uncrowded (Struct p) before j flat kind crowded = nested_array (Struct p) flat kind tt
+uncrowded (Union p) before j flat kind crowded = nested_array (Union p) flat kind tt
+uncrowded (Map p) before j flat kind crowded = nested_array (Map p) flat kind tt
+uncrowded (Dictionary p) before j flat kind crowded = nested_array (Dictionary p) flat kind tt

@@ -1,0 +1,70 @@
+-- A growable over arrays without children, call by call.
+use Rattle.std.proofs.Common.{arith, ◌≡◌, ◌+◌, ℕ, List, [], ◌++◌, length, replicate, take, false, Result, Ok, Err, Some, ap, sym, subst, ◌∙◌, length-append}
+use Rattle.std.specs.Prelude.{OnOk}
+use Rattle.std.proofs.lemmas.List.{append-nil, take_all}
+use Rattle.arrow_types.specs.declared.error.Error.{Error}
+use Rattle.arrow_types.specs.Fits.{Fits}
+use Rattle.arrow_types.specs.Physical.{physical_type_of}
+use Rattle.arrow_types.specs.Slot.{Slot, null_slot}
+use Rattle.arrow_types.proofs.FitsLemmas.{Fits-beginning, Fits-nil}
+use Rattle.arrow_memory.specs.Sliced.{sliced}
+use Rattle.arrow_arrays.specs.Any.{kind_in, kind_of, layout_of, any_array_rows, any_array_type}
+use Rattle.arrow_arrays.specs.Crowded.{CrowdedRow}
+use Rattle.arrow_arrays.specs.Layout.{Layout, rows}
+use Rattle.arrow_arrays.specs.declared.array.any.AnyArray.{AnyArray}
+use Rattle.arrow_growable.specs.AnyGrowable.{IsFlatLayout}
+use Rattle.arrow_growable.specs.Grown.{Grown, FitsItself, FitsWith, NamesCrowded, appended, bound_to, first_type, named_rows, null_rows_of, source_at}
+use Rattle.arrow_select.specs.Arrays.{IsFlat}
+use Rattle.arrow_select.specs.Growing.{Holds}
+use Rattle.arrow_select.proofs.FlatLemmas.{uncrowded, without_dense}
+
+-- no rows at first
+pub holds_none : (layouts : List Layout) (g : Grown) → g ≡ bound_to layouts → Holds layouts g []
+holds_none layouts g is = (is, Fits-nil (first_type layouts))
+
+appended_twice : (layouts : List Layout) (xs more : List Slot) → appended (appended (bound_to layouts) xs) more ≡ appended (bound_to layouts) (xs ++ more)
+appended_twice layouts xs more =
+    let count : 0 + length xs + length more ≡ 0 + length (xs ++ more) = omega (arith, length-append xs more) in
+    λ i. record { arrow_type = first_type layouts; sources = Some layouts; rows = xs ++ more; count = count i; failed = false }
+
+module _ (layouts : List Layout) (g : Grown) (xs : List Slot) (held : Holds layouts g xs) where
+  -- what a call appends
+  pub nulls : (n : ℕ) → null_rows_of g n ≡ replicate n (null_slot (first_type layouts))
+  nulls n = ap (λ h. null_rows_of h n) held.0
+
+  pub named : (i start len : ℕ) → named_rows g i start len ≡ sliced (rows (source_at layouts i)) start len
+  named i start len = ap (λ h. named_rows h i start len) held.0
+
+  -- more rows
+  pub holds_more : (new : Grown) (added more : List Slot) → IsFlatLayout (physical_type_of (first_type layouts)) → added ≡ more → new ≡ appended g added → FitsItself new → Holds layouts new (xs ++ more)
+  holds_more new added more flat same is fits =
+      let next : new ≡ appended (bound_to layouts) (xs ++ more) = is ∙ (ap (appended g) same ∙ (ap (λ h. appended h more) held.0 ∙ appended_twice layouts xs more)) in
+      (next, subst FitsItself next fits (without_dense (first_type layouts) flat))
+
+  -- the same of a call that may refuse
+  pub holds_whole : (r : Result (Unit {0}) Error) (new : Grown) (added more whole : List Slot) → IsFlatLayout (physical_type_of (first_type layouts)) → added ≡ more → OnOk r (new ≡ appended g added) → OnOk r (FitsItself new) → whole ≡ xs ++ more → OnOk r (Holds layouts new whole)
+  holds_whole (Ok x) new added more whole flat same is fits all =
+      subst (Holds layouts new) (sym all) (holds_more new added more flat same is fits)
+  holds_whole (Err e) new added more whole flat same is fits all = tt
+
+  -- rows that do not fit behind these do not fit in a whole that begins so
+  pub refuses_whole : (added more rest whole : List Slot) → added ≡ more → (FitsWith g added → ⊥) → whole ≡ (xs ++ more) ++ rest → Fits (first_type layouts) whole → ⊥
+  refuses_whole added more rest whole same over is fits =
+      let begun : Fits (first_type layouts) (xs ++ more) = Fits-beginning (first_type layouts) (xs ++ more) rest (subst (Fits (first_type layouts)) is fits) in
+      over (subst (FitsWith g) (sym same) (subst (λ h. FitsWith h more) (sym held.0) begun))
+
+  -- and neither do these with them
+  pub refuses_last : (added more whole : List Slot) → added ≡ more → (FitsWith g added → ⊥) → whole ≡ xs ++ more → Fits (first_type layouts) whole → ⊥
+  refuses_last added more whole same over is fits =
+      refuses_whole added more [] whole same over (is ∙ sym (append-nil (xs ++ more))) fits
+
+  -- no row that is named is crowded
+  pub names_uncrowded : (array : AnyArray) (i start len : ℕ) → source_at layouts i ≡ layout_of array → IsFlat array → kind_in (physical_type_of (any_array_type array)) ≡ kind_of array → NamesCrowded g i start len → ⊥
+  names_uncrowded array i start len source flat kind crowded =
+      let row = subst (λ h. NamesCrowded h i start len) held.0 crowded in
+      uncrowded array (take i layouts) row.0 flat kind (subst (λ l. CrowdedRow (take i layouts) l row.0) source row.3)
+
+-- all rows of an array that is bound
+pub whole_source : (layouts : List Layout) (i : ℕ) (array : AnyArray) → source_at layouts i ≡ layout_of array → (n : ℕ) → n ≡ length (any_array_rows array) → sliced (rows (source_at layouts i)) 0 n ≡ any_array_rows array
+whole_source layouts i array source n all =
+    ap (λ l. take n (rows l)) source ∙ take_all n (any_array_rows array) (omega (arith, all))

@@ -1,0 +1,19 @@
+use Rattle.std.proofs.Common.{◌<◌, Bor, length, map, refl, arith}
+use Rattle.std.proofs.lemmas.List.{length-map}
+use Rattle.arrow_arrays.specs.Any.{any_array_type, layout_of}
+use Rattle.arrow_select.proofs.ArrayLemmas.{slice_get-map_read, Contains-read, of_one_type}
+use Rattle.arrow_select.proofs.concatenate.concatenate.Goals as goal
+
+pub returns-then-not-have_one_type-clause-types : goal.returns-then-not-have_one_type-clause-types
+returns-then-not-have_one_type-clause-types c =
+    let arrays = c.args.arrays.now in
+    let types = map (λ (array : Bor _). any_array_type array.now) arrays in
+    let first = c.in-Some.ensures.item in
+    let long = length-map arrays (λ (array : Bor _). any_array_type array.now) in
+    let within : 0 < length types = omega (arith, first.3.0) in
+    let read = slice_get-map_read (λ (array : Bor _). any_array_type array.now) arrays 0 c.in-Some.first.now first.3.0 first.1 in
+    (λ _. (any_array_type c.in-Some.first.now.now, Contains-read types 0 _ read within, c.if-not-have_one_type.ensures), λ _. refl)
+
+pub make_growable-requires-clause-one_type : goal.make_growable-requires-clause-one_type
+make_growable-requires-clause-one_type c =
+    of_one_type (λ (a : Bor _). layout_of a.now) c.args.arrays.now _ c.if-not-have_one_type.ensures

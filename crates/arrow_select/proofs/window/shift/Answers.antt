@@ -1,0 +1,38 @@
+use Rattle.std.proofs.Common.{rules, ◌≡◌, ◌-◌, Err, w64, unsigned_abs, ap, sym, subst, ◌∙◌}
+use Rattle.std.proofs.lemmas.Int.{to_z-of_z}
+use Rattle.std.proofs.lemmas.Result.{IfOk-weaker}
+use mir.Val.{SFits}
+use Rattle.arrow_types.specs.Fits.{Fits}
+use Rattle.arrow_types.specs.Rows.{shifted}
+use Rattle.arrow_arrays.specs.Any.{any_array_type, any_array_rows}
+use Rattle.arrow_growable.specs.Grown.{Grown}
+use Rattle.arrow_growable.proofs.ResultLemmas.{passed_on}
+use Rattle.arrow_select.specs.Growing.{between}
+use Rattle.arrow_select.proofs.ShiftLemmas.{shifted_back, shifted_forth}
+use Rattle.arrow_select.proofs.window.shift.Goals as goal
+use Rattle.arrow_select.proofs.window.shift.Goals.{then-offset-gt0, else-offset-gt0}
+
+pub returns-in_err-append_between-clause-overflow :
+    goal.returns-in_err-append_between-clause-overflow
+returns-in_err-append_between-clause-overflow c overflows fits =
+    let xs = any_array_rows c.args.array.now in
+    let t = any_array_type c.args.array.now in
+    let fits_64 : SFits w64 c.args.offset = search rules in
+    let places = c.unsigned_abs-places.ensures.value ∙ ap unsigned_abs (to_z-of_z w64 c.args.offset fits_64) in
+    let moved : shifted xs c.args.offset t ≡ between xs c.if-offset-gt0.front (c.unsigned_abs-places.result - c.if-offset-gt0.front) t = elim c.if-offset-gt0.branch [
+      | then-offset-gt0 w ↦ shifted_back xs c.args.offset t _ _ places (search rules) w.front-is
+      | else-offset-gt0 w ↦ shifted_forth xs c.args.offset t _ _ places (search rules) w.front-is
+    ] in
+    c.in_err-append_between.ensures.overflow (ap Err (passed_on c.from_residual-in_err-append_between.result _ _ c.from_residual-in_err-append_between.ensures.1 overflows)) (subst (Fits t) moved fits)
+
+pub returns-clause-rows : goal.returns-clause-rows
+returns-clause-rows c =
+    let xs = any_array_rows c.args.array.now in
+    let t = any_array_type c.args.array.now in
+    let fits_64 : SFits w64 c.args.offset = search rules in
+    let places = c.unsigned_abs-places.ensures.value ∙ ap unsigned_abs (to_z-of_z w64 c.args.offset fits_64) in
+    let moved : shifted xs c.args.offset t ≡ between xs c.if-offset-gt0.front (c.unsigned_abs-places.result - c.if-offset-gt0.front) t = elim c.if-offset-gt0.branch [
+      | then-offset-gt0 w ↦ shifted_back xs c.args.offset t _ _ places (search rules) w.front-is
+      | else-offset-gt0 w ↦ shifted_forth xs c.args.offset t _ _ places (search rules) w.front-is
+    ] in
+    IfOk-weaker c.as_box.result _ _ (λ array held. held.1 ∙ (ap (λ (g : Grown). g.rows) c.in_ok-append_between.ensures.ok.0 ∙ sym moved)) c.as_box.ensures.ok

@@ -1,0 +1,4 @@
+pub mod Arrays
+pub mod Examples
+pub mod Growing
+pub mod Refusals

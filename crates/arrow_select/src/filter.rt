@@ -1,0 +1,70 @@
+//! The rows at which a predicate is true.
+
+ghost use Rattle.std.specs.Prelude.{◌≡◌, ◌<◌, [], ◌∷◌, Err, Some, length, slice_get, IfOk, IfErr, OnOk};
+ghost use Rattle.arrow_types.specs.declared.error.Error.{Error};
+ghost use Rattle.arrow_types.specs.Fits.{Fits};
+ghost use Rattle.arrow_types.specs.Rows.{mask_of, select};
+ghost use Rattle.arrow_arrays.specs.Any.{any_array_type, any_array_rows, layout_of};
+ghost use Rattle.arrow_growable.specs.Grown.{bound_to};
+ghost use Rattle.arrow_select.specs.Arrays.{IsFlat, boolean_rows};
+ghost use Rattle.arrow_select.specs.Growing.{Holds};
+ghost use Rattle.arrow_select.specs.Refusals.{IsOverflowOrMemory};
+
+use arrow_arrays::array::AnyArray;
+use arrow_flat::array::BooleanArray;
+use arrow_growable::growable::{Growable, make_growable};
+use arrow_types::error::Error;
+use std::alloc::Global;
+
+/// The rows at which the predicate is true, in order, in an array of the same type. A null of the
+/// predicate counts as false, whatever is stored beneath it. The predicate has a row for each row of the
+/// array, whose data type must be without children.
+///
+/// # Errors
+/// `Overflow` where the rows do not fit the type, and `OutOfMemory` where memory is refused.
+///
+/// Source: arrow2's `filter`.
+pub fn filter(alloc: Global, array: &AnyArray, filter: &BooleanArray) -> Result<AnyArray, Error>
+    requires flat { IsFlat array.now }
+    requires lengths { length (boolean_rows filter.now) ≡ length (any_array_rows array.now) }
+    ensures array_type { IfOk result (λ kept. any_array_type kept ≡ any_array_type array.now) }
+    ensures rows { IfOk result (λ kept. any_array_rows kept ≡ select (mask_of (boolean_rows filter.now)) (any_array_rows array.now)) }
+    ensures fits { IfOk result (λ kept. Fits (any_array_type kept) (any_array_rows kept)) }
+    ensures overflow { result ≡ Err Error.Overflow → Fits (any_array_type array.now) (select (mask_of (boolean_rows filter.now)) (any_array_rows array.now)) → ⊥ }
+    ensures others { IfErr result IsOverflowOrMemory }
+{
+    let mut growable = make_growable(alloc, &[array], false, 0)?;
+    append_selected(&mut growable, array, filter)?;
+    growable.as_box()
+}
+
+/// Whether a row of a predicate is true: a null is not.
+fn is_true(filter: &BooleanArray, row: usize) -> bool
+    requires { row < length (boolean_rows filter.now) }
+    ensures { slice_get (mask_of (boolean_rows filter.now)) row ≡ Some result }
+{
+    filter.is_valid(row) && filter.value(row)
+}
+
+/// Appends the rows at which the predicate is true.
+fn append_selected<'a, G: Growable<'a>>(
+    growable: &mut G,
+    array: &AnyArray,
+    filter: &BooleanArray,
+) -> Result<(), Error>
+    requires flat { IsFlat array.now }
+    requires bound { G.state growable.old ≡ bound_to (layout_of array.now ∷ []) }
+    requires lengths { length (boolean_rows filter.now) ≡ length (any_array_rows array.now) }
+    ensures ok { OnOk result (Holds (layout_of array.now ∷ []) (G.state growable.new) (select (mask_of (boolean_rows filter.now)) (any_array_rows array.now))) }
+    ensures overflow { result ≡ Err Error.Overflow → Fits (any_array_type array.now) (select (mask_of (boolean_rows filter.now)) (any_array_rows array.now)) → ⊥ }
+    ensures others { IfErr result IsOverflowOrMemory }
+{
+    // The kind of an array follows from its data type: one without children has no crowded row.
+    let _ = array.data_type();
+    for row in 0..array.len() {
+        if is_true(filter, row) {
+            growable.extend(0, row, 1)?;
+        }
+    }
+    Ok(())
+}

@@ -1,0 +1,9 @@
+//! Kernels that select rows: arrays in, an array out. A contract says the type and the rows of what a
+//! kernel answers as an expression of the rows of its arguments, and when it refuses.
+#![tactic(auto)]
+
+pub mod concatenate;
+pub mod filter;
+#[cfg(test)]
+mod tests;
+pub mod window;

@@ -1,0 +1,68 @@
+//! Rows that are moved along an array.
+
+ghost use Rattle.std.specs.Prelude.{◌≡◌, ◌↔◌, ◌+◌, ◌≤◌, [], ◌∷◌, Err, length, IfOk, IfErr, OnOk};
+ghost use Rattle.arrow_types.specs.declared.error.Error.{Error};
+ghost use Rattle.arrow_types.specs.declared.error.ArgumentFault.{ArgumentFault};
+ghost use Rattle.arrow_types.specs.Fits.{Fits};
+ghost use Rattle.arrow_types.specs.Rows.{shifted};
+ghost use Rattle.arrow_arrays.specs.Any.{any_array_type, any_array_rows, layout_of};
+ghost use Rattle.arrow_growable.specs.Grown.{bound_to};
+ghost use Rattle.arrow_select.specs.Arrays.{IsFlat};
+ghost use Rattle.arrow_select.specs.Growing.{Holds, between};
+ghost use Rattle.arrow_select.specs.Refusals.{IsOverflowOrMemory, IsShiftRefusal, PassesLength};
+
+use arrow_arrays::array::AnyArray;
+use arrow_growable::growable::{Growable, make_growable};
+use arrow_types::error::{ArgumentFault, Error};
+use std::alloc::Global;
+
+/// The rows moved by `offset` places, in an array of the same type: for an offset above 0, so many null
+/// slots and then all rows but the last ones; else all rows but the first ones, and then the null slots.
+/// The data type must be without children.
+///
+/// # Errors
+/// `ShiftOffset` where the offset is the least number or passes the count of rows, either way; then
+/// `Overflow` where the rows do not fit the type, and `OutOfMemory` where memory is refused.
+///
+/// Source: arrow2's `shift`.
+pub fn shift(alloc: Global, array: &AnyArray, offset: i64) -> Result<AnyArray, Error>
+    requires flat { IsFlat array.now }
+    ensures passes { (result ≡ Err (Error.InvalidArgumentError ArgumentFault.ShiftOffset)) ↔ PassesLength offset (length (any_array_rows array.now)) }
+    ensures array_type { IfOk result (λ moved. any_array_type moved ≡ any_array_type array.now) }
+    ensures rows { IfOk result (λ moved. any_array_rows moved ≡ shifted (any_array_rows array.now) offset (any_array_type array.now)) }
+    ensures fits { IfOk result (λ moved. Fits (any_array_type moved) (any_array_rows moved)) }
+    ensures overflow { result ≡ Err Error.Overflow → Fits (any_array_type array.now) (shifted (any_array_rows array.now) offset (any_array_type array.now)) → ⊥ }
+    ensures others { IfErr result IsShiftRefusal }
+{
+    let places = offset.unsigned_abs() as usize;
+    let len = array.len();
+    if offset == i64::MIN || places > len {
+        return Err(Error::InvalidArgumentError(ArgumentFault::ShiftOffset));
+    }
+    let front = if offset > 0 { places } else { 0 };
+    let mut growable = make_growable(alloc, &[array], places > 0, len)?;
+    append_between(&mut growable, array, front, places - front)?;
+    growable.as_box()
+}
+
+/// Appends `front` null slots, then rows, and then `behind` null slots: as many as the array has. The
+/// rows are those from row `behind` on.
+fn append_between<'a, G: Growable<'a>>(
+    growable: &mut G,
+    array: &AnyArray,
+    front: usize,
+    behind: usize,
+) -> Result<(), Error>
+    requires flat { IsFlat array.now }
+    requires bound { G.state growable.old ≡ bound_to (layout_of array.now ∷ []) }
+    requires within { front + behind ≤ length (any_array_rows array.now) }
+    ensures ok { OnOk result (Holds (layout_of array.now ∷ []) (G.state growable.new) (between (any_array_rows array.now) front behind (any_array_type array.now))) }
+    ensures overflow { result ≡ Err Error.Overflow → Fits (any_array_type array.now) (between (any_array_rows array.now) front behind (any_array_type array.now)) → ⊥ }
+    ensures others { IfErr result IsOverflowOrMemory }
+{
+    // The kind of an array follows from its data type: one without children has no crowded row.
+    let _ = array.data_type();
+    growable.extend_validity(front)?;
+    growable.extend(0, behind, array.len() - front - behind)?;
+    growable.extend_validity(behind)
+}
