@@ -1,4 +1,3 @@
 pub mod InputProgress
-pub mod KernelLemmas
 pub mod OutputProgress
-pub mod PartsLemmas
+pub mod WrittenLemmas

@@ -1,4 +1,3 @@
-pub mod Arrays
 pub mod Input
-pub mod Parts
 pub mod Status
+pub mod Written

@@ -1,8 +1,13 @@
 //! What a line is answered, and how it is printed.
 
+ghost use Rattle.std.specs.Prelude.{IfOk};
+ghost use Rattle.arrow_arrays.specs.Any.{any_array_type};
+ghost use Rattle.arrow_tool.specs.Written.{IsWritten};
+
+use crate::arrays::WrittenArray;
 use crate::commands::Command;
-use crate::first::{Array, FlatArray};
-use crate::grammar::{Element, Line, ReadError};
+use crate::grammar::{Line, ReadError};
+use arrow_arrays::array::AnyArray;
 use arrow_types::error::Error;
 use std::alloc::{AllocError, Global};
 use std::fmt;
@@ -23,15 +28,17 @@ pub(crate) enum Refusal {
 /// What a line is answered.
 #[derive(Drop)]
 pub(crate) enum Answer {
-    Array(Array),
+    Array(WrittenArray),
     Refused(Refusal),
 }
 
 impl Answer {
     /// What a kernel that makes an array has answered.
-    pub(crate) fn of_kernel(outcome: Result<Array, Error>) -> Answer {
+    pub(crate) fn of_kernel(outcome: Result<AnyArray, Error>) -> Answer
+        requires { IfOk outcome (λ array. IsWritten (any_array_type array)) }
+    {
         match outcome {
-            Ok(array) => Answer::Array(array),
+            Ok(array) => Answer::Array(WrittenArray::new(array)),
             Err(error) => Answer::Refused(Refusal::Kernel(error)),
         }
     }
@@ -47,6 +54,7 @@ pub(crate) fn answer_to(alloc: Global, line: &[u8]) -> Result<Option<Answer>, Al
         Ok(Some(line)) => line,
         Ok(None) => return Ok(None),
         Err(ReadError::Syntax) => return Ok(Some(Answer::Refused(Refusal::Syntax))),
+        Err(ReadError::Refused(error)) => return Ok(Some(Answer::Refused(Refusal::Kernel(error)))),
         Err(ReadError::OutOfMemory(error)) => return Err(error),
     };
     match Command::from_name(line.name) {
@@ -58,8 +66,7 @@ pub(crate) fn answer_to(alloc: Global, line: &[u8]) -> Result<Option<Answer>, Al
 impl fmt::Display for Answer {
     fn fmt<W: fmt::Write>(&self, f: &mut fmt::Formatter<W>) -> fmt::Result {
         match self {
-            Answer::Array(Array::Int32(array)) => write_array(f, "i32", array),
-            Answer::Array(Array::Boolean(array)) => write_array(f, "bool", array),
+            Answer::Array(array) => write!(f, "{array}"),
             Answer::Refused(refusal) => write!(f, "error {refusal}"),
         }
     }
@@ -76,26 +83,4 @@ impl fmt::Display for Refusal {
             Refusal::Kernel(error) => write!(f, "{error:?}"),
         }
     }
-}
-
-/// Prints an array as the grammar reads it, with `_` for each null.
-fn write_array<W: fmt::Write, A: FlatArray>(
-    f: &mut fmt::Formatter<W>,
-    name: &str,
-    array: &A,
-) -> fmt::Result
-where
-    A::Item: Element,
-{
-    write!(f, "{name}[")?;
-    for i in 0..array.len() {
-        if i > 0 {
-            f.write_str(",")?;
-        }
-        match array.get(i) {
-            Some(item) => item.write(f)?,
-            None => f.write_str("_")?,
-        }
-    }
-    f.write_str("]")
 }

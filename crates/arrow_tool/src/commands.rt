@@ -1,8 +1,9 @@
 //! The commands, and the kernel that each calls.
 
 use crate::answers::{Answer, Refusal};
-use crate::first::{self, Array, FlatArray};
 use crate::grammar::Argument;
+use arrow_arrays::array::AnyArray;
+use arrow_select::{concatenate, filter, window};
 use std::alloc::{AllocError, Global};
 
 /// A command that a line may name.
@@ -10,6 +11,7 @@ use std::alloc::{AllocError, Global};
 pub(crate) enum Command {
     Concatenate,
     Filter,
+    Shift,
 }
 
 impl Command {
@@ -17,6 +19,7 @@ impl Command {
         match name {
             "concatenate" => Some(Command::Concatenate),
             "filter" => Some(Command::Filter),
+            "shift" => Some(Command::Shift),
             _ => None,
         }
     }
@@ -30,6 +33,7 @@ impl Command {
         match self {
             Command::Concatenate => concatenate(alloc, arguments),
             Command::Filter => Ok(filter(alloc, arguments)),
+            Command::Shift => Ok(shift(alloc, arguments)),
         }
     }
 }
@@ -38,22 +42,38 @@ fn concatenate(alloc: Global, arguments: &[Argument<'_>]) -> Result<Answer, Allo
     let mut arrays = Vec::new(alloc);
     for argument in arguments {
         match argument {
-            Argument::Array(array) => arrays.push(array)?,
+            Argument::Array(array) => arrays.push(array.as_array())?,
             Argument::Number(_) => return Ok(Answer::Refused(Refusal::Usage)),
         }
     }
-    Ok(Answer::of_kernel(first::concatenate(alloc, &arrays)))
+    Ok(Answer::of_kernel(concatenate::concatenate(alloc, &arrays)))
 }
 
 fn filter(alloc: Global, arguments: &[Argument<'_>]) -> Answer {
     let [array, predicate] = arguments else {
         return Answer::Refused(Refusal::Usage);
     };
-    match (array, predicate) {
-        (Argument::Array(array), Argument::Array(Array::Boolean(predicate)))
-            if array.len() == predicate.len() => {
-            Answer::of_kernel(first::filter(alloc, array, predicate))
+    let (Argument::Array(array), Argument::Array(predicate)) = (array, predicate) else {
+        return Answer::Refused(Refusal::Usage);
+    };
+    let array = array.as_array();
+    match predicate.as_array() {
+        AnyArray::Boolean(predicate) if predicate.len() == array.len() => {
+            Answer::of_kernel(filter::filter(alloc, array, predicate))
         }
         _ => Answer::Refused(Refusal::Usage),
+    }
+}
+
+fn shift(alloc: Global, arguments: &[Argument<'_>]) -> Answer {
+    let [array, offset] = arguments else {
+        return Answer::Refused(Refusal::Usage);
+    };
+    let (Argument::Array(array), Argument::Number(offset)) = (array, offset) else {
+        return Answer::Refused(Refusal::Usage);
+    };
+    match offset.parse() {
+        Ok(offset) => Answer::of_kernel(window::shift(alloc, array.as_array(), offset)),
+        Err(_) => Answer::Refused(Refusal::Usage),
     }
 }

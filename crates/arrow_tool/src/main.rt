@@ -6,9 +6,9 @@ use std::process::ExitCode;
 use stream::Guarded;
 
 mod answers;
+mod arrays;
 mod commands;
 pub mod engine;
-pub mod first;
 mod grammar;
 pub mod stream;
 

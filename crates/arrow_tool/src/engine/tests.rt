@@ -155,7 +155,7 @@ fn check(
 
 #[test]
 fn lines(rt: HostRuntime) {
-    let cases: [(&str, &[u8], bool, &[u8]); 34] = [
+    let cases: [(&str, &[u8], bool, &[u8]); 46] = [
         ("nothing", b"", false, b""),
         (
             "filter",
@@ -176,10 +176,34 @@ fn lines(rt: HostRuntime) {
             b"i32[_,3]\nerror ConcatenateTypes\n",
         ),
         (
-            "no such command yet",
+            "an offset that passes the length",
             b"shift i32[1,_,3] 4\n",
             true,
-            b"error Command\n",
+            b"error ShiftOffset\n",
+        ),
+        (
+            "back and forth",
+            b"shift i32[1,_,3] 1\nshift bool[t,_,f] -1\nshift utf8[\"a\",\"b\"] 0\n",
+            false,
+            b"i32[_,1,_]\nbool[_,f,_]\nutf8[\"a\",\"b\"]\n",
+        ),
+        (
+            "past 64 bits",
+            b"shift i32[1] 9223372036854775808\n",
+            true,
+            b"error Usage\n",
+        ),
+        (
+            "the least of 64 bits",
+            b"shift i32[1] -9223372036854775808\n",
+            true,
+            b"error ShiftOffset\n",
+        ),
+        (
+            "no offset",
+            b"shift i32[1] i32[1]\n",
+            true,
+            b"error Usage\n",
         ),
         (
             "a number",
@@ -268,8 +292,51 @@ fn lines(rt: HostRuntime) {
             b"error Syntax\n",
         ),
         (
-            "a text, not read yet",
-            b"concatenate utf8[\"a\"]\n",
+            "a quote in a text",
+            b"concatenate utf8[\"a\",_] utf8[\"b\\\"c\"]\n",
+            false,
+            b"utf8[\"a\",_,\"b\\\"c\"]\n",
+        ),
+        (
+            "the three escapes, a comma, a space and a bracket",
+            b"concatenate utf8[\"\\\"\\\\\\n\",\"a, b]\",\"\"]\n",
+            false,
+            b"utf8[\"\\\"\\\\\\n\",\"a, b]\",\"\"]\n",
+        ),
+        (
+            "texts chosen",
+            b"filter utf8[\"h\xc3\xa9\",_,\"c\"] bool[t,t,_t]\n",
+            false,
+            b"utf8[\"h\xc3\xa9\",_]\n",
+        ),
+        ("no texts", b"concatenate utf8[]\n", false, b"utf8[]\n"),
+        (
+            "texts and numbers",
+            b"concatenate utf8[\"a\"] i32[1]\n",
+            true,
+            b"error ConcatenateTypes\n",
+        ),
+        (
+            "a text without quotes",
+            b"concatenate utf8[a]\nconcatenate utf8[\"]\nconcatenate utf8[\"a\",]\n",
+            true,
+            b"error Syntax\nerror Syntax\nerror Syntax\n",
+        ),
+        (
+            "a quote inside",
+            b"concatenate utf8[\"a\"b\"]\nconcatenate utf8[\"a\"\"]\n",
+            true,
+            b"error Syntax\nerror Syntax\n",
+        ),
+        (
+            "no such escape",
+            b"concatenate utf8[\"\\t\"]\nconcatenate utf8[\"a\\\"]\n",
+            true,
+            b"error Syntax\nerror Syntax\n",
+        ),
+        (
+            "a text beneath a null",
+            b"concatenate utf8[_\"a\"]\n",
             true,
             b"error Syntax\n",
         ),
