@@ -1,6 +1,6 @@
 //! Flat arrays: those without children.
 
-ghost use Rattle.std.specs.Prelude.{◌≡◌, ◌+◌, ◌≤◌, ◌<◌, ◌↔◌, [], List, Option, Bool, ℕ, length, count_by, slice_index_or, option_copied, IsTrue, IfSome, option_map};
+ghost use Rattle.std.specs.Prelude.{◌≡◌, ◌+◌, ◌≤◌, ◌<◌, ◌↔◌, [], List, Option, Bool, ℕ, length, count_by, slice_index_or, option_copied, IsTrue};
 ghost use Rattle.std.specs.List.{All};
 ghost use Rattle.std.specs.Cmp.{partial_equiv_from_equiv, on_equiv};
 ghost use Rattle.arrow_types.specs.ArrowType.{ArrowType};

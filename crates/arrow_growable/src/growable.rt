@@ -1,6 +1,6 @@
 //! Arrays that grow by rows of other arrays and by null slots.
 
-ghost use Rattle.std.specs.Prelude.{◌≡◌, ◌↔◌, IsTrue, true, Err, IfOk, IfErr, OnOk, OnErr};
+ghost use Rattle.std.specs.Prelude.{◌≡◌, ◌↔◌, true, Err, IfOk, IfErr, OnOk, OnErr};
 ghost use Rattle.arrow_types.specs.declared.error.Error.{Error};
 ghost use Rattle.arrow_growable.specs.Grown.{Grown, NamesRows, NamesCrowded, CountsRows, FitsItself, FitsWith, HasFailed, HoldsRows, IsRefusal, IsFailedOrMemory, appended, empty_over, named_rows, null_rows_of};
 

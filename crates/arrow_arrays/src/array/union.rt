@@ -7,7 +7,7 @@ ghost use Rattle.arrow_types.specs.Carried.{IsCarried};
 ghost use Rattle.arrow_types.specs.Physical.{physical_type_of};
 ghost use Rattle.arrow_types.specs.Relation.{is_null};
 ghost use Rattle.arrow_types.specs.SameTree.{same_by, same_by-equivalence};
-ghost use Rattle.arrow_types.specs.Slot.{Null, Variant, id_at};
+ghost use Rattle.arrow_types.specs.Slot.{Null, Variant};
 ghost use Rattle.arrow_types.specs.TypeOf.{type_of};
 ghost use Rattle.arrow_types.specs.declared.datatypes.physical_type.PhysicalType.TheVariants as physical;
 ghost use Rattle.arrow_memory.specs.Sliced.{sliced};

@@ -1,6 +1,6 @@
 //! Arrays of bytes, each row of as many.
 
-ghost use Rattle.std.specs.Prelude.{◌≡◌, ◌*◌, ◌/◌, ◌<◌, ◌≤◌, List, ℕ, length, slice_get, Some, IfOk, IfErr, OnOk, refl};
+ghost use Rattle.std.specs.Prelude.{◌≡◌, ◌*◌, ◌/◌, ◌<◌, ◌≤◌, List, length, slice_get, Some, IfOk, IfErr, OnOk, refl};
 ghost use Rattle.std.proofs.Common.{rules};
 ghost use Rattle.std.proofs.lemmas.List.Elements.{All-map};
 ghost use Rattle.arrow_types.specs.Physical.{physical_type_of};

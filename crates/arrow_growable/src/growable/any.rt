@@ -1,6 +1,5 @@
 //! Arrays of any type under construction.
 
-ghost use Rattle.std.specs.Prelude.{◌≡◌};
 ghost use Rattle.arrow_growable.specs.AnyGrowable.{grown_of, primitive_grown_of};
 
 use crate::growable::{

@@ -1,9 +1,8 @@
 //! Boolean arrays under construction.
 
-ghost use Rattle.std.specs.Prelude.{◌≡◌, ◌+◌, ◌<◌, ◌≤◌, List, Bool, ℕ, length, map, replicate, false};
+ghost use Rattle.std.specs.Prelude.{◌≡◌, ◌<◌, List, Bool, length, map, replicate, false};
 ghost use Rattle.std.proofs.Common.{ap};
 ghost use Rattle.std.proofs.lemmas.List.{length-replicate};
-ghost use Rattle.arrow_types.specs.ArrowType.{ArrowType};
 ghost use Rattle.arrow_types.specs.Physical.{physical_type_of};
 ghost use Rattle.arrow_types.specs.Slot.{Boolean};
 ghost use Rattle.arrow_types.specs.declared.datatypes.physical_type.PhysicalType.TheVariants as physical;

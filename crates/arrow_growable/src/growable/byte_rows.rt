@@ -1,6 +1,6 @@
 //! Texts and bytes under construction.
 
-ghost use Rattle.std.specs.Prelude.{◌≡◌, ◌+◌, ◌-◌, ◌<◌, ◌≤◌, [], ◌∷◌, ◌++◌, Bool, List, ℕ, length, map, replicate, slice_index, true, false, Err, IfOk, IfErr, OnOk, OnErr, IsOkUnless, refl};
+ghost use Rattle.std.specs.Prelude.{◌≡◌, ◌+◌, ◌-◌, ◌<◌, ◌≤◌, [], ◌++◌, Bool, List, ℕ, length, map, replicate, slice_index, true, false, Err, IfOk, IfErr, OnOk, OnErr, IsOkUnless, refl};
 ghost use Rattle.std.specs.List.{All};
 ghost use Rattle.arrow_types.specs.declared.error.Error.{Error};
 ghost use Rattle.arrow_types.specs.Fits.{byte_count};
@@ -9,11 +9,9 @@ ghost use Rattle.arrow_memory.specs.Grown.{IsGrowthError};
 ghost use Rattle.arrow_memory.specs.Offsets.{IsOffsets, last_of, with_rows};
 ghost use Rattle.arrow_memory.specs.Sliced.{sliced};
 ghost use Rattle.arrow_flat.specs.ByteRows.{byte_slots, row_bytes};
-ghost use Rattle.arrow_flat.specs.Parts.{FitsRows};
 ghost use Rattle.arrow_flat.specs.Pieces.{pieces};
 ghost use Rattle.arrow_arrays.specs.Any.{Kind, kind_of, layout_of, utf8_kind, large_utf8_kind, binary_kind, large_binary_kind};
 ghost use Rattle.arrow_growable.specs.Bytes.{IsBytesLayout, SparesBytes, filled, rows_layout, stored_rows, total};
-ghost use Rattle.arrow_growable.specs.Validity.{bits_of_part};
 
 use crate::growable::flat::{FlatGrowable, GrowableValues};
 use arrow_arrays::array::AnyArray;

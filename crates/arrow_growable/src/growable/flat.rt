@@ -1,7 +1,6 @@
 //! Flat arrays under construction.
 
-ghost use Rattle.std.specs.Prelude.{◌≡◌, ◌+◌, ◌<◌, ◌≤◌, ◌++◌, ◌↔◌, ◌^◌, [], Bool, List, ℕ, Option, length, map, replicate, true, false, Err, Some, IfOk, IfErr, OnOk, OnErr, IsOkUnless, option_copied};
-ghost use Rattle.std.specs.List.{All};
+ghost use Rattle.std.specs.Prelude.{◌≡◌, ◌+◌, ◌<◌, ◌≤◌, ◌++◌, ◌↔◌, ◌^◌, [], Bool, List, ℕ, Option, length, map, replicate, true, false, Err, Some, IfOk, IfErr, OnOk, IsOkUnless, option_copied};
 ghost use Rattle.arrow_types.specs.declared.error.Error.{Error};
 ghost use Rattle.arrow_types.specs.ArrowType.{ArrowType};
 ghost use Rattle.arrow_types.specs.Carried.{IsCarried};

@@ -1,7 +1,6 @@
 //! Arrays of the null type under construction.
 
 ghost use Rattle.std.specs.Prelude.{◌≡◌, ◌+◌, ◌<◌, ◌≤◌, ◌^◌, ◌↔◌, length, map, replicate, true, false, None, Ok, Err, Some, IfOk, IfErr, OnOk, OnErr, IsOkUnless};
-ghost use Rattle.std.proofs.Common.{rules};
 ghost use Rattle.arrow_types.specs.declared.error.Error.{Error};
 ghost use Rattle.arrow_types.specs.declared.datatypes.physical_type.PhysicalType.TheVariants as physical;
 ghost use Rattle.arrow_types.specs.ArrowType.{plain, null};

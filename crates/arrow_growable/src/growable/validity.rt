@@ -1,6 +1,6 @@
 //! The validity of an array under construction.
 
-ghost use Rattle.std.specs.Prelude.{◌≡◌, ◌+◌, ◌≤◌, ◌^◌, ◌↔◌, [], ◌++◌, length, replicate, true, false, Err, Some, List, IfOk, IfErr, IfSome, IsSomeAnd, option_map, OnOk, OnErr, IsOkUnless, option_copied};
+ghost use Rattle.std.specs.Prelude.{◌≡◌, ◌+◌, ◌≤◌, ◌^◌, [], ◌++◌, length, replicate, true, false, Err, Some, List, IfOk, IfErr, IfSome, IsSomeAnd, option_map, OnOk, OnErr, IsOkUnless, option_copied};
 ghost use Rattle.arrow_types.specs.declared.error.Error.{Error};
 ghost use Rattle.arrow_types.specs.Rows.{mask, masked};
 ghost use Rattle.arrow_types.specs.Slot.{Slot};

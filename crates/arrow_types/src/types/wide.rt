@@ -1,6 +1,6 @@
 //! Numbers of 256 bits.
 
-ghost use Rattle.std.specs.Prelude.{◌≡◌, ◌↔◌, IsTrue, pos};
+ghost use Rattle.std.specs.Prelude.{◌≡◌, pos};
 ghost use Rattle.std.proofs.Common.{rules};
 ghost use Rattle.std.specs.Cmp.{partial_order_from_own_ties};
 ghost use Rattle.std.specs.Cmp.Rules.{comparing};

@@ -1,8 +1,8 @@
 //! Keys of dictionaries.
 
-ghost use Rattle.std.specs.Prelude.{◌≡◌, ◌+◌, ◌≤◌, ◌<◌, ◌↔◌, length, count_by, map, option_copied, slice_get, slice_index_or, Some, IsTrue, IfOk};
+ghost use Rattle.std.specs.Prelude.{◌≡◌, ◌+◌, ◌≤◌, ◌<◌, ◌↔◌, length, count_by, map, option_copied, slice_get, slice_index_or, Some, IsTrue};
 ghost use Rattle.arrow_types.specs.Relation.{is_null};
-ghost use Rattle.arrow_types.specs.Slot.{Slot, Null};
+ghost use Rattle.arrow_types.specs.Slot.{Null};
 ghost use Rattle.arrow_memory.specs.Sliced.{sliced};
 ghost use Rattle.arrow_flat.specs.Parts.{MarksNulls, rows_by};
 ghost use Rattle.arrow_arrays.specs.AnyKeys.{key_rows, key_type_of, keys_of};
