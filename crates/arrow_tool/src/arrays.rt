@@ -1,6 +1,7 @@
 //! Arrays as lines write them: `i32[..]`, `bool[..]` and `utf8[..]`.
 
 ghost use Rattle.std.specs.Prelude.{◌≡◌, ◌<◌, length};
+ghost use Rattle.arrow_types.specs.Rows.{valid_at};
 ghost use Rattle.arrow_flat.specs.Parts.{rows_by};
 ghost use Rattle.arrow_arrays.specs.Any.{any_array_type, layout_of};
 ghost use Rattle.arrow_arrays.specs.Layout.{rows, type_of_layout};
@@ -232,7 +233,8 @@ impl WrittenArray {
 /// Whether row `i` is valid.
 fn is_valid<V: Values>(array: &FlatArray<V>, i: usize) -> bool
     requires { i < length (rows_by V.slots array.now) }
-    ensures { i < length (V.slots array.now.values) }
+    ensures value { result ≡ valid_at array.now.validity i }
+    ensures within { i < length (V.slots array.now.values) }
 {
     prove!(i < array.len());
     array.is_valid(i)
