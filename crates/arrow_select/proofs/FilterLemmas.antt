@@ -1,11 +1,11 @@
 -- Rows that a predicate selects, row by row.
-use Rattle.std.proofs.Common.{arith, ◌≡◌, ◌+◌, ◌<◌, ◌≤◌, ◌&&◌, ℕ, zero, suc, Bool, true, false, Option, Some, None, List, [], ◌∷◌, ◌++◌, length, map, take, drop, refl, ap, sym, ◌∙◌, append_assoc, if◌then◌else◌}
+use Rattle.std.proofs.Common.{arith, ◌≡◌, ◌+◌, ◌<◌, ◌≤◌, ◌&&◌, ℕ, zero, suc, Bool, true, false, Option, Some, None, List, [], ◌∷◌, ◌++◌, length, map, take, drop, refl, ap, sym, ◌∙◌, append_assoc}
 use Rattle.std.specs.Prelude.{slice_get, slice_index_or, option_map}
-use Rattle.std.proofs.lemmas.List.{append-nil, drop_all, length-map}
+use Rattle.std.proofs.lemmas.List.{length-map}
 use Rattle.std.proofs.lemmas.Option.{slice_get-get_or, slice_get-map}
 use Rattle.arrow_types.specs.Rows.{mask, masked, mask_of, select, selects, valid_at}
 use Rattle.arrow_types.specs.Slot.{Slot, Null, Boolean}
-use Rattle.arrow_types.proofs.RowsLemmas.{drop_at_read, select-nil, select_at_read}
+use Rattle.arrow_types.proofs.RowsLemmas.{drop_at_read, select_at_read}
 use Rattle.arrow_memory.specs.Sliced.{sliced}
 
 -- a row of a predicate
@@ -19,10 +19,6 @@ pub within_bits : (validity : Option (List Bool)) (bits : List Bool) (i : ℕ) �
 within_bits None bits i within = omega (arith, within, length-map bits Boolean)
 within_bits (Some validity) bits i within =
     omega (arith, within, shorter validity (map Boolean bits), length-map bits Boolean)
-
-bit_beneath : (v b : Bool) (i : ℕ) → selects (if v then Boolean b else Null) ≡ (v && b)
-bit_beneath true b i = refl
-bit_beneath false b i = refl
 
 bit_under : (validity bits : List Bool) (i : ℕ) (b : Bool) → i < length (mask validity (map Boolean bits)) → slice_get bits i ≡ Some b → slice_get (mask_of (mask validity (map Boolean bits))) i ≡ Some (slice_index_or validity i true && b)
 bit_under [] bits i b within read = absurd (omega (arith, within))
@@ -54,7 +50,3 @@ module _ (kept : List Slot) (chosen : List Bool) (xs : List Slot) (i : ℕ) (so_
   pub leaves_row : slice_get chosen i ≡ Some false → i < length xs → KeepsUpTo kept chosen xs (i + 1)
   leaves_row is within =
       ap (λ ys. kept ++ ys) (sym (select_at_read chosen xs i false _ is (slice_get-get_or xs i Null within))) ∙ so_far
-
-  pub keeps_all : length xs ≤ i → kept ≡ select chosen xs
-  keeps_all end =
-      sym (append-nil kept) ∙ (ap (λ ys. kept ++ ys) (sym (ap (select (drop i chosen)) (drop_all i xs end) ∙ select-nil (drop i chosen))) ∙ so_far)

@@ -40,6 +40,7 @@ impl Model for WrittenArray {
 }
 
 impl WrittenArray {
+    /// The array, which is of such a type.
     pub(crate) fn new(array: AnyArray) -> WrittenArray
         requires { IsWritten (any_array_type array) }
         ensures { result ≡ layout_of array }
@@ -47,6 +48,7 @@ impl WrittenArray {
         WrittenArray { array }
     }
 
+    /// The array, and that it is of such a type.
     pub(crate) fn as_array(&self) -> &AnyArray
         ensures same { layout_of result.now ≡ self.now }
         ensures written { IsWritten (type_of_layout self.now) }
@@ -76,6 +78,7 @@ fn elements_of<'a>(word: &'a str, opening: &str) -> Option<&'a str> {
 
 /// An element of an array of a fixed width.
 trait Element: Copy + Default {
+    /// The element, if the text has the form of one.
     fn read(text: &str) -> Option<Self>;
 }
 
@@ -98,6 +101,7 @@ impl Element for bool {
     }
 }
 
+/// An array of Int32.
 fn read_numbers(alloc: Global, elements: &str) -> Result<WrittenArray, ReadError> {
     let (values, validity) = read_elements(alloc, elements)?;
     let values = Buffer::from_vec(alloc, values)?;
@@ -105,6 +109,7 @@ fn read_numbers(alloc: Global, elements: &str) -> Result<WrittenArray, ReadError
     Ok(WrittenArray::new(AnyArray::Primitive(AnyPrimitive::Int32(array))))
 }
 
+/// An array of Boolean.
 fn read_truths(alloc: Global, elements: &str) -> Result<WrittenArray, ReadError> {
     let (values, validity) = read_elements(alloc, elements)?;
     let values = Bitmap::from_bools(alloc, &values)?;
@@ -147,6 +152,7 @@ fn validity_of(alloc: Global, bits: &[bool]) -> Result<Option<Bitmap>, ReadError
     Ok(Some(Bitmap::from_bools(alloc, bits)?))
 }
 
+/// An array of Utf8: its texts stand in quotes, and a null names none beneath it.
 fn read_texts(alloc: Global, elements: &str) -> Result<WrittenArray, ReadError> {
     let mut offsets = Offsets::<i32>::with_capacity(alloc, 0)?;
     let mut texts = String::new(alloc);

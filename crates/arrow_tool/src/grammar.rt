@@ -88,6 +88,7 @@ pub(crate) fn split_outside_quotes<'a>(
     Ok(pieces)
 }
 
+/// An array or a number.
 fn read_argument<'a>(alloc: Global, word: &'a str) -> Result<Argument<'a>, ReadError> {
     if let Some(array) = arrays::read(alloc, word)? {
         return Ok(Argument::Array(array));
