@@ -1,5 +1,5 @@
 -- Keys of dictionaries, and the rows that they name.
-use Rattle.std.proofs.Common.{◌≡◌, ℕ, zero, suc, ◌+◌, ◌<◌, ◌≤◌, ℤ, pos, negsuc, ◌≤ℤ◌, ◌<ℤ◌, ◌↔◌, Bool, true, false, not, Option, Some, None, List, [], ◌∷◌, length, map, get_or, refl, sym, subst, ◌∙◌, arith}
+use Rattle.std.proofs.Common.{◌≡◌, ℕ, zero, suc, ◌+◌, ◌<◌, ◌≤◌, ℤ, pos, negsuc, ◌≤ℤ◌, ◌<ℤ◌, ◌↔◌, Bool, true, false, not, Option, Some, None, List, [], ◌∷◌, length, map, get_or, refl, sym, ap, subst, ◌∙◌, arith}
 use Rattle.std.specs.Prelude.{cond, count_by, slice_get, IsTrue}
 use Rattle.std.specs.List.{All}
 use Rattle.std.proofs.lemmas.Int.{ints}
@@ -53,6 +53,12 @@ key_in_range count s (pos n) r is told =
     rw is (λ e. omega (arith, ints, told.0 e), λ key. told.1 (omega (arith, ints), omega (arith, ints, key)))
 key_in_range count s (negsuc n) r is told =
     rw is (λ e. omega (arith, ints, told.0 e), λ key. absurd key)
+
+-- a row that was read is its key among those of all rows
+pub key_read : (rows : List Slot) (i : ℕ) (key : Option ℕ) → i < length rows → key ≡ key_in (get_or rows i Null) → slice_get (keys_in rows) i ≡ Some key
+key_read [] i key within read = absurd (omega (arith, within))
+key_read (s ∷ rows) zero key within read = ap Some (sym read)
+key_read (s ∷ rows) (suc i) key within read = key_read rows i key (omega (arith, within)) read
 
 -- the keys are those of all rows where each row's is
 pub are_keys : (count : ℕ) (rows : List Slot) → ((k : ℕ) → k < length rows → IsKey count (get_or rows k Null)) → AreKeys count rows

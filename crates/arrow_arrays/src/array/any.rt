@@ -13,12 +13,6 @@ ghost use Rattle.arrow_arrays.specs.Any.{layout_of, any_array_type, any_array_ro
 ghost use Rattle.arrow_arrays.specs.PartOf.{part_of};
 ghost use Rattle.arrow_arrays.specs.Spans.{AreSameSpans};
 
-use crate::array::dictionary::copy_dictionary;
-use crate::array::fixed_size_list::copy_fixed_size_list;
-use crate::array::list::copy_list;
-use crate::array::map::copy_map;
-use crate::array::struct_::copy_struct;
-use crate::array::union::copy_union;
 use crate::array::{
     DictionaryArray, FixedSizeListArray, ListArray, MapArray, StructArray, UnionArray,
 };
@@ -239,48 +233,43 @@ pub(crate) fn equal_spans(
 impl Clone for AnyArray {
     ghost is_clone = { λ array copy. copy ≡ array };
 
+    #[cycle(clone)]
     fn clone(&self) -> Result<AnyArray, AllocError> {
-        copy_any(self)
+        match self {
+            AnyArray::Null(array) => Ok(AnyArray::Null(array.clone()?)),
+            AnyArray::Boolean(array) => Ok(AnyArray::Boolean(array.clone()?)),
+            AnyArray::Primitive(array) => Ok(AnyArray::Primitive(array.clone()?)),
+            AnyArray::Utf8(array) => Ok(AnyArray::Utf8(array.clone()?)),
+            AnyArray::LargeUtf8(array) => Ok(AnyArray::LargeUtf8(array.clone()?)),
+            AnyArray::Binary(array) => Ok(AnyArray::Binary(array.clone()?)),
+            AnyArray::LargeBinary(array) => Ok(AnyArray::LargeBinary(array.clone()?)),
+            AnyArray::FixedSizeBinary(array) => Ok(AnyArray::FixedSizeBinary(array.clone()?)),
+            AnyArray::List(array) => Ok(AnyArray::List(array.clone()?)),
+            AnyArray::FixedSizeList(array) => Ok(AnyArray::FixedSizeList(array.clone()?)),
+            AnyArray::Struct(array) => Ok(AnyArray::Struct(array.clone()?)),
+            AnyArray::Union(array) => Ok(AnyArray::Union(array.clone()?)),
+            AnyArray::Map(array) => Ok(AnyArray::Map(array.clone()?)),
+            AnyArray::Dictionary(array) => Ok(AnyArray::Dictionary(array.clone()?)),
+        }
     }
 }
 
-/// The same as `clone`.
-#[cycle(copy)]
-fn copy_any(array: &AnyArray) -> Result<AnyArray, AllocError>
-    ensures { IfOk result (λ copy. copy ≡ array.now) }
-{
-    match array {
-        AnyArray::Null(array) => Ok(AnyArray::Null(array.clone()?)),
-        AnyArray::Boolean(array) => Ok(AnyArray::Boolean(array.clone()?)),
-        AnyArray::Primitive(array) => Ok(AnyArray::Primitive(array.clone()?)),
-        AnyArray::Utf8(array) => Ok(AnyArray::Utf8(array.clone()?)),
-        AnyArray::LargeUtf8(array) => Ok(AnyArray::LargeUtf8(array.clone()?)),
-        AnyArray::Binary(array) => Ok(AnyArray::Binary(array.clone()?)),
-        AnyArray::LargeBinary(array) => Ok(AnyArray::LargeBinary(array.clone()?)),
-        AnyArray::FixedSizeBinary(array) => Ok(AnyArray::FixedSizeBinary(array.clone()?)),
-        AnyArray::List(array) => Ok(AnyArray::List(copy_list(array)?)),
-        AnyArray::FixedSizeList(array) => Ok(AnyArray::FixedSizeList(copy_fixed_size_list(array)?)),
-        AnyArray::Struct(array) => Ok(AnyArray::Struct(copy_struct(array)?)),
-        AnyArray::Union(array) => Ok(AnyArray::Union(copy_union(array)?)),
-        AnyArray::Map(array) => Ok(AnyArray::Map(copy_map(array)?)),
-        AnyArray::Dictionary(array) => Ok(AnyArray::Dictionary(copy_dictionary(array)?)),
-    }
-}
-
-#[cycle(copy)]
-pub(crate) fn copy_boxed(array: &Box<AnyArray>) -> Result<Box<AnyArray>, AllocError>
+/// A box of its own for a clone of the child.
+#[cycle(clone)]
+pub(crate) fn clone_boxed(array: &Box<AnyArray>) -> Result<Box<AnyArray>, AllocError>
     ensures { IfOk result (λ copy. copy.value ≡ array.now.value) }
 {
-    Ok(Box::new(*Box::allocator(array), copy_any(array)?)?)
+    Ok(Box::new(*Box::allocator(array), (**array).clone()?)?)
 }
 
-#[cycle(copy)]
-pub(crate) fn copy_all(arrays: &Vec<AnyArray>) -> Result<Vec<AnyArray>, AllocError>
+/// The clones of the children, in their order.
+#[cycle(clone)]
+pub(crate) fn clone_all(arrays: &Vec<AnyArray>) -> Result<Vec<AnyArray>, AllocError>
     ensures { IfOk result (λ copy. copy.items ≡ arrays.now.items) }
 {
     let mut copies = Vec::with_capacity(*arrays.allocator(), arrays.len())?;
     for array in arrays {
-        copies.push(copy_any(array)?)?;
+        copies.push(array.clone()?)?;
     }
     Ok(copies)
 }

@@ -20,7 +20,7 @@ ghost use Rattle.arrow_arrays.specs.Spans.{entry_row};
 
 mod keys;
 
-use crate::array::any::{copy_boxed, equal_spans};
+use crate::array::any::{clone_boxed, equal_spans};
 use crate::array::{AnyArray, types};
 use arrow_flat::array::is_carried_as;
 use arrow_memory::bitmap::Bitmap;
@@ -242,21 +242,14 @@ fn check_dictionary(data_type: &DataType, keys: &AnyKeys, values: &AnyArray) -> 
 impl Clone for DictionaryArray {
     ghost is_clone = { λ array copy. copy ≡ array };
 
+    #[cycle(clone)]
     fn clone(&self) -> Result<DictionaryArray, AllocError> {
-        copy_dictionary(self)
+        Ok(DictionaryArray {
+            data_type: self.data_type.clone()?,
+            keys: self.keys.clone()?,
+            values: clone_boxed(&self.values)?,
+        })
     }
-}
-
-/// The same as `clone` of a dictionary.
-#[cycle(copy)]
-pub(crate) fn copy_dictionary(array: &DictionaryArray) -> Result<DictionaryArray, AllocError>
-    ensures { IfOk result (λ copy. copy ≡ array.now) }
-{
-    Ok(DictionaryArray {
-        data_type: array.data_type.clone()?,
-        keys: array.keys.clone()?,
-        values: copy_boxed(&array.values)?,
-    })
 }
 
 /// Two arrays are equal where their data types and their rows are, whatever the layouts beneath.
@@ -276,6 +269,3 @@ impl PartialEq for DictionaryArray {
 impl Eq for DictionaryArray {
     ghost laws = { on_equiv keyed_meaning (same_by-equivalence meaning_code) };
 }
-
-#[cfg(test)]
-mod tests;

@@ -16,7 +16,7 @@ ghost use Rattle.arrow_arrays.specs.Layout.{rows, type_of_layout};
 ghost use Rattle.arrow_arrays.specs.Spans.{span_row};
 ghost use Rattle.arrow_arrays.specs.TypeParts.{item_type, list_size};
 
-use crate::array::any::{copy_boxed, equal_spans};
+use crate::array::any::{clone_boxed, equal_spans};
 use crate::array::{AnyArray, types};
 use arrow_flat::array::{is_carried_as, validity};
 use arrow_memory::bitmap::Bitmap;
@@ -267,24 +267,15 @@ fn fits_items(len: usize, size: usize, validity: &Option<Bitmap>) -> bool
 impl Clone for FixedSizeListArray {
     ghost is_clone = { λ array copy. copy ≡ array };
 
+    #[cycle(clone)]
     fn clone(&self) -> Result<FixedSizeListArray, AllocError> {
-        copy_fixed_size_list(self)
+        Ok(FixedSizeListArray {
+            data_type: self.data_type.clone()?,
+            size: self.size,
+            values: clone_boxed(&self.values)?,
+            validity: self.validity.clone()?,
+        })
     }
-}
-
-/// The same as `clone` of a fixed-size list.
-#[cycle(copy)]
-pub(crate) fn copy_fixed_size_list(
-    array: &FixedSizeListArray,
-) -> Result<FixedSizeListArray, AllocError>
-    ensures { IfOk result (λ copy. copy ≡ array.now) }
-{
-    Ok(FixedSizeListArray {
-        data_type: array.data_type.clone()?,
-        size: array.size,
-        values: copy_boxed(&array.values)?,
-        validity: array.validity.clone()?,
-    })
 }
 
 /// Two arrays are equal where their data types and their rows are, whatever the layouts beneath.

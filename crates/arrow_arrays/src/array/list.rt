@@ -18,7 +18,7 @@ ghost use Rattle.arrow_arrays.specs.ListParts.{IsList, IsListFault, IsListFaultB
 ghost use Rattle.arrow_arrays.specs.Spans.{span_row};
 ghost use Rattle.arrow_arrays.specs.TypeParts.{item_type};
 
-use crate::array::any::{copy_boxed, equal_spans};
+use crate::array::any::{clone_boxed, equal_spans};
 use crate::array::{AnyArray, types};
 use arrow_flat::array::{is_carried_as, validity};
 use arrow_memory::bitmap::Bitmap;
@@ -357,22 +357,15 @@ pub(crate) fn check_list(
 impl Clone for ListArray {
     ghost is_clone = { λ array copy. copy ≡ array };
 
+    #[cycle(clone)]
     fn clone(&self) -> Result<ListArray, AllocError> {
-        copy_list(self)
+        Ok(ListArray {
+            data_type: self.data_type.clone()?,
+            offsets: self.offsets.clone()?,
+            values: clone_boxed(&self.values)?,
+            validity: self.validity.clone()?,
+        })
     }
-}
-
-/// The same as `clone` of a list.
-#[cycle(copy)]
-pub(crate) fn copy_list(array: &ListArray) -> Result<ListArray, AllocError>
-    ensures { IfOk result (λ copy. copy ≡ array.now) }
-{
-    Ok(ListArray {
-        data_type: array.data_type.clone()?,
-        offsets: array.offsets.clone()?,
-        values: copy_boxed(&array.values)?,
-        validity: array.validity.clone()?,
-    })
 }
 
 /// Two arrays are equal where their data types and their rows are, whatever the layouts beneath.

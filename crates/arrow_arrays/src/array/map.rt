@@ -19,7 +19,7 @@ ghost use Rattle.arrow_arrays.specs.Spans.{span_row};
 ghost use Rattle.arrow_arrays.specs.TypeParts.{item_type};
 
 use crate::array::AnyArray;
-use crate::array::any::{copy_boxed, equal_spans};
+use crate::array::any::{clone_boxed, equal_spans};
 use crate::array::list::check_list;
 use arrow_flat::array::validity;
 use arrow_memory::bitmap::Bitmap;
@@ -249,22 +249,15 @@ impl MapArray {
 impl Clone for MapArray {
     ghost is_clone = { λ array copy. copy ≡ array };
 
+    #[cycle(clone)]
     fn clone(&self) -> Result<MapArray, AllocError> {
-        copy_map(self)
+        Ok(MapArray {
+            data_type: self.data_type.clone()?,
+            offsets: self.offsets.clone()?,
+            field: clone_boxed(&self.field)?,
+            validity: self.validity.clone()?,
+        })
     }
-}
-
-/// The same as `clone` of a map.
-#[cycle(copy)]
-pub(crate) fn copy_map(array: &MapArray) -> Result<MapArray, AllocError>
-    ensures { IfOk result (λ copy. copy ≡ array.now) }
-{
-    Ok(MapArray {
-        data_type: array.data_type.clone()?,
-        offsets: array.offsets.clone()?,
-        field: copy_boxed(&array.field)?,
-        validity: array.validity.clone()?,
-    })
 }
 
 /// Two arrays are equal where their data types and their rows are, whatever the layouts beneath.

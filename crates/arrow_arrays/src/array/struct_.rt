@@ -18,7 +18,7 @@ ghost use Rattle.arrow_arrays.specs.PartOf.{part_of};
 ghost use Rattle.arrow_arrays.specs.StructParts.{IsStruct, IsStructFault, HoldsStruct, HaveRows, FitsColumns, row_count, row_of, struct_rows, struct_meaning, struct_part, struct_with_bits};
 ghost use Rattle.arrow_arrays.specs.TypeParts.{field_types};
 
-use crate::array::any::copy_all;
+use crate::array::any::clone_all;
 use crate::array::{AnyArray, types};
 use arrow_flat::array::{is_carried_as, validity};
 use arrow_memory::bitmap::Bitmap;
@@ -297,21 +297,14 @@ fn equal_parts(values: &[AnyArray], i: usize, others: &[AnyArray], j: usize) -> 
 impl Clone for StructArray {
     ghost is_clone = { λ array copy. copy ≡ array };
 
+    #[cycle(clone)]
     fn clone(&self) -> Result<StructArray, AllocError> {
-        copy_struct(self)
+        Ok(StructArray {
+            data_type: self.data_type.clone()?,
+            values: clone_all(&self.values)?,
+            validity: self.validity.clone()?,
+        })
     }
-}
-
-/// The same as `clone` of a struct.
-#[cycle(copy)]
-pub(crate) fn copy_struct(array: &StructArray) -> Result<StructArray, AllocError>
-    ensures { IfOk result (λ copy. copy ≡ array.now) }
-{
-    Ok(StructArray {
-        data_type: array.data_type.clone()?,
-        values: copy_all(&array.values)?,
-        validity: array.validity.clone()?,
-    })
 }
 
 /// Two arrays are equal where their data types and their rows are, whatever the layouts beneath.

@@ -18,7 +18,7 @@ ghost use Rattle.arrow_arrays.specs.Layout.{type_of_layout, field_ids};
 ghost use Rattle.arrow_arrays.specs.TypeParts.{field_types, mode_in};
 ghost use Rattle.arrow_arrays.specs.UnionParts.{IsUnion, IsUnionFault, HoldsUnion, IsKnown, IsInside, SpansRows, FindsField, FitsMode, FitsOffsets, places_of, places_by, mode_by, row_in, rows_of_field, union_rows, union_meaning, union_part};
 
-use crate::array::any::copy_all;
+use crate::array::any::clone_all;
 use crate::array::struct_::have_rows;
 use crate::array::{AnyArray, types};
 use arrow_flat::array::is_carried_as;
@@ -402,27 +402,20 @@ fn is_known(data_type: &DataType, id: i8) -> bool
 impl Clone for UnionArray {
     ghost is_clone = { λ array copy. copy ≡ array };
 
+    #[cycle(clone)]
     fn clone(&self) -> Result<UnionArray, AllocError> {
-        copy_union(self)
+        Ok(UnionArray {
+            data_type: self.data_type.clone()?,
+            types: self.types.clone()?,
+            fields: clone_all(&self.fields)?,
+            offsets: clone_offsets(&self.offsets)?,
+            start: self.start,
+        })
     }
 }
 
-/// The same as `clone` of a union.
-#[cycle(copy)]
-pub(crate) fn copy_union(array: &UnionArray) -> Result<UnionArray, AllocError>
-    ensures { IfOk result (λ copy. copy ≡ array.now) }
-{
-    Ok(UnionArray {
-        data_type: array.data_type.clone()?,
-        types: array.types.clone()?,
-        fields: copy_all(&array.fields)?,
-        offsets: copy_offsets(&array.offsets)?,
-        start: array.start,
-    })
-}
-
 /// Shares the offsets, where there are some.
-fn copy_offsets(offsets: &Option<Buffer<i32>>) -> Result<Option<Buffer<i32>>, AllocError>
+fn clone_offsets(offsets: &Option<Buffer<i32>>) -> Result<Option<Buffer<i32>>, AllocError>
     ensures { IfOk result (λ copy. copy ≡ offsets.now) }
 {
     match offsets {

@@ -53,6 +53,7 @@ impl AnyKeys {
     }
 
     /// The key of row `i`, or `None` where it is null. A key that is not null must not be negative.
+    #[tactic(auto, using(crate::proofs::KeyLemmas::key_read))]
     pub fn key(&self, i: usize) -> Option<usize>
         requires within { i < length (key_rows self.now) }
         requires not_negative { IsKeyIn (slice_index_or (key_rows self.now) i Null) }

@@ -1,6 +1,0 @@
-use Rattle.std.proofs.Common.{◌≡◌, take}
-use Rattle.arrow_arrays.proofs.array.+copy.Given as goal
-
--- the arrays so far are copied
-abbrev pub invariant-any::copy_all-loop-array : goal.invariant-any::copy_all-loop-array
-invariant-any::copy_all-loop-array l = l.copies.items ≡ take l.array-index l.arrays.items
