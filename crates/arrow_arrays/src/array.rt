@@ -18,6 +18,3 @@ pub use map::MapArray;
 pub use new::{new_empty_array, new_null_array};
 pub use struct_::StructArray;
 pub use union::UnionArray;
-
-#[cfg(test)]
-mod tests;

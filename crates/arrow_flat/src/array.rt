@@ -269,6 +269,3 @@ impl<V: Values> PartialEq for FlatArray<V> {
 impl<V: Values> Eq for FlatArray<V> {
     ghost laws = { on_equiv (meaning_by V.slots) (same_by-equivalence meaning_code) };
 }
-
-#[cfg(test)]
-mod tests;

@@ -9,6 +9,3 @@ pub use boolean::BooleanScalar;
 pub use bytes::{BinaryScalar, ByteScalar, Utf8Scalar};
 pub use dictionary::{AnyScalar, DictionaryScalar};
 pub use primitive::{AnyPrimitiveScalar, PrimitiveScalar};
-
-#[cfg(test)]
-mod tests;

@@ -75,6 +75,3 @@ pub trait Growable<'a> {
         ensures failed { (result ≡ Err Error.Failed) ↔ ((state self.old).failed ≡ true) }
         ensures others { IfErr result IsFailedOrMemory };
 }
-
-#[cfg(test)]
-mod tests;

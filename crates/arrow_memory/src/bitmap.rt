@@ -248,6 +248,3 @@ impl PartialEq for Bitmap {
 impl Eq for Bitmap {
     ghost laws = { lists_equiv bool_eq_equiv };
 }
-
-#[cfg(test)]
-mod tests;

@@ -103,6 +103,3 @@ impl<T: Drop> Clone for Buffer<T> {
         })
     }
 }
-
-#[cfg(test)]
-mod tests;

@@ -312,6 +312,3 @@ fn are_offsets<O: Offset>(offsets: &[O]) -> bool
     }
     !offsets.is_empty()
 }
-
-#[cfg(test)]
-mod tests;

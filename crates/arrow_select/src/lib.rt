@@ -4,6 +4,4 @@
 
 pub mod concatenate;
 pub mod filter;
-#[cfg(test)]
-mod tests;
 pub mod window;

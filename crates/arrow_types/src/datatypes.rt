@@ -221,6 +221,3 @@ impl DataType {
         }
     }
 }
-
-#[cfg(test)]
-mod tests;

@@ -109,6 +109,3 @@ impl<T: Drop> From<AllocFailed<T>> for Error {
         Error::from(AllocError)
     }
 }
-
-#[cfg(test)]
-mod tests;

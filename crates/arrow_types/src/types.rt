@@ -35,6 +35,3 @@ pub enum PrimitiveType {
     DaysMs,
     MonthDayNano,
 }
-
-#[cfg(test)]
-mod tests;

@@ -237,6 +237,3 @@ fn push_columns(
     }
     Ok(())
 }
-
-#[cfg(test)]
-mod tests;

@@ -206,6 +206,3 @@ impl PartialEq for AnyPrimitive {
 impl Eq for AnyPrimitive {
     ghost laws = { on_equiv any_meaning (same_by-equivalence meaning_code) };
 }
-
-#[cfg(test)]
-mod tests;

@@ -95,6 +95,3 @@ impl FlatArray<Bitmap> {
         self.values.get_bit(i)
     }
 }
-
-#[cfg(test)]
-mod tests;

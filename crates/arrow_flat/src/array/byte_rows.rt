@@ -314,6 +314,3 @@ impl<O: Offset> FlatArray<ByteRows<O, Binary>> {
         self.values.row(i)
     }
 }
-
-#[cfg(test)]
-mod tests;

@@ -184,6 +184,3 @@ impl FlatArray<FixedRows> {
         self.values.row(i)
     }
 }
-
-#[cfg(test)]
-mod tests;

@@ -143,6 +143,3 @@ impl PartialEq for NullArray {
 impl Eq for NullArray {
     ghost laws = { on_equiv null_meaning (same_by-equivalence meaning_code) };
 }
-
-#[cfg(test)]
-mod tests;

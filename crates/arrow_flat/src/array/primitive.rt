@@ -96,6 +96,3 @@ impl<T: NativeType> FlatArray<Buffer<T>> {
         self.values.as_slice()[i]
     }
 }
-
-#[cfg(test)]
-mod tests;

@@ -1,5 +1,0 @@
-//! What is tested of arrays under construction, of any type and of each type by itself.
-
-mod any;
-mod arrays;
-mod typed;

@@ -1,0 +1,235 @@
+//! The keys of dictionaries of texts and of their slices, parts that make none, and which are equal.
+
+use crate::fixture::arrays::{Shape, flat};
+use crate::fixture::types::refusal;
+use arrow_arrays::array::{AnyKeys, DictionaryArray};
+use arrow_flat::array::PrimitiveArray;
+use arrow_memory::bitmap::Bitmap;
+use arrow_memory::buffer::Buffer;
+use arrow_types::datatypes::{DataType, IntegerType};
+use arrow_types::error::{Error, SpecPart};
+use std::alloc::Global;
+use std::process::Abort;
+
+/// The data type that a dictionary of texts is given.
+#[derive(Clone, Copy, Debug, PartialEq, Eq)]
+enum Given {
+    /// Its keys have 8 bits.
+    Narrow,
+    Ordered,
+    /// Its keys have 64 bits, and -1 stands for the greatest of them.
+    Wide,
+    /// The type of the texts.
+    Texts,
+    /// That of other keys.
+    OtherKeys,
+    /// That of other values.
+    OtherValues,
+}
+
+fn keys_of(
+    alloc: Global,
+    given: Given,
+    keys: &[i8],
+    validity: Option<&[bool]>,
+) -> Result<AnyKeys, Error> {
+    let validity = match validity {
+        None => None,
+        Some(bits) => Some(Bitmap::from_bools(alloc, bits)?),
+    };
+    if given == Given::Wide {
+        let mut wide = Vec::new(alloc);
+        for key in keys {
+            wide.push(u64::try_from(*key).unwrap_or(u64::MAX))?;
+        }
+        let keys = Buffer::from_vec(alloc, wide)?;
+        let keys = PrimitiveArray::<u64>::try_new(DataType::UInt64, keys, validity)?;
+        return Ok(AnyKeys::UInt64(keys));
+    }
+    let keys = Buffer::from_vec(alloc, Vec::from_slice(alloc, keys)?)?;
+    Ok(AnyKeys::Int8(PrimitiveArray::<i8>::try_new(DataType::Int8, keys, validity)?))
+}
+
+/// A dictionary of these texts, under a data type that it is given.
+fn dictionary_of(
+    alloc: Global,
+    given: Given,
+    keys: &[i8],
+    validity: Option<&[bool]>,
+    letters: &[u8],
+) -> Result<DictionaryArray, Error> {
+    let key_type = match given {
+        Given::Wide => IntegerType::UInt64,
+        Given::OtherKeys => IntegerType::Int16,
+        _ => IntegerType::Int8,
+    };
+    let value_type = match given {
+        Given::OtherValues => DataType::LargeUtf8,
+        _ => DataType::Utf8,
+    };
+    let is_ordered = matches!(&given, Given::Ordered | Given::Wide);
+    let data_type = match given {
+        Given::Texts => value_type,
+        _ => DataType::Dictionary(key_type, Box::new(alloc, value_type)?, is_ordered),
+    };
+    let keys = keys_of(alloc, given, keys, validity)?;
+    let texts = Box::new(alloc, flat(alloc, Shape::Utf8, letters)?)?;
+    DictionaryArray::try_new(data_type, keys, texts)
+}
+
+/// The key of each row, over two values, and whether there is a validity. Clones are the same.
+fn check_rows(
+    rt: &impl Abort,
+    array: &DictionaryArray,
+    has_validity: bool,
+    want: &[Option<usize>],
+) -> Result<(), Error> {
+    assert!(rt; array.clone()? == *array && array.values().len() == 2);
+    assert_eq!(rt; array.validity().is_some(), has_validity);
+    if let Some(bits) = array.validity() {
+        assert_eq!(rt; bits.len(), want.len());
+    }
+    assert_eq!(rt; array.len(), want.len());
+    assert_eq!(rt; array.is_empty(), want.is_empty());
+    let keys = array.keys();
+    let copy = keys.clone()?;
+    assert_eq!(rt; copy.len(), want.len());
+    let mut nulls = 0usize;
+    for (i, key) in want.iter().enumerate() {
+        assert!(rt; i < keys.len());
+        assert_eq!(rt; [keys.key(i), copy.key(i)], [*key; 2], "row {i}");
+        if key.is_none() {
+            nulls = nulls.saturating_add(1);
+        }
+    }
+    assert_eq!(rt; array.null_count(), nulls);
+    Ok(())
+}
+
+/// Slices of the rows, each of the one before, over the same values.
+fn check_slices(
+    rt: &impl Abort,
+    array: &mut DictionaryArray,
+    rows: &[Option<usize>],
+    slices: &[(usize, usize)],
+) -> Result<(), Error> {
+    let mut rows = rows;
+    for (offset, len) in slices {
+        let (offset, len) = (*offset, *len);
+        assert!(rt; offset <= array.len() && len <= array.len() - offset);
+        assert!(rt; offset <= rows.len() && len <= rows.len() - offset);
+        rows = &rows[offset..offset + len];
+        check_rows(rt, &array.clone()?.sliced(offset, len), true, rows)?;
+        array.slice(offset, len);
+        check_rows(rt, array, true, rows)?;
+    }
+    Ok(())
+}
+
+const MIXED: (&[i8], Option<&[bool]>) = (&[1, -7, 0, 1], Some(&[true, false, true, true]));
+
+const ROWS: &[Option<usize>] = &[Some(1), None, Some(0), Some(1)];
+
+/// Keys under a validity, the texts that they name, the key of each row, and slices.
+const KEYS: [(
+    (&[i8], Option<&[bool]>),
+    &[u8],
+    &[Option<usize>],
+    &[(usize, usize)],
+); 7] = [
+    (MIXED, b"ab", ROWS, &[(1, 3), (2, 1), (1, 0)]),
+    (MIXED, b"ab", ROWS, &[(3, 1)]),
+    ((&[], None), b"ab", &[], &[]),
+    ((&[], Some(&[])), b"ab", &[], &[]),
+    ((&[2, -1], Some(&[false, false])), b"ab", &[None, None], &[]),
+    (
+        (&[1, 1], Some(&[true, true])),
+        b"ab",
+        &[Some(1), Some(1)],
+        &[],
+    ),
+    ((&[0, 1], None), b"aB", &[Some(0), Some(1)], &[]),
+];
+
+/// The keys of each row, and of slices. A key that names
+/// no value lies beneath a null, and one that names a null value is valid.
+fn check_keys(rt: &(impl Abort + Alloc<A = Global>)) -> Result<(), Error> {
+    for ((keys, validity), letters, rows, slices) in KEYS {
+        let mut array = dictionary_of(rt.alloc(), Given::Narrow, keys, validity, letters)?;
+        check_rows(rt, &array, validity.is_some(), rows)?;
+        let nulls = usize::from(letters == b"aB".as_slice());
+        assert_eq!(rt; array.values().null_count(), nulls);
+        check_slices(rt, &mut array, rows, slices)?;
+    }
+    Ok(())
+}
+
+const KIND: Option<SpecPart> = Some(SpecPart::Kind);
+
+const KEY: Option<SpecPart> = Some(SpecPart::Key);
+
+/// A data type, keys under a validity, and what they are refused for.
+const REFUSED: [(Given, &[i8], Option<&[bool]>, Option<SpecPart>); 11] = [
+    (Given::Texts, &[2], None, KIND),
+    (Given::OtherKeys, &[2], None, KIND),
+    (Given::OtherValues, &[2], None, Some(SpecPart::Child)),
+    (Given::Narrow, &[0, 1], None, None),
+    (Given::Narrow, &[0, 2], None, KEY),
+    (Given::Narrow, &[0, -1], None, KEY),
+    (Given::Narrow, &[2, 0], Some(&[true, false]), KEY),
+    (Given::Narrow, &[2, 0], Some(&[false, true]), None),
+    (Given::Narrow, &[-1, 0], Some(&[false, true]), None),
+    (Given::Wide, &[0, 1], None, None),
+    (Given::Wide, &[0, -1], None, KEY),
+];
+
+/// Types of another kind, keys of another width and values of another type. Keys below 0, the last one
+/// that names a value, and one past it. Keys of 64 bits, the greatest of which names no value.
+fn check_refused(rt: &(impl Abort + Alloc<A = Global>)) -> Result<(), Error> {
+    for (given, keys, validity, want) in REFUSED {
+        let made = dictionary_of(rt.alloc(), given, keys, validity, b"ab");
+        assert_eq!(rt; refusal(made)?, want, "{keys:?} of {given:?}");
+    }
+    Ok(())
+}
+
+const BOTH: Option<&[bool]> = Some(&[true, true]);
+
+const FIRST: Option<&[bool]> = Some(&[true, false]);
+
+/// The validity of the keys 0 and 1 over a and b, other keys, and whether they say the same.
+const EQUAL: [(Option<&[bool]>, Given, &[i8], Option<&[bool]>, &[u8], bool); 8] = [
+    (BOTH, Given::Narrow, &[1, 0], None, b"ba", true),
+    (BOTH, Given::Narrow, &[0, 1], None, b"ab", true),
+    (BOTH, Given::Narrow, &[0, 1], None, b"ba", false),
+    (BOTH, Given::Narrow, &[1, 1], None, b"ab", false),
+    (BOTH, Given::Narrow, &[0], None, b"ab", false),
+    (BOTH, Given::Narrow, &[0, 1], FIRST, b"ab", false),
+    (FIRST, Given::Narrow, &[1, 9], FIRST, b"ca", true),
+    (None, Given::Ordered, &[0, 1], None, b"ab", false),
+];
+
+/// Equal to the keys 0 and 1 over a and b are arrays whose keys name the same values, wherever these lie,
+/// whatever lies beneath nulls, but not under another type.
+fn check_equality(rt: &(impl Abort + Alloc<A = Global>)) -> Result<(), Error> {
+    for (marks, given, keys, validity, letters, want) in EQUAL {
+        let array = dictionary_of(rt.alloc(), Given::Narrow, &[0, 1], marks, b"ab")?;
+        let other = dictionary_of(rt.alloc(), given, keys, validity, letters)?;
+        assert_eq!(rt; array == other, want, "{keys:?} over {letters:?}");
+    }
+    Ok(())
+}
+
+#[test]
+fn keys_of_dictionaries(rt: HostRuntime) {
+    // A request for memory that is refused is made once more.
+    if check_keys(&rt).is_err() {
+        assert_eq!(rt; check_keys(&rt), Ok(()));
+    }
+    if check_refused(&rt).is_err() {
+        assert_eq!(rt; check_refused(&rt), Ok(()));
+    }
+    if check_equality(&rt).is_err() {
+        assert_eq!(rt; check_equality(&rt), Ok(()));
+    }
+}

@@ -1,0 +1,176 @@
+//! Parts that make no lists and no pairs, and which of them is named.
+
+use crate::fixture::arrays::{
+    ListKind, Shape, array_of, flat, list_type, make_lists, make_pairs, make_union, pair_type,
+    validity_of,
+};
+use crate::fixture::types::refusal;
+use arrow_arrays::array::{AnyArray, StructArray};
+use arrow_memory::bitmap::Bitmap;
+use arrow_types::datatypes::{DataType, UnionMode};
+use arrow_types::error::{Error, SpecPart};
+use std::alloc::Global;
+use std::process::Abort;
+
+/// Two rows, or three where the length is wrong.
+fn marks(alloc: Global, wrong: [Option<SpecPart>; 2]) -> Result<Option<Bitmap>, Error> {
+    if wrong.contains(&Some(SpecPart::Length)) {
+        validity_of(alloc, b"aBc")
+    } else {
+        validity_of(alloc, b"aB")
+    }
+}
+
+/// Two lists of two items, with parts that are wrong.
+fn wrong_lists(
+    alloc: Global,
+    kind: ListKind,
+    wrong: [Option<SpecPart>; 2],
+) -> Result<AnyArray, Error> {
+    let named = match (kind, wrong.contains(&Some(SpecPart::Kind))) {
+        (kind, false) => kind,
+        (ListKind::Large, true) => ListKind::Small,
+        (_, true) => ListKind::Large,
+    };
+    let is_map = kind == ListKind::Map;
+    let item = if is_map {
+        pair_type(alloc, None, DataType::Utf8, DataType::Int32)?
+    } else {
+        DataType::Utf8
+    };
+    let values = if is_map != wrong.contains(&Some(SpecPart::Child)) {
+        array_of(alloc, Shape::Pairs(None), b"abcd")?
+    } else {
+        flat(alloc, Shape::Utf8, b"abcd")?
+    };
+    let last = if wrong.contains(&Some(SpecPart::Offsets)) {
+        5
+    } else {
+        4
+    };
+    let data_type = list_type(alloc, named, item)?;
+    let validity = marks(alloc, wrong)?;
+    make_lists(alloc, kind, data_type, &[0, 2, last], values, validity)
+}
+
+/// Two pairs, with parts that are wrong.
+fn wrong_pairs(
+    alloc: Global,
+    mode: Option<UnionMode>,
+    wrong: [Option<SpecPart>; 2],
+) -> Result<AnyArray, Error> {
+    let named = match (mode, wrong.contains(&Some(SpecPart::Kind))) {
+        (mode, false) => mode,
+        (None, true) => Some(UnionMode::Sparse),
+        (Some(_), true) => None,
+    };
+    let data_type = pair_type(alloc, named, DataType::Utf8, DataType::Int32)?;
+    let left = flat(alloc, Shape::Utf8, b"ab")?;
+    let mut fields = vec![in alloc; left, flat(alloc, Shape::Number, b"ab")?]?;
+    if wrong.contains(&Some(SpecPart::Child)) {
+        fields.reverse();
+    }
+    let Some(mode) = mode else {
+        let validity = marks(alloc, wrong)?;
+        return Ok(AnyArray::Struct(StructArray::try_new(data_type, fields, validity)?));
+    };
+    let id = if wrong.contains(&Some(SpecPart::TypeId)) {
+        6
+    } else {
+        7
+    };
+    let place = if wrong.contains(&Some(SpecPart::Offsets)) {
+        2
+    } else {
+        1
+    };
+    let places = [place, 0];
+    let has_places = (mode == UnionMode::Dense) != wrong.contains(&Some(SpecPart::Length));
+    make_union(
+        alloc,
+        data_type,
+        &[5, id],
+        fields,
+        if has_places { Some(&places) } else { None },
+    )
+}
+
+const KIND: Option<SpecPart> = Some(SpecPart::Kind);
+
+const CHILD: Option<SpecPart> = Some(SpecPart::Child);
+
+const LENGTH: Option<SpecPart> = Some(SpecPart::Length);
+
+const OFFSETS: Option<SpecPart> = Some(SpecPart::Offsets);
+
+const TYPE_ID: Option<SpecPart> = Some(SpecPart::TypeId);
+
+const LISTED: &[Option<SpecPart>] = &[KIND, CHILD, LENGTH, OFFSETS, None];
+
+const WHOLE: &[Option<SpecPart>] = &[KIND, CHILD, LENGTH, None];
+
+const SPARSE: &[Option<SpecPart>] = &[KIND, CHILD, LENGTH, TYPE_ID, None];
+
+const DENSE: &[Option<SpecPart>] = &[KIND, CHILD, LENGTH, OFFSETS, TYPE_ID, None];
+
+/// The parts of each shape, in the order in which they are tested.
+const ORDERS: [(Shape, &[Option<SpecPart>]); 8] = [
+    (Shape::Lists(ListKind::Small), LISTED),
+    (Shape::Lists(ListKind::Large), LISTED),
+    (Shape::Lists(ListKind::Named), LISTED),
+    (Shape::Lists(ListKind::Map), LISTED),
+    (Shape::Lists(ListKind::FixedSize), WHOLE),
+    (Shape::Pairs(None), WHOLE),
+    (Shape::Pairs(Some(UnionMode::Sparse)), SPARSE),
+    (Shape::Pairs(Some(UnionMode::Dense)), DENSE),
+];
+
+/// Of two parts that are wrong the first is named, and each where it alone is wrong; with none an array
+/// is made.
+fn check_order(rt: &(impl Abort + Alloc<A = Global>)) -> Result<(), Error> {
+    for (shape, parts) in ORDERS {
+        for (i, first) in parts.iter().enumerate() {
+            for second in parts.iter().skip(i) {
+                let wrong = [*first, *second];
+                let made = match shape {
+                    Shape::Lists(kind) => wrong_lists(rt.alloc(), kind, wrong),
+                    Shape::Pairs(mode) => wrong_pairs(rt.alloc(), mode, wrong),
+                    shape => array_of(rt.alloc(), shape, b"aB"),
+                };
+                assert_eq!(rt; refusal(made)?, *first, "{wrong:?} of {shape:?}");
+            }
+        }
+    }
+    Ok(())
+}
+
+/// Children that are no whole rows, too few, or of unequal lengths, and a struct of no field.
+fn check_children(rt: &(impl Abort + Alloc<A = Global>)) -> Result<(), Error> {
+    let alloc = rt.alloc();
+    let kind = ListKind::FixedSize;
+    let data_type = list_type(alloc, kind, DataType::Utf8)?;
+    let items = flat(alloc, Shape::Utf8, b"abc")?;
+    let made = make_lists(alloc, kind, data_type, &[], items, None);
+    assert_eq!(rt; refusal(made)?, Some(SpecPart::Length));
+    let data_type = pair_type(alloc, None, DataType::Utf8, DataType::Utf8)?;
+    let fields = vec![in alloc; flat(alloc, Shape::Utf8, b"ab")?]?;
+    let made = StructArray::try_new(data_type, fields, None);
+    assert_eq!(rt; refusal(made)?, Some(SpecPart::Child));
+    let left = flat(alloc, Shape::Utf8, b"ab")?;
+    let made = make_pairs(alloc, None, b"ab", left, flat(alloc, Shape::Number, b"a")?);
+    assert_eq!(rt; refusal(made)?, Some(SpecPart::Length));
+    let made = StructArray::try_new(DataType::Struct(Vec::new(alloc)), Vec::new(alloc), None);
+    assert_eq!(rt; refusal(made)?, Some(SpecPart::Kind));
+    Ok(())
+}
+
+#[test]
+fn refused_parts(rt: HostRuntime) {
+    // A request for memory that is refused is made once more.
+    if check_order(&rt).is_err() {
+        assert_eq!(rt; check_order(&rt), Ok(()));
+    }
+    if check_children(&rt).is_err() {
+        assert_eq!(rt; check_children(&rt), Ok(()));
+    }
+}

@@ -1,0 +1,140 @@
+//! The rows of arrays of every shape, of their slices and clones, and which arrays are equal.
+
+use crate::fixture::arrays::{SHAPES, Shape, array_of, flat, from_row};
+use arrow_arrays::array::AnyArray;
+use arrow_types::datatypes::DataType;
+use arrow_types::error::Error;
+use std::alloc::Global;
+use std::process::Abort;
+
+/// The rows, one by one. No row of a union is null.
+pub(super) fn check_rows(
+    rt: &(impl Abort + Alloc<A = Global>),
+    array: &AnyArray,
+    shape: Shape,
+    letters: &[u8],
+) -> Result<(), Error> {
+    assert!(rt;
+        *array == array_of(rt.alloc(), shape, letters)?,
+        "{shape:?}"
+    );
+    assert_eq!(rt; array.len(), letters.len());
+    assert_eq!(rt; array.is_empty(), letters.is_empty());
+    let is_union = matches!(&shape, Shape::Pairs(Some(_)));
+    let mut nulls = 0usize;
+    for (i, letter) in letters.iter().enumerate() {
+        let is_set = match array.validity() {
+            None => true,
+            Some(bits) => i < bits.len() && bits.get_bit(i),
+        };
+        assert_eq!(rt;
+            is_set,
+            is_union || letter.is_ascii_lowercase(),
+            "row {i} of {shape:?}"
+        );
+        if !is_set {
+            nulls = nulls.saturating_add(1);
+        }
+    }
+    assert_eq!(rt; array.null_count(), nulls);
+    Ok(())
+}
+
+/// Where each slice begins in the one before, its length, and its rows.
+const SLICES: [(usize, usize, &[u8]); 5] = [
+    (0, 7, b"baCDabb"),
+    (1, 5, b"aCDab"),
+    (1, 3, b"CDa"),
+    (0, 2, b"CD"),
+    (2, 0, b""),
+];
+
+/// Slices, each of the one before, of the rows baCDabb: the same as one slice of all rows, and as an
+/// array of the rows alone.
+fn check_slices(rt: &(impl Abort + Alloc<A = Global>), shape: Shape) -> Result<(), Error> {
+    let array = array_of(rt.alloc(), shape, b"baCDabb")?;
+    let mut part = array.clone()?;
+    let mut start = 0usize;
+    for (offset, len, rows) in SLICES {
+        start = start.saturating_add(offset);
+        assert!(rt; offset <= part.len() && len <= part.len() - offset);
+        part.slice(offset, len);
+        check_rows(rt, &part, shape, rows)?;
+        let rest = from_row(rt, array.clone()?, start);
+        assert!(rt; len <= rest.len());
+        assert!(rt; rest.sliced(0, len) == part, "{shape:?} from {start}");
+    }
+    check_rows(rt, &array, shape, b"baCDabb")
+}
+
+/// Rows, others behind a first letter, and whether they are equal.
+const EQUAL: [(&[u8], &[u8], bool); 14] = [
+    (b"abCd", b"aabCd", true),
+    // another letter beneath the null, and in other rows
+    (b"abCd", b"BabGd", true),
+    (b"abCd", b"abbCd", false),
+    (b"abCd", b"aabCe", false),
+    // one null less, and one more
+    (b"abCd", b"aabcd", false),
+    (b"abCd", b"aaBCd", false),
+    (b"abCd", b"aabC", false),
+    (b"abCd", b"a", false),
+    // no null
+    (b"ab", b"cab", true),
+    (b"ab", b"Aab", true),
+    (b"ab", b"aaa", false),
+    (b"ab", b"aabb", false),
+    (b"AB", b"aCD", true),
+    (b"", b"b", true),
+];
+
+/// Equal are the same rows, whatever is stored beneath nulls, wherever they begin, and under a validity
+/// or none. The first letter of the other rows is sliced off.
+fn check_equality(rt: &(impl Abort + Alloc<A = Global>), shape: Shape) -> Result<(), Error> {
+    for (left, right, want) in EQUAL {
+        let array = array_of(rt.alloc(), shape, left)?;
+        check_rows(rt, &array, shape, left)?;
+        let other = from_row(rt, array_of(rt.alloc(), shape, right)?, 1);
+        let found = [array == other, other == array];
+        assert_eq!(rt; found, [want; 2], "{left:?} and {right:?} of {shape:?}");
+    }
+    Ok(())
+}
+
+/// Arrays of every shape. The data type tells those of the same rows apart, and those of no row too.
+fn check_shapes(rt: &(impl Abort + Alloc<A = Global>)) -> Result<(), Error> {
+    for (shape, physical) in SHAPES {
+        check_slices(rt, shape)?;
+        check_equality(rt, shape)?;
+        for rows in [b"ab".as_slice(), b""] {
+            let array = array_of(rt.alloc(), shape, rows)?;
+            assert_eq!(rt; array.data_type().to_physical_type(), physical);
+            for (other, _) in SHAPES {
+                let is_same = array == array_of(rt.alloc(), other, rows)?;
+                assert_eq!(rt; is_same, shape == other, "{shape:?} and {other:?}");
+            }
+        }
+    }
+    Ok(())
+}
+
+/// Rows that are all null.
+fn check_nulls(rt: &(impl Abort + Alloc<A = Global>)) -> Result<(), Error> {
+    let nulls = flat(rt.alloc(), Shape::Null, b"abc")?;
+    assert!(rt; *nulls.data_type() == DataType::Null && nulls.validity().is_none());
+    let part = from_row(rt, nulls.clone()?, 1);
+    assert!(rt; part.len() == 2 && part.null_count() == 2 && !part.is_empty() && part != nulls);
+    assert!(rt; part == flat(rt.alloc(), Shape::Null, b"ab")?);
+    Ok(())
+}
+
+#[test]
+fn arrays_of_any_shape(rt: HostRuntime) {
+    // A request for memory that is refused is made once more.
+    if check_shapes(&rt).is_err() {
+        assert_eq!(rt; check_shapes(&rt), Ok(()));
+    }
+    if check_nulls(&rt).is_err() {
+        assert_eq!(rt; check_nulls(&rt), Ok(()));
+    }
+}

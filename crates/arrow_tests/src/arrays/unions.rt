@@ -1,0 +1,132 @@
+//! The rows of unions and of their slices, where each lies, and parts that make no union.
+
+use crate::fixture::arrays::{Shape, flat, from_row, make_union, pair_type};
+use crate::fixture::types::refusal;
+use arrow_arrays::array::AnyArray;
+use arrow_types::datatypes::{DataType, UnionMode};
+use arrow_types::error::{Error, SpecPart};
+use std::alloc::Global;
+use std::process::Abort;
+
+/// A union of texts and numbers, dense where it is given places.
+fn union_of(
+    alloc: Global,
+    ids: &[i8],
+    left: &[u8],
+    right: &[u8],
+    places: Option<&[i32]>,
+) -> Result<AnyArray, Error> {
+    let mode = if places.is_some() {
+        UnionMode::Dense
+    } else {
+        UnionMode::Sparse
+    };
+    let data_type = pair_type(alloc, Some(mode), DataType::Utf8, DataType::Int32)?;
+    let left = flat(alloc, Shape::Utf8, left)?;
+    let fields = vec![in alloc; left, flat(alloc, Shape::Number, right)?]?;
+    make_union(alloc, data_type, ids, fields, places)
+}
+
+/// The rows that a union has, from one on: the type id of each, the field that it lies in, and in which
+/// row of it. Each field keeps its 4 rows, a dense union has the places of its rows, and a clone is the
+/// same.
+fn check_union(
+    rt: &impl Abort,
+    array: &AnyArray,
+    start: usize,
+    want: &[(i8, usize, usize)],
+    places: Option<&[i32]>,
+) -> Result<(), Error> {
+    let AnyArray::Union(array) = array else {
+        panic!(rt; "no union");
+    };
+    assert!(rt; array.clone()? == *array);
+    assert!(rt; array.start() == start && array.len() == want.len());
+    let found = match array.offsets() {
+        None => None,
+        Some(places) => Some(places.as_slice()),
+    };
+    assert_eq!(rt; found, places);
+    for (i, (id, field, row)) in want.iter().enumerate() {
+        assert!(rt; i < array.len());
+        assert_eq!(rt; array.types().as_slice()[i], *id);
+        assert_eq!(rt; array.index(i), (*field, *row));
+    }
+    for field in array.fields() {
+        assert_eq!(rt; field.len(), 4);
+    }
+    Ok(())
+}
+
+/// The rows of unions, and of their slices. Those that name the same row of a child are equal.
+fn check_unions(rt: &(impl Abort + Alloc<A = Global>)) -> Result<(), Error> {
+    let alloc = rt.alloc();
+    let array = union_of(alloc, &[5, 7, 7, 5], b"abcd", b"efgh", None)?;
+    let rows = [(5, 0, 0), (7, 1, 1), (7, 1, 2), (5, 0, 3)];
+    check_union(rt, &array, 0, &rows, None)?;
+    let part = from_row(rt, array, 2);
+    check_union(rt, &part, 2, &rows[2..], None)?;
+    assert!(rt; part == union_of(alloc, &[7, 5], b"Hd", b"ga", None)?);
+    assert!(rt; part != union_of(alloc, &[7, 5], b"Hc", b"ga", None)?);
+    check_union(rt, &from_row(rt, part, 1), 3, &rows[3..], None)?;
+    let (ids, places) = ([5, 7, 5, 7], [1, 0, 1, 0]);
+    let array = union_of(alloc, &ids, b"abcd", b"efgh", Some(&places))?;
+    let rows = [(5, 0, 1), (7, 1, 0), (5, 0, 1), (7, 1, 0)];
+    check_union(rt, &array, 0, &rows, Some(&places))?;
+    assert!(rt; array == union_of(alloc, &ids, b"Bbb", b"de", Some(&[1, 1, 2, 1]))?);
+    assert!(rt; array != union_of(alloc, &ids, b"Bbb", b"de", Some(&[1, 1, 0, 1]))?);
+    check_union(
+        rt,
+        &from_row(rt, array, 1),
+        0,
+        &rows[1..],
+        Some(&places[1..]),
+    )
+}
+
+const LENGTH: Option<SpecPart> = Some(SpecPart::Length);
+
+const OFFSETS: Option<SpecPart> = Some(SpecPart::Offsets);
+
+const TYPE_ID: Option<SpecPart> = Some(SpecPart::TypeId);
+
+/// Type ids, children and places, and what a union of them is refused for.
+const REFUSED: [(&[i8], &[u8], &[u8], Option<&[i32]>, Option<SpecPart>); 15] = [
+    (&[5, 7], b"ab", b"a", None, LENGTH),
+    (&[5, 7], b"abc", b"abc", None, LENGTH),
+    (&[6], b"a", b"a", None, TYPE_ID),
+    (&[5, 6], b"ab", b"ab", None, TYPE_ID),
+    (&[-1, 5], b"ab", b"ab", None, TYPE_ID),
+    // places of the fields, which are no ids of them
+    (&[0, 1], b"ab", b"ab", None, TYPE_ID),
+    (&[], b"", b"", None, None),
+    (&[5, 7], b"ab", b"ab", Some(&[0]), LENGTH),
+    (&[5, 7], b"ab", b"a", Some(&[0, 1]), OFFSETS),
+    (&[5, 7], b"ab", b"ab", Some(&[-1, 0]), OFFSETS),
+    (&[5, 7], b"ab", b"a", Some(&[1, 0]), None),
+    (&[7, 7], b"", b"a", Some(&[0, 0]), None),
+    // where the id is unknown no place is looked at
+    (&[5, 6], b"a", b"a", Some(&[0, 9]), TYPE_ID),
+    (&[6, 5], b"a", b"a", Some(&[0, 9]), OFFSETS),
+    (&[], b"a", b"", Some(&[]), None),
+];
+
+/// Children, type ids and places that make no union, and some that do.
+fn check_refused(rt: &(impl Abort + Alloc<A = Global>)) -> Result<(), Error> {
+    for (ids, left, right, places, want) in REFUSED {
+        let made = union_of(rt.alloc(), ids, left, right, places);
+        assert_eq!(rt; refusal(made)?, want, "{ids:?} and {places:?}");
+    }
+    Ok(())
+}
+
+#[test]
+fn rows_of_unions(rt: HostRuntime) {
+    // A request for memory that is refused is made once more.
+    if check_unions(&rt).is_err() {
+        assert_eq!(rt; check_unions(&rt), Ok(()));
+    }
+    if check_refused(&rt).is_err() {
+        assert_eq!(rt; check_refused(&rt), Ok(()));
+    }
+}

@@ -1,0 +1,173 @@
+//! Arrays of texts and of bytes, under offsets and in rows of a size.
+
+use crate::fixture::types::refusal;
+use crate::flat::check_again;
+use arrow_flat::array::{Binary, ByteKind, ByteRows, FixedSizeBinaryArray, FlatArray, Text};
+use arrow_memory::bitmap::Bitmap;
+use arrow_memory::buffer::Buffer;
+use arrow_memory::offset::OffsetsBuffer;
+use arrow_types::datatypes::DataType;
+use arrow_types::error::{Error, SpecPart};
+use arrow_types::types::Offset;
+use std::alloc::Global;
+use std::process::Abort;
+
+/// An array of the plain type under these offsets: the first not negative, and none less than the one
+/// before it.
+fn rows_of<O: Offset, K: ByteKind>(
+    alloc: Global,
+    offsets: &[O],
+    bytes: &[u8],
+    validity: Option<&[bool]>,
+) -> Result<FlatArray<ByteRows<O, K>>, Error> {
+    let validity = match validity {
+        None => None,
+        Some(bits) => Some(Bitmap::from_bools(alloc, bits)?),
+    };
+    let offsets = OffsetsBuffer::try_from(alloc, Vec::from_slice(alloc, offsets)?)?;
+    let values = Buffer::from_vec(alloc, Vec::from_slice(alloc, bytes)?)?;
+    FlatArray::<ByteRows<O, K>>::try_new(K::data_type(O::IS_LARGE), offsets, values, validity)
+}
+
+/// The example of Arrow's format: joe, null, null and mark.
+fn check_texts(rt: &(impl Abort + Alloc<A = Global>)) -> Result<(), Error> {
+    let validity = [true, false, false, true];
+    let offsets = [0, 3, 3, 3, 7];
+    let mut texts = rows_of::<i32, Text>(rt.alloc(), &offsets, b"joemark", Some(&validity))?;
+    assert!(rt; texts.len() == 4 && texts.null_count() == 2);
+    assert!(rt; texts.value(0) == "joe" && texts.value(1) == "" && texts.value(3) == "mark");
+    texts.slice(2, 2);
+    assert!(rt; texts.len() == 2 && texts.null_count() == 1);
+    assert!(rt; texts.value(0) == "" && texts.value(1) == "mark");
+    assert_eq!(rt; texts.offsets().buffer(), [3, 3, 7].as_slice());
+    assert!(rt; texts.values().as_slice() == b"joemark".as_slice());
+    Ok(())
+}
+
+/// Bytes that are no text, before, between and behind which there are others.
+fn check_binary(rt: &(impl Abort + Alloc<A = Global>)) -> Result<(), Error> {
+    let validity = [true, false, true, true];
+    let bytes = [9, 255, 254, 128, 0, 9];
+    let mut array = rows_of::<i64, Binary>(rt.alloc(), &[1, 3, 4, 4, 5], &bytes, Some(&validity))?;
+    assert!(rt; array.len() == 4 && array.values().as_slice() == bytes.as_slice());
+    assert!(rt; array.value(0) == [255, 254].as_slice() && array.value(2).is_empty());
+    // beneath the null
+    assert!(rt; array.value(1) == [128].as_slice());
+    array.slice(2, 2);
+    assert!(rt; array.len() == 2 && array.value(1) == [0].as_slice());
+    Ok(())
+}
+
+const NULLS: Option<&[bool]> = Some(&[true, false, true]);
+
+/// Offsets, bytes and a validity, and whether their rows are a, bb and cc.
+const LAYOUTS: [(&[i32], &[u8], Option<&[bool]>, bool); 9] = [
+    // other texts beneath the null, and other first offsets
+    (&[0, 1, 1, 3], b"acc", NULLS, true),
+    (&[2, 3, 6, 8], b"!!axyzcc!", NULLS, true),
+    (&[0, 1, 3, 4], b"abbc", NULLS, false),
+    (&[0, 1, 3], b"abb", None, false),
+    (&[3], b"abb", None, false),
+    (&[2, 3, 5, 7], b"xxabbccx", None, true),
+    // the same bytes in other rows
+    (&[0, 2, 3, 5], b"abbcc", None, false),
+    (&[0, 1, 3, 4, 5], b"abbcc", None, false),
+    (&[0, 1, 3, 5, 5], b"abbcc", None, false),
+];
+
+/// Against the rows a, bb and cc, of which the second may be null.
+fn check_layouts(rt: &(impl Abort + Alloc<A = Global>)) -> Result<(), Error> {
+    for (offsets, bytes, validity, want) in LAYOUTS {
+        let array = rows_of::<i32, Text>(rt.alloc(), &[0, 1, 3, 5], b"abbcc", validity)?;
+        let other = rows_of::<i32, Text>(rt.alloc(), offsets, bytes, validity)?;
+        let found = [array == other, other == array];
+        assert_eq!(rt; found, [want; 2], "{offsets:?}");
+    }
+    Ok(())
+}
+
+const LENGTH: Option<SpecPart> = Some(SpecPart::Length);
+
+const OFFSETS: Option<SpecPart> = Some(SpecPart::Offsets);
+
+const UTF8: Option<SpecPart> = Some(SpecPart::Utf8);
+
+/// Offsets, bytes and a validity, and what texts are refused for.
+const FAULTS: [(&[i32], &[u8], Option<&[bool]>, Option<SpecPart>); 15] = [
+    (&[0, 1, 5], &[255, 97], Some(&[]), LENGTH),
+    (&[0], b"abc", Some(&[true]), LENGTH),
+    (&[0, 1, 5], &[255, 97], None, OFFSETS),
+    (&[0, 1, 4], b"abc", Some(&[true, false]), OFFSETS),
+    (&[4], b"abc", None, OFFSETS),
+    (&[0, 1, 2], &[255, 97], None, UTF8),
+    (&[0, 1], &[255], Some(&[false]), UTF8),
+    // a character that offsets cut, and do not cut
+    (&[0, 1, 2], &[0xc3, 0xa9], None, UTF8),
+    (&[0, 1, 3], &[97, 0xe2, 0x82, 0xac], None, UTF8),
+    (&[0, 0, 2], &[0xc3, 0xa9], None, None),
+    // a surrogate
+    (&[0, 3], &[0xed, 0xa0, 0x80], None, UTF8),
+    // bytes that no row names
+    (&[1, 3], &[255, 97, 98, 255], None, None),
+    (&[1], &[255, 255], None, None),
+    (&[3, 3, 3], b"abc", Some(&[true, false]), None),
+    (&[0, 3], b"abc", Some(&[false]), None),
+];
+
+/// What texts are refused for: the validity before the offsets, and these before the text of each row,
+/// null rows too. Bytes are refused for the first two.
+fn check_faults(rt: &(impl Abort + Alloc<A = Global>)) -> Result<(), Error> {
+    for (rows, bytes, validity, want) in FAULTS {
+        let texts = rows_of::<i32, Text>(rt.alloc(), rows, bytes, validity);
+        assert_eq!(rt; refusal(texts)?, want, "{bytes:?} in {rows:?}");
+        let binary = rows_of::<i32, Binary>(rt.alloc(), rows, bytes, validity);
+        let want = if want == UTF8 { None } else { want };
+        assert_eq!(rt; refusal(binary)?, want, "{bytes:?} in {rows:?}");
+    }
+    Ok(())
+}
+
+/// An array of rows of so many bytes, with no null.
+fn fixed_of(alloc: Global, size: usize, bytes: &[u8]) -> Result<FixedSizeBinaryArray, Error> {
+    let values = Buffer::from_vec(alloc, Vec::from_slice(alloc, bytes)?)?;
+    FixedSizeBinaryArray::try_new(DataType::FixedSizeBinary(size), values, None)
+}
+
+/// The size of a row, bytes, and what they are refused for.
+const SIZES: [(usize, &[u8], Option<SpecPart>); 7] = [
+    (0, b"", Some(SpecPart::Kind)),
+    (0, b"ab", Some(SpecPart::Kind)),
+    (3, b"abcd", Some(SpecPart::Length)),
+    (3, b"ab", Some(SpecPart::Length)),
+    (4, b"abcd", None),
+    (1, b"abcd", None),
+    (3, b"", None),
+];
+
+/// What arrays of rows of so many bytes are refused for.
+fn check_refused_sizes(rt: &(impl Abort + Alloc<A = Global>)) -> Result<(), Error> {
+    for (size, bytes, want) in SIZES {
+        let made = fixed_of(rt.alloc(), size, bytes);
+        assert_eq!(rt; refusal(made)?, want, "{bytes:?} in rows of {size}");
+    }
+    Ok(())
+}
+
+/// The bytes of all rows, and the same bytes in rows of other sizes.
+fn check_sizes(rt: &(impl Abort + Alloc<A = Global>)) -> Result<(), Error> {
+    let pairs = fixed_of(rt.alloc(), 2, b"abcdef")?;
+    assert!(rt; pairs.size() == 2 && pairs.len() == 3);
+    assert!(rt; pairs.value(1) == b"cd".as_slice());
+    let mut array = fixed_of(rt.alloc(), 3, b"abcdef")?;
+    assert!(rt; array != pairs && array.len() == 2);
+    assert!(rt; array.values().as_slice() == b"abcdef".as_slice());
+    array.slice(1, 1);
+    assert!(rt; array.size() == 3 && array.values().as_slice() == b"def".as_slice());
+    Ok(())
+}
+
+#[test]
+fn texts_and_bytes(rt: HostRuntime) {
+    check_again!(rt, check_texts, check_binary, check_layouts);
+    check_again!(rt, check_faults, check_refused_sizes, check_sizes);
+}

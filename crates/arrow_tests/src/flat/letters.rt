@@ -1,0 +1,336 @@
+//! What is tested of each kind of array alike.
+//!
+//! Rows are letters. A capital is a null, and beneath it the small letter is stored.
+
+use crate::fixture::arrays::{byte_rows, fixed_bytes, numbers, truths, validity_of};
+use crate::fixture::types::{extension, refusal};
+use crate::flat::check_again;
+use arrow_flat::array::{
+    Binary, BooleanArray, ByteKind, ByteRows, FixedRows, FixedSizeBinaryArray, FlatArray,
+    PrimitiveArray, Text, Values,
+};
+use arrow_memory::bitmap::Bitmap;
+use arrow_memory::buffer::Buffer;
+use arrow_types::datatypes::DataType;
+use arrow_types::error::{Error, SpecPart};
+use arrow_types::types::Offset;
+use std::alloc::Global;
+use std::process::Abort;
+
+/// What rows are stored in, where each letter is a row.
+trait Letters: Values {
+    /// An array that stores these letters.
+    fn stored(
+        alloc: Global,
+        data_type: DataType,
+        letters: &[u8],
+        validity: Option<Bitmap>,
+    ) -> Result<FlatArray<Self>, Error>;
+
+    /// Whether row `i` stores this letter, be the row null or not.
+    fn is_stored(array: &FlatArray<Self>, i: usize, letter: u8) -> bool;
+}
+
+/// True for every other letter, the first included.
+impl Letters for Bitmap {
+    fn stored(
+        alloc: Global,
+        data_type: DataType,
+        letters: &[u8],
+        validity: Option<Bitmap>,
+    ) -> Result<BooleanArray, Error> {
+        let rows = truths(alloc, letters)?;
+        BooleanArray::try_new(data_type, rows.values().clone()?, validity)
+    }
+
+    fn is_stored(array: &BooleanArray, i: usize, letter: u8) -> bool {
+        let want = letter % 2 == 1;
+        i < array.len() && array.value(i) == want && array.values().get_bit(i) == want
+    }
+}
+
+/// A number for each letter.
+impl Letters for Buffer<i32> {
+    fn stored(
+        alloc: Global,
+        data_type: DataType,
+        letters: &[u8],
+        validity: Option<Bitmap>,
+    ) -> Result<PrimitiveArray<i32>, Error> {
+        let rows = numbers(alloc, DataType::Int32, letters)?;
+        PrimitiveArray::try_new(data_type, rows.values().clone()?, validity)
+    }
+
+    fn is_stored(array: &PrimitiveArray<i32>, i: usize, letter: u8) -> bool {
+        let want = i32::from(letter) - i32::from(b'0');
+        i < array.len() && array.value(i) == want && array.values().as_slice()[i] == want
+    }
+}
+
+/// Each letter three times.
+impl<O: Offset, K: ByteKind> Letters for ByteRows<O, K> {
+    fn stored(
+        alloc: Global,
+        data_type: DataType,
+        letters: &[u8],
+        validity: Option<Bitmap>,
+    ) -> Result<FlatArray<ByteRows<O, K>>, Error> {
+        let rows = byte_rows::<O, K>(alloc, letters)?;
+        let (offsets, bytes) = (rows.offsets().clone()?, rows.values().clone()?);
+        FlatArray::<ByteRows<O, K>>::try_new(data_type, offsets, bytes, validity)
+    }
+
+    fn is_stored(array: &FlatArray<ByteRows<O, K>>, i: usize, letter: u8) -> bool {
+        if i >= array.offsets().len() - 1 {
+            return false;
+        }
+        let (start, end) = array.offsets().start_end(i);
+        &array.values().as_slice()[start..end] == [letter; 3].as_slice()
+    }
+}
+
+/// Each letter three times.
+impl Letters for FixedRows {
+    fn stored(
+        alloc: Global,
+        data_type: DataType,
+        letters: &[u8],
+        validity: Option<Bitmap>,
+    ) -> Result<FixedSizeBinaryArray, Error> {
+        let rows = fixed_bytes(alloc, letters)?;
+        FixedSizeBinaryArray::try_new(data_type, rows.values().clone()?, validity)
+    }
+
+    fn is_stored(array: &FixedSizeBinaryArray, i: usize, letter: u8) -> bool {
+        i < array.len() && array.value(i) == [letter; 3].as_slice() && array.size() == 3
+    }
+}
+
+/// An array of these rows, with a validity where one is null.
+fn array_of<V: Letters>(
+    alloc: Global,
+    plain: &DataType,
+    letters: &[u8],
+) -> Result<FlatArray<V>, Error> {
+    V::stored(alloc, plain.clone()?, letters, validity_of(alloc, letters)?)
+}
+
+/// The rows, one by one.
+fn check_rows<V: Letters>(rt: &impl Abort, array: &FlatArray<V>, letters: &[u8]) {
+    assert_eq!(rt; array.len(), letters.len());
+    assert_eq!(rt; array.is_empty(), letters.is_empty());
+    let mut nulls = 0usize;
+    for (i, letter) in letters.iter().enumerate() {
+        let is_set = match array.validity() {
+            None => true,
+            Some(bits) => i < bits.len() && bits.get_bit(i),
+        };
+        assert_eq!(rt; is_set, letter.is_ascii_lowercase(), "row {i}");
+        assert!(rt; i < array.len() && array.is_valid(i) == is_set, "row {i}");
+        let is_stored = V::is_stored(array, i, letter.to_ascii_lowercase());
+        assert!(rt; is_stored, "row {i}");
+        if !is_set {
+            nulls = nulls.saturating_add(1);
+        }
+    }
+    assert_eq!(rt; array.null_count(), nulls);
+}
+
+/// Where each slice begins in the one before, its length, and its rows.
+const SLICES: [(usize, usize, &[u8]); 4] = [
+    (0, 7, b"baCDabb"),
+    (1, 5, b"aCDab"),
+    (2, 2, b"Da"),
+    (2, 0, b""),
+];
+
+/// Slices, each of the one before, of the rows baCDabb.
+fn check_parts<V: Letters>(rt: &impl Abort, part: &mut FlatArray<V>) {
+    for (offset, len, rows) in SLICES {
+        assert!(rt; offset <= part.len() && len <= part.len() - offset);
+        part.slice(offset, len);
+        check_rows(rt, part, rows);
+    }
+}
+
+/// Slices of a clone: the array keeps its rows.
+fn check_slices<V: Letters>(
+    rt: &(impl Abort + Alloc<A = Global>),
+    plain: &DataType,
+) -> Result<(), Error> {
+    let array = array_of::<V>(rt.alloc(), plain, b"baCDabb")?;
+    let mut part = array.clone()?;
+    assert!(rt; part == array);
+    check_parts(rt, &mut part);
+    assert!(rt; part != array && array.len() == 7);
+    check_rows(rt, &array.sliced(2, 5), b"CDabb");
+    Ok(())
+}
+
+/// Validities over three letters, and the rows.
+const VALIDITIES: [(&[bool], &[u8]); 3] = [
+    (&[false, true, true], b"Abc"),
+    (&[false, false, false], b"ABC"),
+    (&[true, true, true], b"abc"),
+];
+
+/// Other validities over the same letters, and none.
+fn check_validities<V: Letters>(
+    rt: &(impl Abort + Alloc<A = Global>),
+    plain: &DataType,
+) -> Result<(), Error> {
+    let mut array = array_of::<V>(rt.alloc(), plain, b"abC")?;
+    for (bits, rows) in VALIDITIES {
+        let validity = Bitmap::from_bools(rt.alloc(), bits)?;
+        assert!(rt; array.len() == 3 && validity.len() == 3);
+        array = array.with_validity(Some(validity));
+        assert!(rt; array.validity().is_some());
+        check_rows(rt, &array, rows);
+    }
+    let bare = array.with_validity(None);
+    assert!(rt; bare.validity().is_none());
+    check_rows(rt, &bare, b"abc");
+    Ok(())
+}
+
+/// Rows, others behind a first letter, and whether they are equal.
+const EQUAL: [(&[u8], &[u8], bool); 17] = [
+    (b"abCd", b"aabCd", true),
+    // another letter beneath the null, and in other rows
+    (b"abCd", b"BabDd", true),
+    (b"abCd", b"abbCd", false),
+    (b"abCd", b"aabCe", false),
+    // one null less, and one more
+    (b"abCd", b"aabcd", false),
+    (b"abCd", b"aaBCd", false),
+    (b"abCd", b"aabC", false),
+    (b"abCd", b"a", false),
+    // no null
+    (b"ab", b"aab", true),
+    (b"ab", b"Aab", true),
+    (b"ab", b"aaa", false),
+    (b"ab", b"Abb", false),
+    (b"ab", b"aa", false),
+    (b"ab", b"aabb", false),
+    (b"ab", b"aaB", false),
+    (b"AB", b"aBC", true),
+    (b"", b"a", true),
+];
+
+/// Equal are the same rows, whatever is stored beneath nulls, wherever they begin, and under a validity
+/// or none. The first letter of the other rows is left out of a range, and then sliced off.
+fn check_equality<V: Letters>(
+    rt: &(impl Abort + Alloc<A = Global>),
+    plain: &DataType,
+) -> Result<(), Error> {
+    for (left, right, want) in EQUAL {
+        let array = array_of::<V>(rt.alloc(), plain, left)?;
+        check_rows(rt, &array, left);
+        let mut other = array_of::<V>(rt.alloc(), plain, right)?;
+        let (len, other_len) = (array.len(), other.len());
+        assert!(rt; other_len > 0);
+        if len == other_len - 1 {
+            assert_eq!(rt; array.equal_range(0, &other, 1, len), want);
+        }
+        other.slice(1, other_len - 1);
+        let found = [array == other, other == array];
+        assert_eq!(rt; found, [want; 2], "{left:?} and {right:?}");
+    }
+    Ok(())
+}
+
+/// A type of another kind is refused for it, and not for a validity of another length.
+fn check_kind<V: Letters>(
+    rt: &(impl Abort + Alloc<A = Global>),
+    data_type: DataType,
+) -> Result<(), Error> {
+    let none = Bitmap::from_bools(rt.alloc(), &[])?;
+    let made = V::stored(rt.alloc(), data_type, b"ab", Some(none));
+    assert_eq!(rt; refusal(made)?, Some(SpecPart::Kind));
+    Ok(())
+}
+
+/// Validities that are not of two rows.
+const LENGTHS: [&[bool]; 4] = [&[], &[true], &[true, true, true], &[false, false, false]];
+
+/// Refused are types of other kinds, and validities of other lengths.
+fn check_refused<V: Letters>(
+    rt: &(impl Abort + Alloc<A = Global>),
+    plain: &DataType,
+) -> Result<(), Error> {
+    check_kind::<V>(rt, DataType::Null)?;
+    check_kind::<V>(rt, extension(rt.alloc(), "float", DataType::Float32)?)?;
+    for bits in LENGTHS {
+        let validity = Bitmap::from_bools(rt.alloc(), bits)?;
+        let made = V::stored(rt.alloc(), plain.clone()?, b"ab", Some(validity));
+        assert_eq!(rt; refusal(made)?, Some(SpecPart::Length), "under {bits:?}");
+    }
+    Ok(())
+}
+
+/// The same rows under a data type and under another.
+fn check_named<V: Letters>(
+    rt: &impl Abort,
+    array: &FlatArray<V>,
+    named: &FlatArray<V>,
+    data_type: &DataType,
+) -> Result<(), Error> {
+    check_rows(rt, named, b"ab");
+    assert!(rt; named.data_type() == data_type && *named == named.clone()?);
+    assert!(rt; array.data_type() != data_type && array != named);
+    Ok(())
+}
+
+/// The data type is the one given, and tells arrays of the same rows apart.
+fn check_types<V: Letters>(
+    rt: &(impl Abort + Alloc<A = Global>),
+    plain: &DataType,
+) -> Result<(), Error> {
+    let data_type = extension(rt.alloc(), "name", plain.clone()?)?;
+    let named = V::stored(rt.alloc(), data_type.clone()?, b"ab", None)?;
+    let array = array_of::<V>(rt.alloc(), plain, b"ab")?;
+    assert!(rt; array.data_type() == plain);
+    check_named(rt, &array, &named, &data_type)
+}
+
+/// All that is tested of each kind alike.
+fn check_array<V: Letters>(
+    rt: &(impl Abort + Alloc<A = Global>),
+    plain: &DataType,
+) -> Result<(), Error> {
+    check_slices::<V>(rt, plain)?;
+    check_validities::<V>(rt, plain)?;
+    check_equality::<V>(rt, plain)?;
+    check_refused::<V>(rt, plain)?;
+    check_types::<V>(rt, plain)
+}
+
+fn check_kinds(rt: &(impl Abort + Alloc<A = Global>)) -> Result<(), Error> {
+    check_array::<Bitmap>(rt, &DataType::Boolean)?;
+    check_array::<Buffer<i32>>(rt, &DataType::Int32)?;
+    check_array::<ByteRows<i32, Text>>(rt, &DataType::Utf8)?;
+    check_array::<ByteRows<i64, Text>>(rt, &DataType::LargeUtf8)?;
+    check_array::<ByteRows<i32, Binary>>(rt, &DataType::Binary)?;
+    check_array::<ByteRows<i64, Binary>>(rt, &DataType::LargeBinary)?;
+    check_array::<FixedRows>(rt, &DataType::FixedSizeBinary(3))?;
+    check_kind::<Buffer<i32>>(rt, DataType::Float32)?;
+    check_kind::<Buffer<i32>>(rt, DataType::UInt32)?;
+    check_kind::<Buffer<i32>>(rt, DataType::Int64)?;
+    // types of the other kind, of the other width of offsets, and of both
+    check_kind::<ByteRows<i32, Text>>(rt, DataType::LargeUtf8)?;
+    check_kind::<ByteRows<i32, Text>>(rt, DataType::Binary)?;
+    check_kind::<ByteRows<i64, Text>>(rt, DataType::Utf8)?;
+    check_kind::<ByteRows<i64, Text>>(rt, DataType::LargeBinary)?;
+    check_kind::<ByteRows<i32, Binary>>(rt, DataType::LargeBinary)?;
+    check_kind::<ByteRows<i32, Binary>>(rt, DataType::FixedSizeBinary(1))?;
+    check_kind::<ByteRows<i64, Binary>>(rt, DataType::LargeUtf8)?;
+    // rows of no byte
+    let none = extension(rt.alloc(), "none", DataType::FixedSizeBinary(0))?;
+    check_kind::<FixedRows>(rt, none)?;
+    check_kind::<FixedRows>(rt, DataType::Binary)
+}
+
+#[test]
+fn kinds_of_rows(rt: HostRuntime) {
+    check_again!(rt, check_kinds);
+}

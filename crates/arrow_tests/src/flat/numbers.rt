@@ -1,0 +1,150 @@
+//! Arrays and scalars of numbers and intervals, of any element type.
+
+use crate::fixture::arrays::numbers;
+use crate::flat::check_again;
+use crate::flat::scalars::check_scalar;
+use arrow_flat::array::{AnyPrimitive, PrimitiveArray};
+use arrow_flat::scalar::{AnyPrimitiveScalar, AnyScalar, PrimitiveScalar};
+use arrow_memory::bitmap::Bitmap;
+use arrow_memory::buffer::Buffer;
+use arrow_types::datatypes::{DataType, IntervalUnit, TimeUnit};
+use arrow_types::error::{Error, SpecPart};
+use arrow_types::types::{NativeType, days_ms, i256, months_days_ns};
+use std::alloc::Global;
+use std::process::Abort;
+
+/// An array of three values, the second beneath a null.
+fn array_of<T: NativeType>(
+    rt: &(impl Abort + Alloc<A = Global>),
+    data_type: DataType,
+    values: &[T],
+) -> Result<PrimitiveArray<T>, Error> {
+    let stored = Buffer::from_vec(rt.alloc(), Vec::from_slice(rt.alloc(), values)?)?;
+    let validity = Bitmap::from_bools(rt.alloc(), &[true, false, true])?;
+    let array = PrimitiveArray::try_new(data_type, stored, Some(validity))?;
+    assert!(rt; array.values().as_slice() == values);
+    Ok(array)
+}
+
+/// A number of this data type, or a null.
+fn scalar_of<T: NativeType>(
+    rt: &impl Abort,
+    data_type: DataType,
+    value: Option<T>,
+) -> PrimitiveScalar<T> {
+    let scalar = PrimitiveScalar::try_new(data_type, value).expect(rt, "a type of such numbers");
+    assert!(rt; scalar.value() == value && scalar.is_valid() == value.is_some());
+    scalar
+}
+
+/// Such an array, and slices of a clone of it.
+fn check_array(rt: &impl Abort, array: AnyPrimitive, data_type: DataType) -> Result<(), Error> {
+    let mut part = array.clone()?;
+    assert!(rt; part == array && *part.data_type() == data_type);
+    assert!(rt; part.null_count() == 1 && part.validity().is_some_and(|bits| bits.len() == 3));
+    assert!(rt; part.len() == 3 && array.len() == 3);
+    part.slice(1, 2);
+    assert!(rt; part != array && part.null_count() == 1 && part.len() == 2);
+    assert!(rt; part.clone()?.sliced(0, 1).null_count() == 1 && part.len() == 2);
+    part.slice(1, 1);
+    assert!(rt; part == array.sliced(2, 1) && part.null_count() == 0 && !part.is_empty());
+    assert!(rt; part.len() == 1);
+    assert!(rt; part.sliced(1, 0).is_empty());
+    Ok(())
+}
+
+/// Of each variant, with a data type, an array of three values and a scalar, valid or null.
+macro_rules! check_each {
+    ($rt:ident, $($variant:ident: $data_type:expr, $values:expr, $value:expr;)+) => {
+        $(
+            let array = AnyPrimitive::$variant(array_of($rt, $data_type, &$values)?);
+            check_array($rt, array, $data_type)?;
+            let scalar = AnyPrimitiveScalar::$variant(scalar_of($rt, $data_type, $value));
+            check_scalar($rt, AnyScalar::Primitive(scalar), $data_type, $value.is_some());
+        )+
+    };
+}
+
+fn check_integers(rt: &(impl Abort + Alloc<A = Global>)) -> Result<(), Error> {
+    check_each!(
+        rt,
+        Int8: DataType::Int8, [i8::MIN, 0, i8::MAX], Some(i8::MIN);
+        Int16: DataType::Int16, [i16::MIN, 0, i16::MAX], Some(i16::MIN);
+        Int32: DataType::Date32, [i32::MIN, 0, i32::MAX], Some(i32::MIN);
+        Int64: DataType::Date64, [i64::MIN, 0, i64::MAX], None::<i64>;
+        UInt8: DataType::UInt8, [u8::MAX, 0, 1], Some(u8::MAX);
+        UInt16: DataType::UInt16, [u16::MAX, 0, 1], Some(u16::MAX);
+        UInt32: DataType::UInt32, [u32::MAX, 0, 1], Some(u32::MAX);
+        UInt64: DataType::UInt64, [u64::MAX, 0, 1], Some(u64::MAX);
+    );
+    Ok(())
+}
+
+fn check_wide(rt: &(impl Abort + Alloc<A = Global>)) -> Result<(), Error> {
+    let wide = [
+        i256::new(i128::MIN, 0),
+        i256::new(-1, 1),
+        i256::new(i128::MAX, u128::MAX),
+    ];
+    let days = [days_ms::new(-1, 2), days_ms::new(0, 0), days_ms::new(-1, 3)];
+    let months = [
+        months_days_ns::new(1, -2, i64::MIN),
+        months_days_ns::new(0, 0, 0),
+        months_days_ns::new(1, -2, i64::MAX),
+    ];
+    let month = Some(months_days_ns::new(1, -2, 3));
+    check_each!(
+        rt,
+        Int128: DataType::Decimal(38, 2), [i128::MIN, 0, i128::MAX], Some(i128::MIN);
+        Int256: DataType::Decimal256(76, 2), wide, Some(i256::new(-1, 7));
+        DaysMs: DataType::Interval(IntervalUnit::DayTime), days, Some(days_ms::new(0, 0));
+        MonthDayNano: DataType::Interval(IntervalUnit::MonthDayNano), months, month;
+    );
+    Ok(())
+}
+
+/// Other types that lie as 32 bits, and for scalars types that do not.
+fn check_others(rt: &(impl Abort + Alloc<A = Global>)) -> Result<(), Error> {
+    let others = [
+        DataType::Date32,
+        DataType::Time32(TimeUnit::Second),
+        DataType::Interval(IntervalUnit::YearMonth),
+    ];
+    for data_type in others {
+        let array = numbers(rt.alloc(), data_type, b"ab")?;
+        assert!(rt; array.len() == 2 && array.data_type() != &DataType::Int32);
+    }
+    let others = [
+        DataType::Int64,
+        DataType::UInt32,
+        DataType::Float32,
+        DataType::Utf8,
+    ];
+    for data_type in others {
+        let refused = PrimitiveScalar::try_new(data_type, Some(1i32)).err();
+        assert_eq!(rt; refused, Some(Error::OutOfSpec(SpecPart::Kind)));
+    }
+    scalar_of::<i32>(rt, DataType::Time32(TimeUnit::Millisecond), None);
+    Ok(())
+}
+
+/// Equal are arrays of one type and the same rows, whatever is stored beneath nulls.
+fn check_equality(rt: &(impl Abort + Alloc<A = Global>)) -> Result<(), Error> {
+    let array = AnyPrimitive::Int32(array_of(rt, DataType::Int32, &[1i32, 2, 3])?);
+    for (values, want) in [([1, 9, 3], true), ([1, 2, 4], false)] {
+        let other = AnyPrimitive::Int32(array_of(rt, DataType::Int32, &values)?);
+        assert_eq!(rt; array == other, want, "{values:?}");
+    }
+    let date = AnyPrimitive::Int32(array_of(rt, DataType::Date32, &[1i32, 2, 3])?);
+    assert!(rt; array != date && array.len() == 3 && date.len() == 3);
+    assert!(rt; array.equal_range(0, &date, 0, 3) && !array.equal_range(0, &date, 1, 2));
+    let wide = AnyPrimitive::Int64(array_of(rt, DataType::Int64, &[1i64, 2, 3])?);
+    assert!(rt; array != wide);
+    Ok(())
+}
+
+#[test]
+fn element_types(rt: HostRuntime) {
+    check_again!(rt, check_integers, check_wide);
+    check_again!(rt, check_others, check_equality);
+}

@@ -1,0 +1,135 @@
+//! Growables of one type each, and the arrays that they become.
+
+ghost use Rattle.std.specs.Prelude.{◌≡◌, ◌+◌, ◌≤◌, length, None};
+ghost use Rattle.arrow_types.specs.Rows.{masked};
+
+use crate::fixture::arrays::{Shape, array_of, from_row};
+use arrow_arrays::array::AnyArray;
+use arrow_flat::array::{AnyPrimitive, Binary, ByteKind, ByteRows, FlatArray, NullArray, Text};
+use arrow_growable::growable::{
+    FlatGrowable, Growable, GrowableBits, GrowableBytes, GrowableFixedRows, GrowableNull,
+    GrowableValues,
+};
+use arrow_types::datatypes::DataType;
+use arrow_types::error::Error;
+use arrow_types::types::Offset;
+use std::alloc::Global;
+use std::process::Abort;
+
+/// The letters of an array and its row from which on it is bound, a first row and a count, and what is
+/// grown of so many rows and of a null.
+const CASES: [(Shape, &[u8], usize, (usize, usize), &[u8]); 7] = [
+    (Shape::Boolean, b"baCd", 0, (1, 2), b"aCA"),
+    (Shape::Number, b"ab", 0, (0, 2), b"abA"),
+    (Shape::Utf8, b"xaBc", 1, (0, 3), b"aBcA"),
+    (Shape::LargeUtf8, b"xaBc", 1, (0, 3), b"aBcA"),
+    (Shape::Binary, b"xaBc", 1, (0, 3), b"aBcA"),
+    (Shape::LargeBinary, b"xaBc", 1, (0, 3), b"aBcA"),
+    (Shape::FixedSizeBinary, b"abCd", 0, (1, 3), b"bCdA"),
+];
+
+/// An array of `len` rows of an array from row `start` on, and of a null.
+fn grow<G: GrowableValues>(
+    rt: &(impl Abort + Alloc<A = Global>),
+    array: &G::Array,
+    start: usize,
+    len: usize,
+) -> Result<AnyArray, Error>
+    requires { start + len ≤ length (masked (G.bits_in array.now) (G.stored_in array.now)) }
+{
+    let mut growable = FlatGrowable::<G>::new(rt.alloc(), vec![in rt.alloc(); array]?, false, 0)?;
+    growable.extend(0, start, len)?;
+    assert_eq!(rt; growable.len(), len);
+    growable.extend_validity(1)?;
+    G::into_any(growable.into_array()?)
+}
+
+/// The same of an array of any type, if there is a growable for it here.
+fn grow_any(
+    rt: &(impl Abort + Alloc<A = Global>),
+    array: &AnyArray,
+    start: usize,
+    len: usize,
+) -> Result<AnyArray, Error> {
+    let rows = array.len();
+    assert!(rt; start <= rows && len <= rows - start);
+    match array {
+        AnyArray::Boolean(array) => grow::<GrowableBits>(rt, array, start, len),
+        AnyArray::Primitive(AnyPrimitive::Int32(array)) => grow::<Vec<i32>>(rt, array, start, len),
+        AnyArray::Utf8(array) => grow::<GrowableBytes<i32, Text>>(rt, array, start, len),
+        AnyArray::LargeUtf8(array) => grow::<GrowableBytes<i64, Text>>(rt, array, start, len),
+        AnyArray::Binary(array) => grow::<GrowableBytes<i32, Binary>>(rt, array, start, len),
+        AnyArray::LargeBinary(array) => grow::<GrowableBytes<i64, Binary>>(rt, array, start, len),
+        AnyArray::FixedSizeBinary(array) => grow::<GrowableFixedRows>(rt, array, start, len),
+        _ => Err(Error::Failed),
+    }
+}
+
+/// A null row that is copied has no bytes, though some lie beneath it in the slice that it is copied from.
+fn check_bytes<O: Offset, K: ByteKind>(rt: &impl Abort, grown: &FlatArray<ByteRows<O, K>>) {
+    assert_eq!(rt; grown.values().as_slice(), b"aaaccc".as_slice());
+    assert_eq!(rt; grown.offsets().len(), 5);
+    for (offset, want) in grown.offsets().buffer().iter().zip([0usize, 3, 3, 6, 6]) {
+        assert!(rt; O::from_usize(want) == Some(*offset));
+    }
+}
+
+/// What is stored of the rows that are grown.
+fn check_stored(rt: &impl Abort, grown: &AnyArray) {
+    match grown {
+        AnyArray::Boolean(grown) => {
+            assert_eq!(rt; grown.len(), 3);
+            assert!(rt; grown.is_valid(0) && grown.value(0) && !grown.is_valid(1));
+        }
+        AnyArray::Primitive(AnyPrimitive::Int32(grown)) => {
+            assert_eq!(rt; grown.values().as_slice(), [49, 50, 0].as_slice());
+        }
+        AnyArray::Utf8(grown) => check_bytes(rt, grown),
+        AnyArray::LargeUtf8(grown) => check_bytes(rt, grown),
+        AnyArray::Binary(grown) => check_bytes(rt, grown),
+        AnyArray::LargeBinary(grown) => check_bytes(rt, grown),
+        AnyArray::FixedSizeBinary(grown) => assert_eq!(rt; grown.size(), 3),
+        _ => {}
+    }
+}
+
+/// Nulls, whatever rows are named, until there are too many.
+fn check_nulls(rt: &impl Abort, growable: &mut GrowableNull) -> Result<(), Error>
+    requires { growable.old.sources ≡ None }
+{
+    growable.extend(0, 1, 2)?;
+    growable.extend(1, 0, 1)?;
+    assert_eq!(rt; growable.len(), 3);
+    assert!(rt; growable.as_box()? == AnyArray::Null(NullArray::try_new(DataType::Null, 3)?));
+    assert_eq!(rt; growable.extend(0, 0, usize::MAX), Ok(()));
+    assert_eq!(rt; growable.extend(0, 0, 1), Err(Error::Overflow));
+    assert_eq!(rt; growable.len(), usize::MAX);
+    assert_eq!(rt; growable.extend(0, 0, 0), Err(Error::Failed));
+    assert_eq!(rt; growable.extend_validity(0), Err(Error::Failed));
+    assert_eq!(rt; growable.as_box().err(), Some(Error::Failed));
+    Ok(())
+}
+
+fn check_typed(rt: &(impl Abort + Alloc<A = Global>)) -> Result<(), Error> {
+    for (shape, letters, from, (start, len), want) in CASES {
+        let array = from_row(rt, array_of(rt.alloc(), shape, letters)?, from);
+        let grown = grow_any(rt, &array, start, len)?;
+        assert!(rt; grown == array_of(rt.alloc(), shape, want)?, "{shape:?}");
+        check_stored(rt, &grown);
+    }
+    let mut growable = GrowableNull::default();
+    check_nulls(rt, &mut growable)?;
+    assert_eq!(rt; growable.into_array().err(), Some(Error::Failed));
+    let mut growable = GrowableNull::new(DataType::Null);
+    growable.extend_validity(3)?;
+    assert!(rt; growable.into_array()? == NullArray::try_new(DataType::Null, 3)?);
+    Ok(())
+}
+
+#[test]
+fn arrays_of_one_type(rt: HostRuntime) {
+    // A request for memory that is refused is made once more.
+    if check_typed(&rt).is_err() {
+        assert_eq!(rt; check_typed(&rt), Ok(()));
+    }
+}

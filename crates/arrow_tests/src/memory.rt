@@ -1,0 +1,5 @@
+//! Tests of `arrow_memory`.
+
+mod bitmaps;
+mod buffers;
+mod offsets;

@@ -1,0 +1,32 @@
+//! What is tested of the kernels, over arrays of each type without children.
+
+mod concatenate;
+mod filter;
+mod window;
+
+use crate::fixture::arrays::{Shape, array_of};
+use arrow_arrays::array::AnyArray;
+use arrow_types::error::Error;
+use std::alloc::Global;
+use std::process::Abort;
+
+/// A kernel answered these rows or, where there was memory enough, refused for this reason.
+fn check_answer(
+    rt: &(impl Abort + Alloc<A = Global>),
+    answer: Result<AnyArray, Error>,
+    shape: Shape,
+    want: Result<&[u8], Error>,
+) -> Result<(), Error> {
+    match answer {
+        Ok(array) => {
+            let want = array_of(rt.alloc(), shape, want?)?;
+            assert!(rt; array == want, "{shape:?}");
+            Ok(())
+        }
+        Err(Error::OutOfMemory) => Err(Error::OutOfMemory),
+        Err(refusal) => {
+            assert_eq!(rt; Some(refusal), want.err(), "{shape:?}");
+            Ok(())
+        }
+    }
+}

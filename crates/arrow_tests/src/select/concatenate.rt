@@ -1,0 +1,71 @@
+//! The rows of two arrays, one array behind the other.
+
+use crate::fixture::arrays::{FLATS, Shape, array_of, from_row, is_flat};
+use crate::select::check_answer;
+use arrow_arrays::array::AnyArray;
+use arrow_flat::array::NullArray;
+use arrow_select::concatenate::concatenate;
+use arrow_types::datatypes::DataType;
+use arrow_types::error::{ArgumentFault, Error};
+use std::alloc::Global;
+use std::process::Abort;
+
+/// Two arrays, from some row on, and the rows of both.
+const CASES: [(usize, [&[u8]; 2], &[u8]); 2] = [
+    (1, [b"xabCde", b"XfG"], b"abCdefG"),
+    (0, [b"", b""], b""),
+];
+
+/// Two types that differ.
+const PAIRS: [[Shape; 2]; 2] = [[Shape::Number, Shape::Utf8], [Shape::Date, Shape::Number]];
+
+fn check_two(
+    rt: &(impl Abort + Alloc<A = Global>),
+    left: &AnyArray,
+    right: &AnyArray,
+    shape: Shape,
+    want: Result<&[u8], Error>,
+) -> Result<(), Error> {
+    assert!(rt; is_flat(left) && is_flat(right));
+    check_answer(rt, concatenate(rt.alloc(), &[left, right]), shape, want)
+}
+
+/// Two arrays of rows, of each shape one.
+fn check_rows(
+    rt: &(impl Abort + Alloc<A = Global>),
+    shapes: [Shape; 2],
+    letters: [&[u8]; 2],
+    start: usize,
+    want: Result<&[u8], Error>,
+) -> Result<(), Error> {
+    let ([shape, other], [left, right]) = (shapes, letters);
+    let left = from_row(rt, array_of(rt.alloc(), shape, left)?, start);
+    let right = from_row(rt, array_of(rt.alloc(), other, right)?, start);
+    check_two(rt, &left, &right, shape, want)
+}
+
+fn check_concatenate(rt: &(impl Abort + Alloc<A = Global>)) -> Result<(), Error> {
+    for shape in FLATS {
+        for (start, letters, want) in CASES {
+            check_rows(rt, [shape, shape], letters, start, Ok(want))?;
+        }
+    }
+    for shapes in PAIRS {
+        let want = Error::InvalidArgumentError(ArgumentFault::ConcatenateTypes);
+        check_rows(rt, shapes, [b"1", b"a"], 0, Err(want))?;
+    }
+    let want = Error::InvalidArgumentError(ArgumentFault::ConcatenateEmpty);
+    check_answer(rt, concatenate(rt.alloc(), &[]), Shape::Null, Err(want))?;
+    // More rows than can be counted.
+    let most = AnyArray::Null(NullArray::try_new(DataType::Null, usize::MAX)?);
+    let one = AnyArray::Null(NullArray::try_new(DataType::Null, 1)?);
+    check_two(rt, &most, &one, Shape::Null, Err(Error::Overflow))
+}
+
+#[test]
+fn rows_of_two_arrays(rt: HostRuntime) {
+    // A request for memory that is refused is made once more.
+    if check_concatenate(&rt).is_err() {
+        assert_eq!(rt; check_concatenate(&rt), Ok(()));
+    }
+}

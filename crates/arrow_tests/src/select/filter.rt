@@ -1,0 +1,60 @@
+//! The rows at which a predicate is true.
+
+use crate::fixture::arrays::{FLATS, Shape, array_of, from_row, is_flat, truths};
+use crate::select::check_answer;
+use arrow_select::filter::filter;
+use arrow_types::error::Error;
+use std::alloc::Global;
+use std::process::Abort;
+
+/// Rows and a predicate, each from some row on, and the rows that it keeps. A T is a null over true.
+type Case<'a> = ((usize, &'a [u8]), (usize, &'a [u8]), &'a [u8]);
+
+const CASES: [Case<'static>; 6] = [
+    ((0, b"56789"), (0, b"tfftf"), b"58"),
+    ((0, b"123"), (0, b"tTf"), b"1"),
+    ((0, b"1_3"), (0, b"fff"), b""),
+    ((0, b"1_3"), (0, b"ttt"), b"1_3"),
+    ((1, b"xabCde"), (0, b"tfttT"), b"aCd"),
+    ((0, b""), (0, b""), b""),
+];
+
+fn check_rows(
+    rt: &(impl Abort + Alloc<A = Global>),
+    shape: Shape,
+    case: Case,
+) -> Result<(), Error> {
+    let ((start, rows), (first, letters), want) = case;
+    let array = from_row(rt, array_of(rt.alloc(), shape, rows)?, start);
+    let predicate = truths(rt.alloc(), letters)?;
+    let len = array.len();
+    assert!(rt; is_flat(&array) && first <= predicate.len() && predicate.len() - first == len);
+    let predicate = predicate.sliced(first, len);
+    check_answer(rt, filter(rt.alloc(), &array, &predicate), shape, Ok(want))
+}
+
+fn check_filter(rt: &(impl Abort + Alloc<A = Global>)) -> Result<(), Error> {
+    for shape in FLATS {
+        for case in CASES {
+            check_rows(rt, shape, case)?;
+        }
+    }
+    // A predicate whose bits begin within a word and end within the third, over numbers that differ.
+    let mut rows = Vec::new(rt.alloc());
+    let mut predicate = vec![in rt.alloc(); b't', b't', b't']?;
+    for row in 0..130u8 {
+        rows.push(b'`' + row)?;
+        let is_true = matches!(row, 63 | 64 | 129);
+        predicate.push(if is_true { b't' } else { b'f' })?;
+    }
+    let want = [b'`' + 63, b'`' + 64, b'`' + 129];
+    check_rows(rt, Shape::Number, ((0, &rows), (3, &predicate), &want))
+}
+
+#[test]
+fn rows_that_a_predicate_keeps(rt: HostRuntime) {
+    // A request for memory that is refused is made once more.
+    if check_filter(&rt).is_err() {
+        assert_eq!(rt; check_filter(&rt), Ok(()));
+    }
+}

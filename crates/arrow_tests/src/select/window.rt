@@ -1,0 +1,64 @@
+//! Rows that are moved along an array.
+
+use crate::fixture::arrays::{FLATS, Shape, array_of, from_row, is_flat};
+use crate::select::check_answer;
+use arrow_arrays::array::AnyArray;
+use arrow_flat::array::NullArray;
+use arrow_select::window::shift;
+use arrow_types::datatypes::DataType;
+use arrow_types::error::{ArgumentFault, Error};
+use std::alloc::Global;
+use std::process::Abort;
+
+/// Rows from some row on, an offset, and the rows moved by it, if it does not pass their count.
+const CASES: [(usize, &[u8], i64, Option<&[u8]>); 12] = [
+    (0, b"1_3", -1, Some(b"_3_")),
+    (0, b"1_3", 1, Some(b"_1_")),
+    (0, b"1_3", 0, Some(b"1_3")),
+    (0, b"1_3", 3, Some(b"___")),
+    (0, b"1_3", -3, Some(b"___")),
+    (1, b"xabCde", 2, Some(b"AAabC")),
+    (1, b"xabCde", -2, Some(b"CdeAA")),
+    (0, b"", 0, Some(b"")),
+    (0, b"1_3", 4, None),
+    (0, b"1_3", -4, None),
+    (0, b"1_3", 10, None),
+    (0, b"1_3", i64::MIN, None),
+];
+
+fn shift_rows(
+    rt: &(impl Abort + Alloc<A = Global>),
+    array: &AnyArray,
+    offset: i64,
+) -> Result<AnyArray, Error> {
+    assert!(rt; is_flat(array));
+    shift(rt.alloc(), array, offset)
+}
+
+fn check_rows(rt: &(impl Abort + Alloc<A = Global>), shape: Shape) -> Result<(), Error> {
+    for (start, rows, offset, want) in CASES {
+        let array = from_row(rt, array_of(rt.alloc(), shape, rows)?, start);
+        let want = want.ok_or(Error::InvalidArgumentError(ArgumentFault::ShiftOffset));
+        check_answer(rt, shift_rows(rt, &array, offset), shape, want)?;
+    }
+    Ok(())
+}
+
+fn check_shift(rt: &(impl Abort + Alloc<A = Global>)) -> Result<(), Error> {
+    for shape in FLATS {
+        check_rows(rt, shape)?;
+    }
+    // As many rows as can be counted.
+    let array = AnyArray::Null(NullArray::try_new(DataType::Null, usize::MAX)?);
+    assert_eq!(rt; shift_rows(rt, &array, 1)?.len(), usize::MAX);
+    let want = Err(Error::InvalidArgumentError(ArgumentFault::ShiftOffset));
+    check_answer(rt, shift_rows(rt, &array, i64::MIN), Shape::Null, want)
+}
+
+#[test]
+fn rows_that_are_moved(rt: HostRuntime) {
+    // A request for memory that is refused is made once more.
+    if check_shift(&rt).is_err() {
+        assert_eq!(rt; check_shift(&rt), Ok(()));
+    }
+}

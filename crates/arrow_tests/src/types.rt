@@ -1,0 +1,5 @@
+//! Elements, data types and errors.
+
+mod datatypes;
+mod elements;
+mod errors;

@@ -1,0 +1,175 @@
+//! Native types, and the integers that name rows.
+
+ghost use Rattle.std.specs.Prelude.{◌≡◌, ◌↔◌, ◌≤◌, pos, ◌≤ℤ◌, IsTrue, IsSome, IfSome, Some};
+ghost use Rattle.arrow_types.specs.Greatest.{greatest_number, greatest_offset};
+ghost use Rattle.arrow_types.specs.Relation.{related, eq};
+ghost use Rattle.arrow_types.specs.Slot.{Boolean};
+
+use arrow_types::datatypes::IntegerType;
+use arrow_types::types::{
+    DictionaryKey, Index, NativeOrd, NativeType, Offset, PrimitiveType, days_ms, i256,
+    months_days_ns,
+};
+use std::fmt::Debug;
+use std::process::Abort;
+
+// Generic functions, each proved from the laws of its bound alone and with no proof file.
+
+fn is_zero<T: NativeType>(value: T) -> bool
+    ensures { IsTrue result ↔ (value ≡ T.zero) }
+{
+    value == T::default()
+}
+
+fn are_equal_rows<T: NativeType>(a: T, b: T) -> bool
+    ensures { related eq (T.slot a) (T.slot b) ≡ Boolean result }
+{
+    a == b
+}
+
+fn larger<T: NativeOrd>(a: T, b: T) -> T
+    ensures first { T.number a ≤ℤ T.number result }
+    ensures second { T.number b ≤ℤ T.number result }
+{
+    if a < b { b } else { a }
+}
+
+fn index_again<I: Index>(index: I) -> Option<I>
+    requires { pos 0 ≤ℤ I.number index }
+    ensures { result ≡ Some index }
+{
+    I::from_usize(index.to_usize())
+}
+
+fn offset_again<O: Offset>(length: usize) -> Option<usize>
+    ensures fits { IsSome result ↔ (length ≤ greatest_offset O.IS_LARGE) }
+    ensures same { IfSome result (λ n. n ≡ length) }
+{
+    match O::from_usize(length) {
+        Some(offset) => Some(offset.to_usize()),
+        None => None,
+    }
+}
+
+fn key_again<K: DictionaryKey>(place: usize) -> Option<usize>
+    ensures fits { IsSome result ↔ (place ≤ greatest_number K.KEY_TYPE) }
+    ensures same { IfSome result (λ n. n ≡ place) }
+{
+    match K::from_usize(place) {
+        Some(key) => Some(key.to_usize()),
+        None => None,
+    }
+}
+
+#[test]
+fn wide_numbers_in_order(rt: HostRuntime) {
+    let mut numbers = [i256::default(); 9];
+    let mut count = 0;
+    for high in [-1, 0, 1] {
+        for low in [0, 1, u128::MAX] {
+            if count < numbers.len() {
+                numbers[count] = i256::new(high, low);
+                count += 1;
+            }
+            let number = i256::new(high, low);
+            assert_eq!(rt; number.high(), high);
+            assert_eq!(rt; number.low(), low);
+        }
+    }
+    for (i, a) in numbers.iter().enumerate() {
+        for (j, b) in numbers.iter().enumerate() {
+            assert_eq!(rt; a.cmp(b), i.cmp(&j), "{a:?} against {b:?}");
+            assert_eq!(rt; a == b, i == j, "{a:?} against {b:?}");
+            assert_eq!(rt; a.partial_cmp(b), Some(i.cmp(&j)));
+        }
+    }
+    assert!(rt; i256::default() == i256::new(0, 0));
+    assert_eq!(rt; larger(i256::new(-1, u128::MAX), i256::new(0, 0)).high(), 0);
+}
+
+#[test]
+fn intervals(rt: HostRuntime) {
+    let days = days_ms::new(-3, 2_000);
+    assert_eq!(rt; days.days(), -3);
+    assert_eq!(rt; days.milliseconds(), 2_000);
+    assert!(rt; days == days_ms::new(-3, 2_000));
+    assert!(rt; days != days_ms::new(-3, 2_001));
+    assert!(rt; days != days_ms::new(3, 2_000));
+    assert!(rt; days_ms::default() == days_ms::new(0, 0));
+    let months = months_days_ns::new(1, -2, i64::MIN);
+    assert_eq!(rt; months.months(), 1);
+    assert_eq!(rt; months.days(), -2);
+    assert_eq!(rt; months.ns(), i64::MIN);
+    assert!(rt; months == months_days_ns::new(1, -2, i64::MIN));
+    assert!(rt; months != months_days_ns::new(1, -2, 0));
+    assert!(rt; months != months_days_ns::new(1, 2, i64::MIN));
+    assert!(rt; months != months_days_ns::new(0, -2, i64::MIN));
+    assert!(rt; months_days_ns::default() == months_days_ns::new(0, 0, 0));
+    assert!(rt; is_zero(months_days_ns::new(0, 0, 0)) && !is_zero(days));
+    assert!(rt; are_equal_rows(7u8, 7) && !are_equal_rows(i128::MIN, i128::MAX));
+}
+
+/// The greatest number of an index type, one above it, and rows of none, of one and of all.
+fn check_index<I: Index + DictionaryKey + Debug>(rt: &impl Abort, greatest: usize) {
+    assert!(rt; I::from_usize(0).is_some());
+    let last = I::from_usize(greatest);
+    assert_eq!(rt; key_again::<I>(greatest), Some(greatest));
+    if let Some(above) = greatest.checked_add(1) {
+        assert_eq!(rt; I::from_usize(above), None, "{above}");
+        assert!(rt; last.is_some_and(|last| last.in_range(above)));
+    }
+    assert!(rt; last.is_some_and(|last| !last.in_range(greatest)));
+    let zero = I::default();
+    assert!(rt; zero.in_range(1) && !zero.in_range(0));
+}
+
+#[test]
+fn indices_keys_and_offsets(rt: HostRuntime) {
+    check_index::<i8>(&rt, 127);
+    check_index::<i16>(&rt, 32_767);
+    check_index::<i32>(&rt, 2_147_483_647);
+    check_index::<i64>(&rt, 9_223_372_036_854_775_807);
+    check_index::<u8>(&rt, 255);
+    check_index::<u16>(&rt, 65_535);
+    check_index::<u32>(&rt, 4_294_967_295);
+    check_index::<u64>(&rt, 18_446_744_073_709_551_615);
+    for negative in [-1, i32::MIN] {
+        assert!(rt; !negative.in_range(usize::MAX));
+    }
+    assert!(rt; !(-1i8).in_range(1) && !i16::MIN.in_range(1) && !(-1i64).in_range(usize::MAX));
+    assert_eq!(rt; index_again(7u16), Some(7));
+    assert_eq!(rt; i8::KEY_TYPE, IntegerType::Int8);
+    assert_eq!(rt; u64::KEY_TYPE, IntegerType::UInt64);
+    assert_eq!(rt; offset_again::<i32>(2_147_483_647), Some(2_147_483_647));
+    assert_eq!(rt; offset_again::<i32>(2_147_483_648), None);
+    let greatest = 9_223_372_036_854_775_807;
+    assert_eq!(rt; offset_again::<i64>(greatest), Some(greatest));
+    assert_eq!(rt; offset_again::<i64>(greatest + 1), None);
+    assert!(rt; !i32::IS_LARGE && i64::IS_LARGE);
+    assert_eq!(rt; 13i32.shifted(10, 4), 7);
+    assert_eq!(rt;
+        9_223_372_036_854_775_806i64.shifted(1, 2),
+        9_223_372_036_854_775_807
+    );
+}
+
+#[test]
+fn element_types(rt: HostRuntime) {
+    let types = [
+        (i8::PRIMITIVE, PrimitiveType::Int8),
+        (i16::PRIMITIVE, PrimitiveType::Int16),
+        (i32::PRIMITIVE, PrimitiveType::Int32),
+        (i64::PRIMITIVE, PrimitiveType::Int64),
+        (i128::PRIMITIVE, PrimitiveType::Int128),
+        (i256::PRIMITIVE, PrimitiveType::Int256),
+        (u8::PRIMITIVE, PrimitiveType::UInt8),
+        (u16::PRIMITIVE, PrimitiveType::UInt16),
+        (u32::PRIMITIVE, PrimitiveType::UInt32),
+        (u64::PRIMITIVE, PrimitiveType::UInt64),
+        (days_ms::PRIMITIVE, PrimitiveType::DaysMs),
+        (months_days_ns::PRIMITIVE, PrimitiveType::MonthDayNano),
+    ];
+    for (found, want) in types {
+        assert_eq!(rt; found, want);
+    }
+}
