@@ -77,48 +77,62 @@ fn dictionary_of(
     DictionaryArray::try_new(data_type, keys, texts)
 }
 
-/// The key of each row, over two values, and whether there is a validity. Clones are the same.
+/// Whether two lists of keys of 8 bits are the same.
+fn are_same(keys: &AnyKeys, others: &AnyKeys) -> bool {
+    match keys {
+        AnyKeys::Int8(keys) => match others {
+            AnyKeys::Int8(others) => keys == others,
+            _ => false,
+        },
+        _ => false,
+    }
+}
+
+/// The key of each row.
+fn check_each(rt: &impl Abort, array: &DictionaryArray, want: &[Option<usize>]) {
+    assert_eq!(rt; array.len(), want.len());
+    assert_eq!(rt; array.is_empty(), want.is_empty());
+    let keys = array.keys();
+    let mut nulls = 0usize;
+    for (i, key) in want.iter().enumerate() {
+        assert!(rt; i < keys.len());
+        assert_eq!(rt; keys.key(i), *key, "row {i}");
+        if key.is_none() {
+            nulls = nulls.saturating_add(1);
+        }
+    }
+    assert_eq!(rt; array.null_count(), nulls);
+}
+
+/// The rows, over two values, and whether there is a validity. Clones are the same.
 fn check_rows(
     rt: &impl Abort,
     array: &DictionaryArray,
     has_validity: bool,
     want: &[Option<usize>],
 ) -> Result<(), Error> {
+    check_each(rt, array, want);
     assert!(rt; array.clone()? == *array && array.values().len() == 2);
+    assert!(rt; are_same(array.keys(), &array.keys().clone()?));
     assert_eq!(rt; array.validity().is_some(), has_validity);
     if let Some(bits) = array.validity() {
         assert_eq!(rt; bits.len(), want.len());
     }
-    assert_eq!(rt; array.len(), want.len());
-    assert_eq!(rt; array.is_empty(), want.is_empty());
-    let keys = array.keys();
-    let copy = keys.clone()?;
-    assert_eq!(rt; copy.len(), want.len());
-    let mut nulls = 0usize;
-    for (i, key) in want.iter().enumerate() {
-        assert!(rt; i < keys.len());
-        assert_eq!(rt; [keys.key(i), copy.key(i)], [*key; 2], "row {i}");
-        if key.is_none() {
-            nulls = nulls.saturating_add(1);
-        }
-    }
-    assert_eq!(rt; array.null_count(), nulls);
     Ok(())
 }
 
-/// Slices of the rows, each of the one before, over the same values.
+/// Slices, each of the one before: where it begins, its length, and the key of each row.
+type Slices = &'static [(usize, usize, &'static [Option<usize>])];
+
+/// Slices of an array, over the same values.
 fn check_slices(
     rt: &impl Abort,
     array: &mut DictionaryArray,
-    rows: &[Option<usize>],
-    slices: &[(usize, usize)],
+    slices: &[(usize, usize, &[Option<usize>])],
 ) -> Result<(), Error> {
-    let mut rows = rows;
-    for (offset, len) in slices {
+    for (offset, len, rows) in slices {
         let (offset, len) = (*offset, *len);
         assert!(rt; offset <= array.len() && len <= array.len() - offset);
-        assert!(rt; offset <= rows.len() && len <= rows.len() - offset);
-        rows = &rows[offset..offset + len];
         check_rows(rt, &array.clone()?.sliced(offset, len), true, rows)?;
         array.slice(offset, len);
         check_rows(rt, array, true, rows)?;
@@ -131,14 +145,18 @@ const MIXED: (&[i8], Option<&[bool]>) = (&[1, -7, 0, 1], Some(&[true, false, tru
 const ROWS: &[Option<usize>] = &[Some(1), None, Some(0), Some(1)];
 
 /// Keys under a validity, the texts that they name, the key of each row, and slices.
-const KEYS: [(
-    (&[i8], Option<&[bool]>),
-    &[u8],
-    &[Option<usize>],
-    &[(usize, usize)],
-); 7] = [
-    (MIXED, b"ab", ROWS, &[(1, 3), (2, 1), (1, 0)]),
-    (MIXED, b"ab", ROWS, &[(3, 1)]),
+const KEYS: [((&[i8], Option<&[bool]>), &[u8], &[Option<usize>], Slices); 7] = [
+    (
+        MIXED,
+        b"ab",
+        ROWS,
+        &[
+            (1, 3, &[None, Some(0), Some(1)]),
+            (2, 1, &[Some(1)]),
+            (1, 0, &[]),
+        ],
+    ),
+    (MIXED, b"ab", ROWS, &[(3, 1, &[Some(1)])]),
     ((&[], None), b"ab", &[], &[]),
     ((&[], Some(&[])), b"ab", &[], &[]),
     ((&[2, -1], Some(&[false, false])), b"ab", &[None, None], &[]),
@@ -159,7 +177,7 @@ fn check_keys(rt: &(impl Abort + Alloc<A = Global>)) -> Result<(), Error> {
         check_rows(rt, &array, validity.is_some(), rows)?;
         let nulls = usize::from(letters == b"aB".as_slice());
         assert_eq!(rt; array.values().null_count(), nulls);
-        check_slices(rt, &mut array, rows, slices)?;
+        check_slices(rt, &mut array, slices)?;
     }
     Ok(())
 }
