@@ -1,20 +1,25 @@
 //! Flat arrays and scalars.
 
-/// Makes each check, and once more where a request for memory was refused.
-macro_rules! check_again {
-    ($rt:ident, $($check:ident),+) => {
-        $(
-            if $check(&$rt).is_err() {
-                assert_eq!($rt; $check(&$rt), Ok(()));
-            }
-        )+
-    };
-}
-
-use check_again;
-
 mod bytes;
 mod letters;
 mod nulls;
 mod numbers;
 mod scalars;
+
+use crate::fixture::check_again;
+
+#[test]
+fn flat_arrays(rt: HostRuntime) {
+    check_again!(rt; letters::check_kinds, nulls::check_counts, nulls::check_named);
+    check_again!(rt; numbers::check_integers, numbers::check_wide);
+    check_again!(rt; numbers::check_others, numbers::check_equality);
+    check_again!(rt; bytes::check_texts, bytes::check_binary, bytes::check_layouts);
+    check_again!(rt; bytes::check_faults, bytes::check_refused_sizes, bytes::check_sizes);
+}
+
+#[test]
+fn scalars_of_each_type(rt: HostRuntime) {
+    scalars::check_without_memory(&rt);
+    check_again!(rt; scalars::check_texts_and_bytes, scalars::check_refused);
+    check_again!(rt; scalars::check_entries, scalars::check_nested);
+}

@@ -2,3 +2,11 @@
 
 mod any;
 mod typed;
+
+use crate::fixture::check_again;
+
+#[test]
+fn growables(rt: HostRuntime) {
+    check_again!(rt; any::check_shapes, any::check_elements);
+    check_again!(rt; typed::check_typed, typed::check_null_arrays);
+}

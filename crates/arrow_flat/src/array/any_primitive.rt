@@ -150,7 +150,9 @@ impl AnyPrimitive {
         ensures same { any_type result ≡ any_type self }
         ensures rows { any_rows result ≡ sliced (any_rows self) offset len }
     {
-        map_any!(self, array => array.sliced(offset, len))
+        let mut part = self;
+        part.slice(offset, len);
+        part
     }
 
     /// Whether `len` rows from row `start` on are the same as those of the other from row

@@ -4,11 +4,10 @@ use crate::fixture::arrays::{Shape, flat, make_union};
 use crate::fixture::read::read;
 use crate::fixture::types::refusal;
 use arrow_arrays::array::{AnyArray, new_empty_array, new_null_array};
+use arrow_types::datatypes::DataType;
 use arrow_types::error::{Error, SpecPart};
 use std::alloc::Global;
 use std::process::Abort;
-
-// A request for memory that is refused is made once more: each test runs its checks again then.
 
 /// Types of each layout, each with the number of nulls in two null rows of it.
 const TYPES: [(&str, usize); 20] = [
@@ -38,32 +37,23 @@ const TYPES: [(&str, usize); 20] = [
 /// No row of a type, and two, of which so many are null.
 fn check_type(
     rt: &(impl Abort + Alloc<A = Global>),
-    text: &str,
+    data_type: &DataType,
     null_count: usize,
 ) -> Result<(), Error> {
-    let data_type = read(rt.alloc(), text)?;
-    assert!(rt; data_type.is_carried(), "{text}");
+    assert!(rt; data_type.is_carried());
     let empty = new_empty_array(rt.alloc(), data_type.clone()?)?;
-    assert_eq!(rt; empty.len(), 0, "{text}");
-    assert_eq!(rt; empty.data_type(), &data_type);
+    assert!(rt; empty.len() == 0 && empty.data_type() == data_type);
     let nulls = new_null_array(rt.alloc(), data_type.clone()?, 2)?;
-    assert_eq!(rt; nulls.len(), 2, "{text}");
-    assert_eq!(rt; nulls.null_count(), null_count, "{text}");
-    assert_eq!(rt; nulls.data_type(), &data_type);
+    assert!(rt; nulls.len() == 2 && nulls.null_count() == null_count);
+    assert!(rt; nulls.data_type() == data_type);
     Ok(())
 }
 
-fn check_types(rt: &(impl Abort + Alloc<A = Global>)) -> Result<(), Error> {
+pub fn check_types(rt: &(impl Abort + Alloc<A = Global>)) -> Result<(), Error> {
     for (text, null_count) in &TYPES {
-        check_type(rt, text, *null_count)?;
+        check_type(rt, &read(rt.alloc(), text)?, *null_count)?;
     }
     Ok(())
-}
-
-#[test]
-fn nulls_of_each_type(rt: HostRuntime) {
-    let outcome = check_types(&rt).or_else(|_| check_types(&rt));
-    assert_eq!(rt; outcome, Ok(()));
 }
 
 /// So many null rows of a type.
@@ -73,12 +63,12 @@ fn nulls(
     count: usize,
 ) -> Result<AnyArray, Error> {
     let data_type = read(rt.alloc(), text)?;
-    assert!(rt; data_type.is_carried(), "{text}");
+    assert!(rt; data_type.is_carried());
     new_null_array(rt.alloc(), data_type, count)
 }
 
 /// Null rows are equal to rows that are null, whatever lies beneath.
-fn check_equal(rt: &(impl Abort + Alloc<A = Global>)) -> Result<(), Error> {
+pub fn check_equal(rt: &(impl Abort + Alloc<A = Global>)) -> Result<(), Error> {
     for (text, shape) in [
         ("null", Shape::Null),
         ("bool", Shape::Boolean),
@@ -93,9 +83,9 @@ fn check_equal(rt: &(impl Abort + Alloc<A = Global>)) -> Result<(), Error> {
 }
 
 /// Items that are not counted: at two rows, and not at one.
-fn check_overflow(rt: &(impl Abort + Alloc<A = Global>)) -> Result<(), Error> {
+pub fn check_overflow(rt: &(impl Abort + Alloc<A = Global>)) -> Result<(), Error> {
     let half = "null fixed_list:9223372036854775808";
-    assert_eq!(rt; nulls(rt, half, 1)?.len(), 1);
+    assert!(rt; nulls(rt, half, 1)?.len() == 1);
     for text in [half, "fixed_binary:9223372036854775808"] {
         match nulls(rt, text, 2) {
             Err(Error::Overflow) => {}
@@ -106,50 +96,34 @@ fn check_overflow(rt: &(impl Abort + Alloc<A = Global>)) -> Result<(), Error> {
     Ok(())
 }
 
+/// Null rows of a union are null rows of its first field, by the type id of that: at these places.
+pub fn check_unions(rt: &(impl Abort + Alloc<A = Global>)) -> Result<(), Error> {
+    for (text, place) in [
+        ("i8 utf8 union:sparse:5,7", 1),
+        ("i8 utf8 union:dense:5,7", 0),
+    ] {
+        let AnyArray::Union(array) = nulls(rt, text, 2)? else {
+            rt.panic("no union");
+        };
+        assert!(rt; array.len() == 2);
+        assert!(rt; array.index(0) == (0, 0) && array.index(1) == (0, place));
+    }
+    Ok(())
+}
+
 /// A sparse union of numbers and texts, with these type ids and numbers. No text is null.
 fn union_of(alloc: Global, ids: &[i8], letters: &[u8]) -> Result<AnyArray, Error> {
     let data_type = read(alloc, "i32 utf8 union:sparse:5,7")?;
     let numbers = flat(alloc, Shape::Number, letters)?;
     let texts = flat(alloc, Shape::Utf8, &letters.to_ascii_lowercase(alloc)?)?;
-    let fields = vec![in alloc; numbers, texts]?;
-    make_union(alloc, data_type, ids, fields, None)
-}
-
-/// Null rows of a union are null rows of its first field, by the type id of that: at these places.
-fn check_unions(rt: &(impl Abort + Alloc<A = Global>)) -> Result<(), Error> {
-    for (text, places) in [
-        ("i8 utf8 union:sparse:5,7", [0, 1]),
-        ("i8 utf8 union:dense:5,7", [0, 0]),
-    ] {
-        let AnyArray::Union(array) = nulls(rt, text, 2)? else {
-            rt.panic("no union");
-        };
-        assert_eq!(rt; array.len(), 2);
-        assert_eq!(rt;
-            [array.index(0), array.index(1)],
-            [(0, places[0]), (0, places[1])]
-        );
-    }
-    Ok(())
+    make_union(alloc, data_type, ids, vec![in alloc; numbers, texts]?, None)
 }
 
 /// The same rows, built from parts. A type id that no field has makes no union.
-fn check_built(rt: &(impl Abort + Alloc<A = Global>)) -> Result<(), Error> {
+pub fn check_built(rt: &(impl Abort + Alloc<A = Global>)) -> Result<(), Error> {
     let rows = union_of(rt.alloc(), &[5, 5], b"AB")?;
     assert!(rt; nulls(rt, "i32 utf8 union:sparse:5,7", 2)? == rows);
     let unknown = refusal(union_of(rt.alloc(), &[6], b"A"))?;
-    assert_eq!(rt; unknown, Some(SpecPart::TypeId));
+    assert!(rt; unknown == Some(SpecPart::TypeId));
     Ok(())
-}
-
-#[test]
-fn rows_of_nulls(rt: HostRuntime) {
-    let outcome = check_equal(&rt).or_else(|_| check_equal(&rt));
-    assert_eq!(rt; outcome, Ok(()));
-    let outcome = check_overflow(&rt).or_else(|_| check_overflow(&rt));
-    assert_eq!(rt; outcome, Ok(()));
-    let outcome = check_unions(&rt).or_else(|_| check_unions(&rt));
-    assert_eq!(rt; outcome, Ok(()));
-    let outcome = check_built(&rt).or_else(|_| check_built(&rt));
-    assert_eq!(rt; outcome, Ok(()));
 }

@@ -127,7 +127,7 @@ const ORDERS: [(Shape, &[Option<SpecPart>]); 8] = [
 
 /// Of two parts that are wrong the first is named, and each where it alone is wrong; with none an array
 /// is made.
-fn check_order(rt: &(impl Abort + Alloc<A = Global>)) -> Result<(), Error> {
+pub fn check_order(rt: &(impl Abort + Alloc<A = Global>)) -> Result<(), Error> {
     for (shape, parts) in ORDERS {
         for (i, first) in parts.iter().enumerate() {
             for second in parts.iter().skip(i) {
@@ -137,40 +137,37 @@ fn check_order(rt: &(impl Abort + Alloc<A = Global>)) -> Result<(), Error> {
                     Shape::Pairs(mode) => wrong_pairs(rt.alloc(), mode, wrong),
                     shape => array_of(rt.alloc(), shape, b"aB"),
                 };
-                assert_eq!(rt; refusal(made)?, *first, "{wrong:?} of {shape:?}");
+                assert!(rt; refusal(made)? == *first, "{wrong:?} of {shape:?}");
             }
         }
     }
     Ok(())
 }
 
-/// Children that are no whole rows, too few, or of unequal lengths, and a struct of no field.
-fn check_children(rt: &(impl Abort + Alloc<A = Global>)) -> Result<(), Error> {
+/// Children that are no whole rows, and of unequal lengths.
+pub fn check_lengths(rt: &(impl Abort + Alloc<A = Global>)) -> Result<(), Error> {
     let alloc = rt.alloc();
-    let kind = ListKind::FixedSize;
-    let data_type = list_type(alloc, kind, DataType::Utf8)?;
+    let data_type = list_type(alloc, ListKind::FixedSize, DataType::Utf8)?;
     let items = flat(alloc, Shape::Utf8, b"abc")?;
-    let made = make_lists(alloc, kind, data_type, &[], items, None);
-    assert_eq!(rt; refusal(made)?, Some(SpecPart::Length));
-    let data_type = pair_type(alloc, None, DataType::Utf8, DataType::Utf8)?;
-    let fields = vec![in alloc; flat(alloc, Shape::Utf8, b"ab")?]?;
-    let made = StructArray::try_new(data_type, fields, None);
-    assert_eq!(rt; refusal(made)?, Some(SpecPart::Child));
-    let left = flat(alloc, Shape::Utf8, b"ab")?;
-    let made = make_pairs(alloc, None, b"ab", left, flat(alloc, Shape::Number, b"a")?);
-    assert_eq!(rt; refusal(made)?, Some(SpecPart::Length));
-    let made = StructArray::try_new(DataType::Struct(Vec::new(alloc)), Vec::new(alloc), None);
-    assert_eq!(rt; refusal(made)?, Some(SpecPart::Kind));
+    let made = make_lists(alloc, ListKind::FixedSize, data_type, &[], items, None);
+    assert!(rt; refusal(made)? == Some(SpecPart::Length));
+    let (left, right) = (
+        flat(alloc, Shape::Utf8, b"ab")?,
+        flat(alloc, Shape::Number, b"a")?,
+    );
+    let made = make_pairs(alloc, None, b"ab", left, right);
+    assert!(rt; refusal(made)? == Some(SpecPart::Length));
     Ok(())
 }
 
-#[test]
-fn refused_parts(rt: HostRuntime) {
-    // A request for memory that is refused is made once more.
-    if check_order(&rt).is_err() {
-        assert_eq!(rt; check_order(&rt), Ok(()));
-    }
-    if check_children(&rt).is_err() {
-        assert_eq!(rt; check_children(&rt), Ok(()));
-    }
+/// A struct of too few children, and one of no field.
+pub fn check_fields(rt: &(impl Abort + Alloc<A = Global>)) -> Result<(), Error> {
+    let alloc = rt.alloc();
+    let data_type = pair_type(alloc, None, DataType::Utf8, DataType::Utf8)?;
+    let fields = vec![in alloc; flat(alloc, Shape::Utf8, b"ab")?]?;
+    let made = StructArray::try_new(data_type, fields, None);
+    assert!(rt; refusal(made)? == Some(SpecPart::Child));
+    let made = StructArray::try_new(DataType::Struct(Vec::new(alloc)), Vec::new(alloc), None);
+    assert!(rt; refusal(made)? == Some(SpecPart::Kind));
+    Ok(())
 }

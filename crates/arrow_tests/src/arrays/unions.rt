@@ -42,46 +42,44 @@ fn check_union(
     };
     assert!(rt; array.clone()? == *array);
     assert!(rt; array.start() == start && array.len() == want.len());
-    let found = match array.offsets() {
-        None => None,
-        Some(places) => Some(places.as_slice()),
-    };
-    assert_eq!(rt; found, places);
+    match array.offsets() {
+        None => assert!(rt; places.is_none()),
+        Some(found) => assert!(rt; places == Some(found.as_slice())),
+    }
     for (i, (id, field, row)) in want.iter().enumerate() {
-        assert!(rt; i < array.len());
-        assert_eq!(rt; array.types().as_slice()[i], *id);
-        assert_eq!(rt; array.index(i), (*field, *row));
+        assert!(rt; i < array.len() && array.types().as_slice()[i] == *id);
+        assert!(rt; array.index(i) == (*field, *row));
     }
     for field in array.fields() {
-        assert_eq!(rt; field.len(), 4);
+        assert!(rt; field.len() == 4);
     }
     Ok(())
 }
 
-/// The rows of unions, and of their slices. Those that name the same row of a child are equal.
-fn check_unions(rt: &(impl Abort + Alloc<A = Global>)) -> Result<(), Error> {
+/// The rows of a sparse union and of its slices, each of the one before.
+pub fn check_sparse(rt: &(impl Abort + Alloc<A = Global>)) -> Result<(), Error> {
     let alloc = rt.alloc();
-    let array = union_of(alloc, &[5, 7, 7, 5], b"abcd", b"efgh", None)?;
     let rows = [(5, 0, 0), (7, 1, 1), (7, 1, 2), (5, 0, 3)];
+    let array = union_of(alloc, &[5, 7, 7, 5], b"abcd", b"efgh", None)?;
     check_union(rt, &array, 0, &rows, None)?;
     let part = from_row(rt, array, 2);
     check_union(rt, &part, 2, &rows[2..], None)?;
     assert!(rt; part == union_of(alloc, &[7, 5], b"Hd", b"ga", None)?);
     assert!(rt; part != union_of(alloc, &[7, 5], b"Hc", b"ga", None)?);
-    check_union(rt, &from_row(rt, part, 1), 3, &rows[3..], None)?;
+    check_union(rt, &from_row(rt, part, 1), 3, &rows[3..], None)
+}
+
+/// The rows of a dense union and of a slice. Those that name the same row of a child are equal.
+pub fn check_dense(rt: &(impl Abort + Alloc<A = Global>)) -> Result<(), Error> {
+    let alloc = rt.alloc();
     let (ids, places) = ([5, 7, 5, 7], [1, 0, 1, 0]);
-    let array = union_of(alloc, &ids, b"abcd", b"efgh", Some(&places))?;
     let rows = [(5, 0, 1), (7, 1, 0), (5, 0, 1), (7, 1, 0)];
+    let array = union_of(alloc, &ids, b"abcd", b"efgh", Some(&places))?;
     check_union(rt, &array, 0, &rows, Some(&places))?;
     assert!(rt; array == union_of(alloc, &ids, b"Bbb", b"de", Some(&[1, 1, 2, 1]))?);
     assert!(rt; array != union_of(alloc, &ids, b"Bbb", b"de", Some(&[1, 1, 0, 1]))?);
-    check_union(
-        rt,
-        &from_row(rt, array, 1),
-        0,
-        &rows[1..],
-        Some(&places[1..]),
-    )
+    let part = from_row(rt, array, 1);
+    check_union(rt, &part, 0, &rows[1..], Some(&places[1..]))
 }
 
 const LENGTH: Option<SpecPart> = Some(SpecPart::Length);
@@ -112,21 +110,10 @@ const REFUSED: [(&[i8], &[u8], &[u8], Option<&[i32]>, Option<SpecPart>); 15] = [
 ];
 
 /// Children, type ids and places that make no union, and some that do.
-fn check_refused(rt: &(impl Abort + Alloc<A = Global>)) -> Result<(), Error> {
+pub fn check_refused(rt: &(impl Abort + Alloc<A = Global>)) -> Result<(), Error> {
     for (ids, left, right, places, want) in REFUSED {
         let made = union_of(rt.alloc(), ids, left, right, places);
-        assert_eq!(rt; refusal(made)?, want, "{ids:?} and {places:?}");
+        assert!(rt; refusal(made)? == want, "{ids:?} and {places:?}");
     }
     Ok(())
-}
-
-#[test]
-fn rows_of_unions(rt: HostRuntime) {
-    // A request for memory that is refused is made once more.
-    if check_unions(&rt).is_err() {
-        assert_eq!(rt; check_unions(&rt), Ok(()));
-    }
-    if check_refused(&rt).is_err() {
-        assert_eq!(rt; check_refused(&rt), Ok(()));
-    }
 }

@@ -1,7 +1,6 @@
 //! Arrays of texts and of bytes, under offsets and in rows of a size.
 
 use crate::fixture::types::refusal;
-use crate::flat::check_again;
 use arrow_flat::array::{Binary, ByteKind, ByteRows, FixedSizeBinaryArray, FlatArray, Text};
 use arrow_memory::bitmap::Bitmap;
 use arrow_memory::buffer::Buffer;
@@ -30,7 +29,7 @@ fn rows_of<O: Offset, K: ByteKind>(
 }
 
 /// The example of Arrow's format: joe, null, null and mark.
-fn check_texts(rt: &(impl Abort + Alloc<A = Global>)) -> Result<(), Error> {
+pub fn check_texts(rt: &(impl Abort + Alloc<A = Global>)) -> Result<(), Error> {
     let validity = [true, false, false, true];
     let offsets = [0, 3, 3, 3, 7];
     let mut texts = rows_of::<i32, Text>(rt.alloc(), &offsets, b"joemark", Some(&validity))?;
@@ -39,13 +38,13 @@ fn check_texts(rt: &(impl Abort + Alloc<A = Global>)) -> Result<(), Error> {
     texts.slice(2, 2);
     assert!(rt; texts.len() == 2 && texts.null_count() == 1);
     assert!(rt; texts.value(0) == "" && texts.value(1) == "mark");
-    assert_eq!(rt; texts.offsets().buffer(), [3, 3, 7].as_slice());
+    assert!(rt; texts.offsets().buffer() == [3, 3, 7].as_slice());
     assert!(rt; texts.values().as_slice() == b"joemark".as_slice());
     Ok(())
 }
 
 /// Bytes that are no text, before, between and behind which there are others.
-fn check_binary(rt: &(impl Abort + Alloc<A = Global>)) -> Result<(), Error> {
+pub fn check_binary(rt: &(impl Abort + Alloc<A = Global>)) -> Result<(), Error> {
     let validity = [true, false, true, true];
     let bytes = [9, 255, 254, 128, 0, 9];
     let mut array = rows_of::<i64, Binary>(rt.alloc(), &[1, 3, 4, 4, 5], &bytes, Some(&validity))?;
@@ -76,12 +75,12 @@ const LAYOUTS: [(&[i32], &[u8], Option<&[bool]>, bool); 9] = [
 ];
 
 /// Against the rows a, bb and cc, of which the second may be null.
-fn check_layouts(rt: &(impl Abort + Alloc<A = Global>)) -> Result<(), Error> {
+pub fn check_layouts(rt: &(impl Abort + Alloc<A = Global>)) -> Result<(), Error> {
     for (offsets, bytes, validity, want) in LAYOUTS {
         let array = rows_of::<i32, Text>(rt.alloc(), &[0, 1, 3, 5], b"abbcc", validity)?;
         let other = rows_of::<i32, Text>(rt.alloc(), offsets, bytes, validity)?;
         let found = [array == other, other == array];
-        assert_eq!(rt; found, [want; 2], "{offsets:?}");
+        assert!(rt; found == [want; 2], "{offsets:?}");
     }
     Ok(())
 }
@@ -116,13 +115,13 @@ const FAULTS: [(&[i32], &[u8], Option<&[bool]>, Option<SpecPart>); 15] = [
 
 /// What texts are refused for: the validity before the offsets, and these before the text of each row,
 /// null rows too. Bytes are refused for the first two.
-fn check_faults(rt: &(impl Abort + Alloc<A = Global>)) -> Result<(), Error> {
+pub fn check_faults(rt: &(impl Abort + Alloc<A = Global>)) -> Result<(), Error> {
     for (rows, bytes, validity, want) in FAULTS {
         let texts = rows_of::<i32, Text>(rt.alloc(), rows, bytes, validity);
-        assert_eq!(rt; refusal(texts)?, want, "{bytes:?} in {rows:?}");
+        assert!(rt; refusal(texts)? == want, "{bytes:?} in {rows:?}");
         let binary = rows_of::<i32, Binary>(rt.alloc(), rows, bytes, validity);
         let want = if want == UTF8 { None } else { want };
-        assert_eq!(rt; refusal(binary)?, want, "{bytes:?} in {rows:?}");
+        assert!(rt; refusal(binary)? == want, "{bytes:?} in {rows:?}");
     }
     Ok(())
 }
@@ -145,16 +144,16 @@ const SIZES: [(usize, &[u8], Option<SpecPart>); 7] = [
 ];
 
 /// What arrays of rows of so many bytes are refused for.
-fn check_refused_sizes(rt: &(impl Abort + Alloc<A = Global>)) -> Result<(), Error> {
+pub fn check_refused_sizes(rt: &(impl Abort + Alloc<A = Global>)) -> Result<(), Error> {
     for (size, bytes, want) in SIZES {
         let made = fixed_of(rt.alloc(), size, bytes);
-        assert_eq!(rt; refusal(made)?, want, "{bytes:?} in rows of {size}");
+        assert!(rt; refusal(made)? == want, "{bytes:?} in rows of {size}");
     }
     Ok(())
 }
 
 /// The bytes of all rows, and the same bytes in rows of other sizes.
-fn check_sizes(rt: &(impl Abort + Alloc<A = Global>)) -> Result<(), Error> {
+pub fn check_sizes(rt: &(impl Abort + Alloc<A = Global>)) -> Result<(), Error> {
     let pairs = fixed_of(rt.alloc(), 2, b"abcdef")?;
     assert!(rt; pairs.size() == 2 && pairs.len() == 3);
     assert!(rt; pairs.value(1) == b"cd".as_slice());
@@ -164,10 +163,4 @@ fn check_sizes(rt: &(impl Abort + Alloc<A = Global>)) -> Result<(), Error> {
     array.slice(1, 1);
     assert!(rt; array.size() == 3 && array.values().as_slice() == b"def".as_slice());
     Ok(())
-}
-
-#[test]
-fn texts_and_bytes(rt: HostRuntime) {
-    check_again!(rt, check_texts, check_binary, check_layouts);
-    check_again!(rt, check_faults, check_refused_sizes, check_sizes);
 }

@@ -4,7 +4,6 @@
 
 use crate::fixture::arrays::{byte_rows, fixed_bytes, numbers, truths, validity_of};
 use crate::fixture::types::{extension, refusal};
-use crate::flat::check_again;
 use arrow_flat::array::{
     Binary, BooleanArray, ByteKind, ByteRows, FixedRows, FixedSizeBinaryArray, FlatArray,
     PrimitiveArray, Text, Values,
@@ -117,23 +116,19 @@ fn array_of<V: Letters>(
 
 /// The rows, one by one.
 fn check_rows<V: Letters>(rt: &impl Abort, array: &FlatArray<V>, letters: &[u8]) {
-    assert_eq!(rt; array.len(), letters.len());
-    assert_eq!(rt; array.is_empty(), letters.is_empty());
+    assert!(rt; array.len() == letters.len() && array.is_empty() == letters.is_empty());
     let mut nulls = 0usize;
     for (i, letter) in letters.iter().enumerate() {
         let is_set = match array.validity() {
             None => true,
             Some(bits) => i < bits.len() && bits.get_bit(i),
         };
-        assert_eq!(rt; is_set, letter.is_ascii_lowercase(), "row {i}");
-        assert!(rt; i < array.len() && array.is_valid(i) == is_set, "row {i}");
-        let is_stored = V::is_stored(array, i, letter.to_ascii_lowercase());
-        assert!(rt; is_stored, "row {i}");
-        if !is_set {
-            nulls = nulls.saturating_add(1);
-        }
+        assert!(rt; is_set == letter.is_ascii_lowercase());
+        assert!(rt; i < array.len() && array.is_valid(i) == is_set);
+        assert!(rt; V::is_stored(array, i, letter.to_ascii_lowercase()));
+        nulls = nulls.saturating_add(usize::from(!is_set));
     }
-    assert_eq!(rt; array.null_count(), nulls);
+    assert!(rt; array.null_count() == nulls);
 }
 
 /// Where each slice begins in the one before, its length, and its rows.
@@ -230,54 +225,38 @@ fn check_equality<V: Letters>(
         let (len, other_len) = (array.len(), other.len());
         assert!(rt; other_len > 0);
         if len == other_len - 1 {
-            assert_eq!(rt; array.equal_range(0, &other, 1, len), want);
+            assert!(rt; array.equal_range(0, &other, 1, len) == want);
         }
         other.slice(1, other_len - 1);
         let found = [array == other, other == array];
-        assert_eq!(rt; found, [want; 2], "{left:?} and {right:?}");
+        assert!(rt; found == [want; 2], "{left:?} and {right:?}");
     }
-    Ok(())
-}
-
-/// A type of another kind is refused for it, and not for a validity of another length.
-fn check_kind<V: Letters>(
-    rt: &(impl Abort + Alloc<A = Global>),
-    data_type: DataType,
-) -> Result<(), Error> {
-    let none = Bitmap::from_bools(rt.alloc(), &[])?;
-    let made = V::stored(rt.alloc(), data_type, b"ab", Some(none));
-    assert_eq!(rt; refusal(made)?, Some(SpecPart::Kind));
     Ok(())
 }
 
 /// Validities that are not of two rows.
 const LENGTHS: [&[bool]; 4] = [&[], &[true], &[true, true, true], &[false, false, false]];
 
-/// Refused are types of other kinds, and validities of other lengths.
+/// Refused are types of other kinds, also by a name, for the kind and not for a validity of another
+/// length, and validities of other lengths.
 fn check_refused<V: Letters>(
     rt: &(impl Abort + Alloc<A = Global>),
     plain: &DataType,
+    others: &[DataType],
 ) -> Result<(), Error> {
-    check_kind::<V>(rt, DataType::Null)?;
-    check_kind::<V>(rt, extension(rt.alloc(), "float", DataType::Float32)?)?;
-    for bits in LENGTHS {
-        let validity = Bitmap::from_bools(rt.alloc(), bits)?;
-        let made = V::stored(rt.alloc(), plain.clone()?, b"ab", Some(validity));
-        assert_eq!(rt; refusal(made)?, Some(SpecPart::Length), "under {bits:?}");
+    let alloc = rt.alloc();
+    for other in others {
+        for data_type in [other.clone()?, extension(alloc, "other", other.clone()?)?] {
+            let validity = Bitmap::from_bools(alloc, &[])?;
+            let made = V::stored(alloc, data_type, b"ab", Some(validity));
+            assert!(rt; refusal(made)? == Some(SpecPart::Kind), "{other:?}");
+        }
     }
-    Ok(())
-}
-
-/// The same rows under a data type and under another.
-fn check_named<V: Letters>(
-    rt: &impl Abort,
-    array: &FlatArray<V>,
-    named: &FlatArray<V>,
-    data_type: &DataType,
-) -> Result<(), Error> {
-    check_rows(rt, named, b"ab");
-    assert!(rt; named.data_type() == data_type && *named == named.clone()?);
-    assert!(rt; array.data_type() != data_type && array != named);
+    for bits in LENGTHS {
+        let validity = Bitmap::from_bools(alloc, bits)?;
+        let made = V::stored(alloc, plain.clone()?, b"ab", Some(validity));
+        assert!(rt; refusal(made)? == Some(SpecPart::Length), "under {bits:?}");
+    }
     Ok(())
 }
 
@@ -287,50 +266,64 @@ fn check_types<V: Letters>(
     plain: &DataType,
 ) -> Result<(), Error> {
     let data_type = extension(rt.alloc(), "name", plain.clone()?)?;
-    let named = V::stored(rt.alloc(), data_type.clone()?, b"ab", None)?;
+    let named = V::stored(rt.alloc(), data_type, b"ab", None)?;
+    check_rows(rt, &named, b"ab");
+    assert!(rt; named == named.clone()? && named.data_type() != plain);
     let array = array_of::<V>(rt.alloc(), plain, b"ab")?;
-    assert!(rt; array.data_type() == plain);
-    check_named(rt, &array, &named, &data_type)
+    assert!(rt; array != named && array.data_type() == plain);
+    Ok(())
 }
 
-/// All that is tested of each kind alike.
-fn check_array<V: Letters>(
+/// All that is tested of each kind alike. Of the other types none is of this kind.
+fn check_kind<V: Letters>(
     rt: &(impl Abort + Alloc<A = Global>),
-    plain: &DataType,
+    plain: DataType,
+    others: &[DataType],
 ) -> Result<(), Error> {
-    check_slices::<V>(rt, plain)?;
-    check_validities::<V>(rt, plain)?;
-    check_equality::<V>(rt, plain)?;
-    check_refused::<V>(rt, plain)?;
-    check_types::<V>(rt, plain)
+    check_slices::<V>(rt, &plain)?;
+    check_validities::<V>(rt, &plain)?;
+    check_equality::<V>(rt, &plain)?;
+    check_refused::<V>(rt, &plain, others)?;
+    check_types::<V>(rt, &plain)
 }
 
-fn check_kinds(rt: &(impl Abort + Alloc<A = Global>)) -> Result<(), Error> {
-    check_array::<Bitmap>(rt, &DataType::Boolean)?;
-    check_array::<Buffer<i32>>(rt, &DataType::Int32)?;
-    check_array::<ByteRows<i32, Text>>(rt, &DataType::Utf8)?;
-    check_array::<ByteRows<i64, Text>>(rt, &DataType::LargeUtf8)?;
-    check_array::<ByteRows<i32, Binary>>(rt, &DataType::Binary)?;
-    check_array::<ByteRows<i64, Binary>>(rt, &DataType::LargeBinary)?;
-    check_array::<FixedRows>(rt, &DataType::FixedSizeBinary(3))?;
-    check_kind::<Buffer<i32>>(rt, DataType::Float32)?;
-    check_kind::<Buffer<i32>>(rt, DataType::UInt32)?;
-    check_kind::<Buffer<i32>>(rt, DataType::Int64)?;
-    // types of the other kind, of the other width of offsets, and of both
-    check_kind::<ByteRows<i32, Text>>(rt, DataType::LargeUtf8)?;
-    check_kind::<ByteRows<i32, Text>>(rt, DataType::Binary)?;
-    check_kind::<ByteRows<i64, Text>>(rt, DataType::Utf8)?;
-    check_kind::<ByteRows<i64, Text>>(rt, DataType::LargeBinary)?;
-    check_kind::<ByteRows<i32, Binary>>(rt, DataType::LargeBinary)?;
-    check_kind::<ByteRows<i32, Binary>>(rt, DataType::FixedSizeBinary(1))?;
-    check_kind::<ByteRows<i64, Binary>>(rt, DataType::LargeUtf8)?;
-    // rows of no byte
-    let none = extension(rt.alloc(), "none", DataType::FixedSizeBinary(0))?;
-    check_kind::<FixedRows>(rt, none)?;
-    check_kind::<FixedRows>(rt, DataType::Binary)
-}
+/// Types of other kinds, among them numbers of other widths; and texts and bytes of the other kind, of
+/// the other width of offsets, of both, and of rows of no byte.
+const OTHERS: [DataType; 4] = [
+    DataType::Null,
+    DataType::Float32,
+    DataType::UInt32,
+    DataType::Int64,
+];
 
-#[test]
-fn kinds_of_rows(rt: HostRuntime) {
-    check_again!(rt, check_kinds);
+const NOT_UTF8: [DataType; 5] = [
+    DataType::Null,
+    DataType::Float32,
+    DataType::LargeUtf8,
+    DataType::Binary,
+    DataType::FixedSizeBinary(0),
+];
+
+const NOT_LARGE_UTF8: [DataType; 4] = [
+    DataType::Null,
+    DataType::Float32,
+    DataType::Utf8,
+    DataType::LargeBinary,
+];
+
+const NOT_BINARY: [DataType; 4] = [
+    DataType::Null,
+    DataType::Float32,
+    DataType::LargeBinary,
+    DataType::FixedSizeBinary(1),
+];
+
+pub fn check_kinds(rt: &(impl Abort + Alloc<A = Global>)) -> Result<(), Error> {
+    check_kind::<Bitmap>(rt, DataType::Boolean, &OTHERS)?;
+    check_kind::<Buffer<i32>>(rt, DataType::Int32, &OTHERS)?;
+    check_kind::<ByteRows<i32, Text>>(rt, DataType::Utf8, &NOT_UTF8)?;
+    check_kind::<ByteRows<i64, Text>>(rt, DataType::LargeUtf8, &NOT_LARGE_UTF8)?;
+    check_kind::<ByteRows<i32, Binary>>(rt, DataType::Binary, &NOT_BINARY)?;
+    check_kind::<ByteRows<i64, Binary>>(rt, DataType::LargeBinary, &NOT_UTF8)?;
+    check_kind::<FixedRows>(rt, DataType::FixedSizeBinary(3), &NOT_UTF8)
 }

@@ -1,9 +1,8 @@
 //! Scalars: truth values, texts, bytes, and entries of dictionaries.
 
-use crate::fixture::types::extension;
-use crate::flat::check_again;
+use crate::fixture::read::read;
 use arrow_flat::scalar::{AnyScalar, BinaryScalar, BooleanScalar, DictionaryScalar, Utf8Scalar};
-use arrow_types::datatypes::{DataType, IntegerType};
+use arrow_types::datatypes::DataType;
 use arrow_types::error::{Error, SpecPart};
 use std::alloc::Global;
 use std::process::Abort;
@@ -16,7 +15,7 @@ pub fn check_scalar(rt: &impl Abort, scalar: AnyScalar, data_type: DataType, is_
     }
 }
 
-fn check_texts_and_bytes(rt: &(impl Abort + Alloc<A = Global>)) -> Result<(), Error> {
+pub fn check_texts_and_bytes(rt: &(impl Abort + Alloc<A = Global>)) -> Result<(), Error> {
     let text = String::from_str(rt.alloc(), "h\u{e9}")?;
     let bytes = vec![in rt.alloc(); 255, 0]?;
     let text = Utf8Scalar::<i32>::new(Some(text));
@@ -28,11 +27,6 @@ fn check_texts_and_bytes(rt: &(impl Abort + Alloc<A = Global>)) -> Result<(), Er
     Ok(())
 }
 
-/// A dictionary of values of this type.
-fn dictionary_of(alloc: Global, values: DataType) -> Result<DataType, Error> {
-    Ok(DataType::Dictionary(IntegerType::Int8, Box::new(alloc, values)?, false))
-}
-
 /// A text as a value of a dictionary.
 fn entry(alloc: Global) -> Result<Option<Box<AnyScalar>>, Error> {
     let text = Utf8Scalar::new(Some(String::from_str(alloc, "a")?));
@@ -40,15 +34,20 @@ fn entry(alloc: Global) -> Result<Option<Box<AnyScalar>>, Error> {
 }
 
 /// Refused are a type that is no dictionary's, and a value of another type than its values.
-fn check_dictionaries(rt: &(impl Abort + Alloc<A = Global>)) -> Result<(), Error> {
+pub fn check_refused(rt: &(impl Abort + Alloc<A = Global>)) -> Result<(), Error> {
     let refused = DictionaryScalar::try_new(DataType::Utf8, entry(rt.alloc())?).err();
-    assert_eq!(rt; refused, Some(Error::OutOfSpec(SpecPart::Kind)));
-    let others = dictionary_of(rt.alloc(), DataType::LargeUtf8)?;
-    let null = DictionaryScalar::try_new(others.clone()?, None)?;
-    assert!(rt; !null.is_valid() && null.value().is_none());
+    assert!(rt; refused == Some(Error::OutOfSpec(SpecPart::Kind)));
+    let others = read(rt.alloc(), "large_utf8 dictionary:i8")?;
     let refused = DictionaryScalar::try_new(others, entry(rt.alloc())?).err();
-    assert_eq!(rt; refused, Some(Error::OutOfSpec(SpecPart::Child)));
-    let texts = dictionary_of(rt.alloc(), DataType::Utf8)?;
+    assert!(rt; refused == Some(Error::OutOfSpec(SpecPart::Child)));
+    Ok(())
+}
+
+/// An entry of a dictionary, and a null.
+pub fn check_entries(rt: &(impl Abort + Alloc<A = Global>)) -> Result<(), Error> {
+    let texts = read(rt.alloc(), "utf8 dictionary:i8")?;
+    let null = DictionaryScalar::try_new(texts.clone()?, None)?;
+    assert!(rt; !null.is_valid() && null.value().is_none());
     let scalar = DictionaryScalar::try_new(texts.clone()?, entry(rt.alloc())?)?;
     assert!(rt; scalar.is_valid() && *scalar.data_type() == texts);
     assert!(rt; matches!(scalar.value(), Some(AnyScalar::Utf8(text)) if text.value() == Some("a")));
@@ -56,20 +55,21 @@ fn check_dictionaries(rt: &(impl Abort + Alloc<A = Global>)) -> Result<(), Error
 }
 
 /// An entry of a dictionary in a dictionary, extensions around the types apart.
-fn check_nested(rt: &(impl Abort + Alloc<A = Global>)) -> Result<(), Error> {
-    let texts = dictionary_of(rt.alloc(), DataType::Utf8)?;
-    let scalar = DictionaryScalar::try_new(texts.clone()?, entry(rt.alloc())?)?;
-    let outer = dictionary_of(rt.alloc(), extension(rt.alloc(), "words", texts)?)?;
+pub fn check_nested(rt: &(impl Abort + Alloc<A = Global>)) -> Result<(), Error> {
+    let texts = read(rt.alloc(), "utf8 dictionary:i8")?;
+    let scalar = DictionaryScalar::try_new(texts, entry(rt.alloc())?)?;
+    let outer = read(
+        rt.alloc(),
+        "utf8 dictionary:i8 extension:words dictionary:i8",
+    )?;
     let value = Box::new(rt.alloc(), AnyScalar::Dictionary(scalar))?;
     let scalar = DictionaryScalar::try_new(outer.clone()?, Some(value))?;
     check_scalar(rt, AnyScalar::Dictionary(scalar), outer, true);
     Ok(())
 }
 
-/// Texts, bytes and dictionaries, then truth values, and a null of each type.
-#[test]
-fn scalars(rt: HostRuntime) {
-    check_again!(rt, check_texts_and_bytes, check_dictionaries, check_nested);
+/// Truth values, and a null of each type.
+pub fn check_without_memory(rt: &impl Abort) {
     for value in [None, Some(false), Some(true)] {
         let scalar = BooleanScalar::new(value);
         assert!(rt; scalar.value() == value && scalar.is_valid() == value.is_some());
@@ -78,13 +78,13 @@ fn scalars(rt: HostRuntime) {
     assert!(rt; Utf8Scalar::<i64>::new(None).value().is_none());
     assert!(rt; BinaryScalar::<i32>::new(None).value().is_none());
     let null = AnyScalar::Boolean(BooleanScalar::new(None));
-    check_scalar(&rt, null, DataType::Boolean, false);
+    check_scalar(rt, null, DataType::Boolean, false);
     let null = AnyScalar::Utf8(Utf8Scalar::new(None));
-    check_scalar(&rt, null, DataType::Utf8, false);
+    check_scalar(rt, null, DataType::Utf8, false);
     let null = AnyScalar::LargeUtf8(Utf8Scalar::new(None));
-    check_scalar(&rt, null, DataType::LargeUtf8, false);
+    check_scalar(rt, null, DataType::LargeUtf8, false);
     let null = AnyScalar::Binary(BinaryScalar::new(None));
-    check_scalar(&rt, null, DataType::Binary, false);
+    check_scalar(rt, null, DataType::Binary, false);
     let null = AnyScalar::LargeBinary(BinaryScalar::new(None));
-    check_scalar(&rt, null, DataType::LargeBinary, false);
+    check_scalar(rt, null, DataType::LargeBinary, false);
 }

@@ -11,73 +11,69 @@ fn check_bits(
     found: &Bitmap,
     want: &[bool],
 ) -> Result<(), Error> {
-    assert_eq!(rt; found.len(), want.len());
-    assert_eq!(rt; found.is_empty(), want.is_empty());
+    assert!(rt; found.len() == want.len() && found.is_empty() == want.is_empty());
     let mut unset = 0usize;
     for (i, bit) in want.iter().enumerate() {
-        assert!(rt; i < found.len());
-        assert_eq!(rt; found.get_bit(i), *bit, "bit {i}");
+        assert!(rt; i < found.len() && found.get_bit(i) == *bit);
         unset = unset.saturating_add(usize::from(!*bit));
     }
-    assert_eq!(rt; found.unset_bits(), unset);
-    let packed = Bitmap::from_bools(rt.alloc(), want)?;
-    assert!(rt; *found == packed);
+    assert!(rt; found.unset_bits() == unset);
+    assert!(rt; *found == Bitmap::from_bools(rt.alloc(), want)?);
     Ok(())
 }
 
-/// A slice, and a slice of that slice.
-fn check_slice(
+/// A slice of a slice, which is not the first one, and a slice of the same bits packed again.
+fn check_twice(
     rt: &(impl Abort + Alloc<A = Global>),
-    bits: &[bool],
-    offset: usize,
-    len: usize,
+    part: &Bitmap,
+    want: &[bool],
 ) -> Result<(), Error> {
-    let whole = Bitmap::from_bools(rt.alloc(), bits)?;
-    assert!(rt; offset <= bits.len() && len <= bits.len() - offset);
-    assert!(rt; whole.len() == bits.len());
-    let want = &bits[offset..offset + len];
-    let part = whole.clone()?.sliced(offset, len);
-    check_bits(rt, &part, want)?;
-    let mut twice = whole;
-    twice.slice(offset, len);
-    assert!(rt; twice == part, "{len} from {offset}");
-    if len > 1 {
-        twice.slice(len / 2, len - len / 2);
-        check_bits(rt, &twice, &want[len / 2..])?;
-        assert!(rt; twice != part, "{len} from {offset}");
-        let packed = Bitmap::from_bools(rt.alloc(), want)?;
-        assert!(rt;
-            twice == packed.sliced(len / 2, len - len / 2),
-            "{len} from {offset}"
-        );
-    }
+    let len = want.len();
+    assert!(rt; len > 1 && part.len() == len);
+    let mut twice = part.clone()?;
+    twice.slice(len / 2, len - len / 2);
+    check_bits(rt, &twice, &want[len / 2..])?;
+    assert!(rt; twice != *part);
+    let packed = Bitmap::from_bools(rt.alloc(), want)?;
+    assert!(rt; twice == packed.sliced(len / 2, len - len / 2));
     Ok(())
 }
 
-/// The bits that are set in both of two runs, in either, and not in the first.
+/// An operation on the words of bitmaps.
+#[derive(Clone, Copy)]
+enum Logic {
+    And,
+    Or,
+    Not,
+}
+
+/// The bits of two runs by an operation; of the first alone where it takes one.
 fn check_logic(
     rt: &(impl Abort + Alloc<A = Global>),
+    logic: Logic,
     a: &Bitmap,
     b: &Bitmap,
     left: &[bool],
     right: &[bool],
 ) -> Result<(), Error> {
-    let alloc = rt.alloc();
-    let mut both = Vec::with_capacity(alloc, left.len())?;
-    let mut either = Vec::with_capacity(alloc, left.len())?;
-    let mut turned = Vec::with_capacity(alloc, left.len())?;
-    for (x, y) in left.iter().zip(right) {
-        both.push(*x && *y)?;
-        either.push(*x || *y)?;
-        turned.push(!*x)?;
-    }
     assert!(rt; a.len() == b.len());
-    check_bits(rt, &a.and(alloc, b)?, &both)?;
-    check_bits(rt, &a.or(alloc, b)?, &either)?;
-    check_bits(rt, &a.not(alloc)?, &turned)
+    let found = match logic {
+        Logic::And => a.and(rt.alloc(), b)?,
+        Logic::Or => a.or(rt.alloc(), b)?,
+        Logic::Not => a.not(rt.alloc())?,
+    };
+    let mut want = Vec::with_capacity(rt.alloc(), left.len())?;
+    for (x, y) in left.iter().zip(right) {
+        want.push(match logic {
+            Logic::And => *x && *y,
+            Logic::Or => *x || *y,
+            Logic::Not => !*x,
+        })?;
+    }
+    check_bits(rt, &found, &want)
 }
 
-/// Bits appended in each way behind others, against a plain list of them.
+/// Bits appended in each way behind so many others.
 fn check_appended(
     rt: &(impl Abort + Alloc<A = Global>),
     source: &Bitmap,
@@ -86,26 +82,21 @@ fn check_appended(
     start: usize,
     len: usize,
 ) -> Result<(), Error> {
-    let alloc = rt.alloc();
-    assert!(rt; start <= 10 && len <= 130 && before <= 130 && bits.len() == 160);
-    assert!(rt; source.len() == 160);
-    let mut plain = Vec::from_slice(alloc, &bits[..before])?;
-    let mut appended = MutableBitmap::new(alloc);
-    for bit in &bits[..before] {
+    assert!(rt; start <= 10 && len <= 130 && before <= 130);
+    assert!(rt; bits.len() == 160 && source.len() == 160);
+    let (before, run) = (&bits[..before], &bits[start..start + len]);
+    let mut appended = MutableBitmap::new(rt.alloc());
+    for bit in before {
         appended.push(*bit)?;
     }
     appended.extend_from_bitmap(source, start, len)?;
-    plain.extend_from_slice(&bits[start..start + len])?;
-    for bit in [true, false] {
-        appended.extend_constant(len, bit)?;
-        for _ in 0..len {
-            plain.push(bit)?;
-        }
-    }
+    appended.extend_constant(len, true)?;
+    appended.extend_constant(len, false)?;
     appended.push(true)?;
-    plain.push(true)?;
-    assert_eq!(rt; appended.len(), plain.len());
-    check_bits(rt, &appended.into_bitmap()?, &plain)
+    let (ones, zeros) = (&[true; 130][..len], &[false; 130][..len]);
+    let want = [before, run, ones, zeros, &[true]].concat(rt.alloc())?;
+    assert!(rt; appended.len() == want.len());
+    check_bits(rt, &appended.into_bitmap()?, &want)
 }
 
 /// Runs of this length, the first from a place on.
@@ -116,39 +107,24 @@ fn check_run(
     offset: usize,
     len: usize,
 ) -> Result<(), Error> {
-    assert!(rt; offset <= 9 && len <= 130 && bits.len() == 160);
-    let left = &bits[offset..offset + len];
-    let right = &bits[20..20 + len];
-    assert!(rt; whole.len() == 160);
-    check_slice(rt, bits, offset, len)?;
+    assert!(rt; offset <= 9 && len <= 130);
+    assert!(rt; bits.len() == 160 && whole.len() == 160);
     let a = whole.clone()?.sliced(offset, len);
+    let left = &bits[offset..offset + len];
+    check_bits(rt, &a, left)?;
+    if len > 1 {
+        check_twice(rt, &a, left)?;
+    }
     let b = whole.clone()?.sliced(20, len);
-    check_logic(rt, &a, &b, left, right)?;
+    for logic in [Logic::And, Logic::Or, Logic::Not] {
+        check_logic(rt, logic, &a, &b, left, &bits[20..20 + len])?;
+    }
     check_appended(rt, whole, bits, len, offset, len)?;
-    check_appended(rt, whole, bits, offset, 1, len)?;
-    let zeros = Bitmap::new_zeroed(rt.alloc(), len)?;
-    assert_eq!(rt; zeros.len(), len);
-    assert_eq!(rt; zeros.unset_bits(), len);
-    Ok(())
+    check_appended(rt, whole, bits, offset, 1, len)
 }
 
-/// Room for bits: more than can be counted, and more than there is memory for.
-fn check_room(rt: &(impl Abort + Alloc<A = Global>)) -> Result<(), Error> {
-    let mut bits = MutableBitmap::with_capacity(rt.alloc(), 100)?;
-    assert!(rt; bits.is_empty());
-    bits.push(true)?;
-    assert!(rt; !bits.is_empty());
-    assert!(rt; bits.extend_constant(usize::MAX, false) == Err(Error::Overflow));
-    assert!(rt; bits.extend_constant(1 << 62, true) == Err(Error::OutOfMemory));
-    assert_eq!(rt; bits.len(), 1);
-    let too_many = MutableBitmap::with_capacity(rt.alloc(), 1 << 62);
-    assert!(rt; too_many.is_err_and(|error| error == Error::OutOfMemory));
-    check_bits(rt, &bits.into_bitmap()?, &[true])
-}
-
-/// Each length at each bit offset, of bits without a short period; and the validity of
-/// [0, 1, null, 2, null, 3], after the example of Arrow's format.
-fn check(rt: &(impl Abort + Alloc<A = Global>)) -> Result<(), Error> {
+/// Each length at each bit offset, of bits without a short period.
+pub fn check_runs(rt: &(impl Abort + Alloc<A = Global>)) -> Result<(), Error> {
     let mut bits = Vec::with_capacity(rt.alloc(), 160)?;
     for i in 0..160 {
         bits.push(i % 5 < 2 || i % 7 == 3)?;
@@ -158,18 +134,32 @@ fn check(rt: &(impl Abort + Alloc<A = Global>)) -> Result<(), Error> {
         for offset in 0..10 {
             check_run(rt, &whole, &bits, offset, len)?;
         }
+        let zeros = Bitmap::new_zeroed(rt.alloc(), len)?;
+        assert!(rt; zeros.len() == len && zeros.unset_bits() == len);
     }
-    let validity = Bitmap::from_bools(rt.alloc(), &[true, true, false, true, false, true])?;
-    assert_eq!(rt; validity.len(), 6);
-    assert_eq!(rt; validity.unset_bits(), 2);
-    let other = Bitmap::from_bools(rt.alloc(), &[true, true, false, true, false, false])?;
-    assert!(rt; validity != other);
-    check_room(rt)
+    Ok(())
 }
 
-#[test]
-fn bitmaps_are_their_bits(rt: HostRuntime) {
-    if check(&rt).is_err() {
-        assert_eq!(rt; check(&rt), Ok(()));
-    }
+/// The validity of [0, 1, null, 2, null, 3], after the example of Arrow's format.
+pub fn check_example(rt: &(impl Abort + Alloc<A = Global>)) -> Result<(), Error> {
+    let validity = Bitmap::from_bools(rt.alloc(), &[true, true, false, true, false, true])?;
+    assert!(rt; validity.len() == 6 && validity.unset_bits() == 2);
+    let other = Bitmap::from_bools(rt.alloc(), &[true, true, false, true, false, false])?;
+    assert!(rt; validity != other);
+    Ok(())
+}
+
+/// Room for bits: more than can be counted, and more than there is memory for.
+pub fn check_room(rt: &(impl Abort + Alloc<A = Global>)) -> Result<(), Error> {
+    let mut bits = MutableBitmap::with_capacity(rt.alloc(), 100)?;
+    assert!(rt; bits.is_empty());
+    bits.push(true)?;
+    assert!(rt; !bits.is_empty());
+    assert!(rt; bits.extend_constant(usize::MAX, false) == Err(Error::Overflow));
+    assert!(rt; bits.extend_constant(1 << 62, true) == Err(Error::OutOfMemory));
+    assert!(rt; bits.len() == 1);
+    check_bits(rt, &bits.into_bitmap()?, &[true])?;
+    let too_many = MutableBitmap::with_capacity(rt.alloc(), 1 << 62);
+    assert!(rt; too_many.err() == Some(Error::OutOfMemory));
+    Ok(())
 }

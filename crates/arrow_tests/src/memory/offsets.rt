@@ -10,43 +10,50 @@ fn offsets_of<O: Offset>(alloc: Global, values: &[O]) -> Result<OffsetsBuffer<O>
     OffsetsBuffer::try_from(alloc, Vec::from_slice(alloc, values)?)
 }
 
-/// Where three rows lie, and a slice of a slice.
-fn check_slices(rt: &(impl Abort + Alloc<A = Global>)) -> Result<(), Error> {
-    let offsets = offsets_of(rt.alloc(), &[2i32, 2, 5, 9])?;
-    let mut part = offsets.clone()?;
-    assert!(rt; offsets.len() == 4 && part.len() == 4);
-    assert!(rt; part.buffer() == [2, 2, 5, 9].as_slice());
-    assert!(rt; offsets.start_end(0) == (2, 2));
-    assert!(rt; offsets.start_end(1) == (2, 5));
-    assert!(rt; offsets.start_end(2) == (5, 9));
+/// A slice, and a slice of that.
+fn check_part(rt: &impl Abort, part: &mut OffsetsBuffer<i32>) {
+    assert!(rt; part.len() == 4);
     part.slice(1, 2);
     assert!(rt; part.buffer() == [2, 5].as_slice() && *part.last() == 5);
     part.slice(1, 1);
-    assert!(rt; part.buffer() == [5].as_slice() && *part.last() == 5 && part.len() == 1);
+    assert!(rt; part.buffer() == [5].as_slice() && *part.last() == 5);
+}
+
+/// Where three rows lie, which slices of a clone leave.
+pub fn check_places(rt: &(impl Abort + Alloc<A = Global>)) -> Result<(), Error> {
+    let offsets = offsets_of(rt.alloc(), &[2i32, 2, 5, 9])?;
+    check_part(rt, &mut offsets.clone()?);
     assert!(rt; offsets.buffer() == [2, 2, 5, 9].as_slice() && *offsets.last() == 9);
+    assert!(rt; offsets.len() == 4);
+    for (row, place) in [(2, 2), (2, 5), (5, 9)].iter().enumerate() {
+        assert!(rt; row < 3 && offsets.start_end(row) == *place);
+    }
     Ok(())
 }
 
-/// Numbers that are offsets.
-const OFFSETS: [&[i64]; 4] = [&[0], &[7], &[0, 0, 3], &[1, i64::MAX]];
-
-/// Numbers that are none.
-const OTHERS: [&[i64]; 6] = [&[], &[-1], &[-1, 2], &[0, 5, 4], &[3, 2], &[0, i64::MIN]];
+/// Numbers, and whether they are offsets.
+const NUMBERS: [(&[i64], bool); 10] = [
+    (&[0], true),
+    (&[7], true),
+    (&[0, 0, 3], true),
+    (&[1, i64::MAX], true),
+    (&[], false),
+    (&[-1], false),
+    (&[-1, 2], false),
+    (&[0, 5, 4], false),
+    (&[3, 2], false),
+    (&[0, i64::MIN], false),
+];
 
 /// Which numbers are taken, and those as they are.
-fn check_specification(rt: &(impl Abort + Alloc<A = Global>)) -> Result<(), Error> {
-    for values in OFFSETS {
-        let offsets = offsets_of(rt.alloc(), values)?;
-        assert!(rt; offsets.buffer() == values, "{values:?}");
-    }
-    for values in OTHERS {
-        match offsets_of(rt.alloc(), values).err() {
-            Some(Error::OutOfMemory) => return Err(Error::OutOfMemory),
-            found => assert!(rt;
-                found == Some(Error::OutOfSpec(SpecPart::Offsets)),
-                "{values:?}"
-            ),
-        }
+pub fn check_numbers(rt: &(impl Abort + Alloc<A = Global>)) -> Result<(), Error> {
+    for (numbers, are_offsets) in NUMBERS {
+        let is_as_wanted = match offsets_of(rt.alloc(), numbers) {
+            Ok(offsets) => are_offsets && offsets.buffer() == numbers,
+            Err(Error::OutOfMemory) => return Err(Error::OutOfMemory),
+            Err(error) => !are_offsets && error == Error::OutOfSpec(SpecPart::Offsets),
+        };
+        assert!(rt; is_as_wanted, "{numbers:?}");
     }
     Ok(())
 }
@@ -61,6 +68,9 @@ enum Rows {
     /// Rows of others: the first of them, and how many.
     Others(usize, usize),
 }
+
+/// Rows, and what they are refused for.
+type Steps<'a> = &'a [(Rows, Option<Error>)];
 
 fn append<O: Offset>(
     rt: &impl Abort,
@@ -83,95 +93,74 @@ fn check_rows<O: Offset>(
     rt: &(impl Abort + Alloc<A = Global>),
     capacity: usize,
     others: &[O],
-    rows: &[(Rows, Option<Error>)],
+    steps: Steps,
     want: &[O],
 ) -> Result<(), Error> {
     let others = offsets_of(rt.alloc(), others)?;
     let mut offsets = Offsets::<O>::with_capacity(rt.alloc(), capacity)?;
     assert!(rt; offsets.len() == 1 && offsets.last().to_usize() == 0);
-    for (rows, refused) in rows {
+    for (rows, refused) in steps {
         let (len, last) = (offsets.len(), *offsets.last());
         let outcome = append(rt, &mut offsets, &others, *rows);
         match refused {
             None => outcome?,
-            Some(error) => {
-                assert!(rt; outcome == Err(*error));
-                assert!(rt; offsets.len() == len && *offsets.last() == last);
-            }
+            Some(error) => assert!(rt;
+                outcome == Err(*error) && offsets.len() == len && *offsets.last() == last
+            ),
         }
     }
-    let buffer = offsets.into_buffer()?;
-    assert!(rt; buffer.buffer() == want);
+    assert!(rt; offsets.into_buffer()?.buffer() == want);
     Ok(())
 }
 
-/// Offsets filled up to the greatest, by a row of items and by a row of 3 items of others.
-fn check_greatest<O: Offset>(
-    rt: &(impl Abort + Alloc<A = Global>),
-    greatest: usize,
-    others: &[O],
-    want: &[O],
-) -> Result<(), Error> {
-    let rows = [
-        (Rows::One(greatest.saturating_sub(3)), None),
-        (Rows::One(4), Some(Error::Overflow)),
-        (Rows::One(usize::MAX), Some(Error::Overflow)),
-        (Rows::Others(0, 1), None),
-        (Rows::Others(0, 1), Some(Error::Overflow)),
-        (Rows::One(1), Some(Error::Overflow)),
-        (Rows::Empty(2), None),
-    ];
-    check_rows(rt, 0, others, &rows, want)
-}
+/// Rows of some lengths, with those of 3, 5 and no items among others.
+const LENGTHS: Steps<'static> = &[
+    (Rows::One(4), None),
+    (Rows::One(0), None),
+    (Rows::Empty(2), None),
+    (Rows::Others(1, 2), None),
+    (Rows::Others(4, 0), None),
+    (Rows::Others(0, 1), None),
+];
 
-fn check(rt: &(impl Abort + Alloc<A = Global>)) -> Result<(), Error> {
-    check_slices(rt)?;
-    check_specification(rt)?;
-    let rows = [
-        (Rows::One(4), None),
-        (Rows::One(0), None),
-        (Rows::Empty(2), None),
-        (Rows::Others(1, 2), None),
-        (Rows::Others(4, 0), None),
-        (Rows::Others(0, 1), None),
-    ];
-    check_rows(
-        rt,
-        3,
-        &[10i32, 13, 13, 18, 20],
-        &rows,
-        &[0, 4, 4, 4, 4, 4, 9, 12],
-    )?;
-    let greatest = 2_147_483_647;
-    check_greatest(
-        rt,
-        2_147_483_647,
-        &[5i32, 8],
-        &[0, greatest - 3, greatest, greatest, greatest],
-    )?;
-    let greatest = 9_223_372_036_854_775_807;
-    check_greatest(
-        rt,
-        9_223_372_036_854_775_807,
-        &[5i64, 8],
-        &[0, greatest - 3, greatest, greatest, greatest],
-    )?;
-    // more rows than memory holds
-    let rows = [
-        (Rows::Empty(1 << 62), Some(Error::OutOfMemory)),
-        (Rows::Empty(usize::MAX), Some(Error::OutOfMemory)),
-    ];
-    check_rows(rt, 0, &[0i32], &rows, &[0])?;
+/// Up to the greatest offset, by a row of items and by a row of 3 items of others.
+const NARROW: Steps<'static> = &[
+    (Rows::One(2_147_483_644), None),
+    (Rows::One(4), Some(Error::Overflow)),
+    (Rows::One(usize::MAX), Some(Error::Overflow)),
+    (Rows::Others(0, 1), None),
+    (Rows::Others(0, 1), Some(Error::Overflow)),
+    (Rows::One(1), Some(Error::Overflow)),
+    (Rows::Empty(2), None),
+];
+
+const WIDE: Steps<'static> = &[
+    (Rows::One(9_223_372_036_854_775_804), None),
+    (Rows::One(4), Some(Error::Overflow)),
+    (Rows::One(usize::MAX), Some(Error::Overflow)),
+    (Rows::Others(0, 1), None),
+    (Rows::Others(0, 1), Some(Error::Overflow)),
+    (Rows::One(1), Some(Error::Overflow)),
+    (Rows::Empty(2), None),
+];
+
+/// More rows than memory holds.
+const MANY: Steps<'static> = &[
+    (Rows::Empty(1 << 62), Some(Error::OutOfMemory)),
+    (Rows::Empty(usize::MAX), Some(Error::OutOfMemory)),
+];
+
+pub fn check_appended(rt: &(impl Abort + Alloc<A = Global>)) -> Result<(), Error> {
+    let others = [10i32, 13, 13, 18, 20];
+    check_rows(rt, 3, &others, LENGTHS, &[0, 4, 4, 4, 4, 4, 9, 12])?;
+    let most = i32::MAX;
+    check_rows(rt, 0, &[5, 8], NARROW, &[0, most - 3, most, most, most])?;
+    let most = i64::MAX;
+    check_rows(rt, 0, &[5, 8], WIDE, &[0, most - 3, most, most, most])?;
+    check_rows(rt, 0, &[0i32], MANY, &[0])?;
     for capacity in [1 << 62, usize::MAX] {
         let outcome = Offsets::<i32>::with_capacity(rt.alloc(), capacity);
         assert!(rt; outcome.err() == Some(Error::OutOfMemory));
     }
     Ok(())
-}
-
-#[test]
-fn offsets_are_their_rows(rt: HostRuntime) {
-    if check(&rt).is_err() {
-        assert_eq!(rt; check(&rt), Ok(()));
-    }
 }

@@ -44,21 +44,13 @@ fn check_rows(rt: &(impl Abort + Alloc<A = Global>), shape: Shape) -> Result<(),
     Ok(())
 }
 
-fn check_shift(rt: &(impl Abort + Alloc<A = Global>)) -> Result<(), Error> {
+pub fn check_shift(rt: &(impl Abort + Alloc<A = Global>)) -> Result<(), Error> {
     for shape in FLATS {
         check_rows(rt, shape)?;
     }
     // As many rows as can be counted.
     let array = AnyArray::Null(NullArray::try_new(DataType::Null, usize::MAX)?);
-    assert_eq!(rt; shift_rows(rt, &array, 1)?.len(), usize::MAX);
+    assert!(rt; shift_rows(rt, &array, 1)?.len() == usize::MAX);
     let want = Err(Error::InvalidArgumentError(ArgumentFault::ShiftOffset));
     check_answer(rt, shift_rows(rt, &array, i64::MIN), Shape::Null, want)
-}
-
-#[test]
-fn rows_that_are_moved(rt: HostRuntime) {
-    // A request for memory that is refused is made once more.
-    if check_shift(&rt).is_err() {
-        assert_eq!(rt; check_shift(&rt), Ok(()));
-    }
 }

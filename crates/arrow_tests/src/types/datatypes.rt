@@ -8,8 +8,6 @@ use arrow_types::types::PrimitiveType;
 use std::alloc::Global;
 use std::process::Abort;
 
-// A request for memory that is refused is made once more: each test runs its checks again then.
-
 /// Types that are carried, each with its physical type.
 const CARRIED: [(&str, PhysicalType); 38] = [
     ("i8", PhysicalType::Primitive(PrimitiveType::Int8)),
@@ -112,26 +110,20 @@ fn check_type(
     is_carried: bool,
 ) -> Result<PhysicalType, Error> {
     let data_type = read(rt.alloc(), text)?;
-    assert_eq!(rt; data_type.is_carried(), is_carried, "{text}");
+    assert!(rt; data_type.is_carried() == is_carried, "{text}");
     let copy = data_type.clone()?;
-    assert_eq!(rt; copy, data_type, "{text}");
+    assert!(rt; copy == data_type, "{text}");
     Ok(copy.to_physical_type())
 }
 
-fn check_types(rt: &(impl Abort + Alloc<A = Global>)) -> Result<(), Error> {
+pub fn check_types(rt: &(impl Abort + Alloc<A = Global>)) -> Result<(), Error> {
     for (text, physical_type) in &CARRIED {
-        assert_eq!(rt; check_type(rt, text, true)?, *physical_type, "{text}");
+        assert!(rt; check_type(rt, text, true)? == *physical_type, "{text}");
     }
     for text in &UNCARRIED {
         check_type(rt, text, false)?;
     }
     Ok(())
-}
-
-#[test]
-fn carried_types_and_others(rt: HostRuntime) {
-    let outcome = check_types(&rt).or_else(|_| check_types(&rt));
-    assert_eq!(rt; outcome, Ok(()));
 }
 
 /// Types that differ from one another, many of them in one part alone.
@@ -189,30 +181,24 @@ fn read_all(alloc: Global, texts: &[&str]) -> Result<Vec<DataType>, Error> {
     Ok(types)
 }
 
-fn check_different(rt: &(impl Abort + Alloc<A = Global>)) -> Result<(), Error> {
+pub fn check_different(rt: &(impl Abort + Alloc<A = Global>)) -> Result<(), Error> {
     let types = read_all(rt.alloc(), &DIFFERENT)?;
     let again = read_all(rt.alloc(), &DIFFERENT)?;
     for (i, left) in types.iter().enumerate() {
         for (j, right) in again.iter().enumerate() {
-            assert_eq!(rt; left == right, i == j, "{left:?} against {right:?}");
+            assert!(rt; (left == right) == (i == j), "{left:?} against {right:?}");
         }
     }
     Ok(())
 }
 
-#[test]
-fn equality_of_types(rt: HostRuntime) {
-    let outcome = check_different(&rt).or_else(|_| check_different(&rt));
-    assert_eq!(rt; outcome, Ok(()));
-}
-
-fn check_fields(rt: &(impl Abort + Alloc<A = Global>)) -> Result<(), Error> {
+pub fn check_fields(rt: &(impl Abort + Alloc<A = Global>)) -> Result<(), Error> {
     let field = Field::new(String::from_str(rt.alloc(), "id")?, DataType::Int64, false);
-    assert_eq!(rt; field.name(), "id");
-    assert_eq!(rt; field.data_type(), &DataType::Int64);
+    assert!(rt; field.name() == "id");
+    assert!(rt; field.data_type() == &DataType::Int64);
     assert!(rt; !field.is_nullable());
     let copy = field.clone()?;
-    assert_eq!(rt; copy.name(), "id");
+    assert!(rt; copy.name() == "id");
     assert!(rt; copy == field);
     let nullable = child(rt.alloc(), "id", DataType::Int64)?;
     assert!(rt; nullable.is_nullable() && nullable != field);
@@ -220,20 +206,12 @@ fn check_fields(rt: &(impl Abort + Alloc<A = Global>)) -> Result<(), Error> {
 }
 
 /// The extensions around a type go, and those inside it stay.
-fn check_logical(rt: &(impl Abort + Alloc<A = Global>)) -> Result<(), Error> {
+pub fn check_logical(rt: &(impl Abort + Alloc<A = Global>)) -> Result<(), Error> {
     let list = read(rt.alloc(), "i32 extension:inside:m list")?;
     let named = "i32 extension:inside:m list extension:inner:m extension:outer:m";
     let named = read(rt.alloc(), named)?;
-    assert_eq!(rt; named.to_logical_type(), &list);
-    assert_eq!(rt; list.to_logical_type(), &list);
-    assert_eq!(rt; named.to_physical_type(), PhysicalType::List);
+    assert!(rt; named.to_logical_type() == &list);
+    assert!(rt; list.to_logical_type() == &list);
+    assert!(rt; named.to_physical_type() == PhysicalType::List);
     Ok(())
-}
-
-#[test]
-fn fields_and_logical_types(rt: HostRuntime) {
-    let outcome = check_fields(&rt).or_else(|_| check_fields(&rt));
-    assert_eq!(rt; outcome, Ok(()));
-    let outcome = check_logical(&rt).or_else(|_| check_logical(&rt));
-    assert_eq!(rt; outcome, Ok(()));
 }

@@ -72,50 +72,56 @@ fn wide_numbers_in_order(rt: HostRuntime) {
                 count += 1;
             }
             let number = i256::new(high, low);
-            assert_eq!(rt; number.high(), high);
-            assert_eq!(rt; number.low(), low);
+            assert!(rt; number.high() == high);
+            assert!(rt; number.low() == low);
         }
     }
     for (i, a) in numbers.iter().enumerate() {
         for (j, b) in numbers.iter().enumerate() {
-            assert_eq!(rt; a.cmp(b), i.cmp(&j), "{a:?} against {b:?}");
-            assert_eq!(rt; a == b, i == j, "{a:?} against {b:?}");
-            assert_eq!(rt; a.partial_cmp(b), Some(i.cmp(&j)));
+            assert!(rt; a.cmp(b) == i.cmp(&j));
+            assert!(rt; (a == b) == (i == j));
+            assert!(rt; a.partial_cmp(b) == Some(i.cmp(&j)));
         }
     }
     assert!(rt; i256::default() == i256::new(0, 0));
-    assert_eq!(rt; larger(i256::new(-1, u128::MAX), i256::new(0, 0)).high(), 0);
+    assert!(rt; larger(i256::new(-1, u128::MAX), i256::new(0, 0)).high() == 0);
 }
 
 #[test]
 fn intervals(rt: HostRuntime) {
-    let days = days_ms::new(-3, 2_000);
-    assert_eq!(rt; days.days(), -3);
-    assert_eq!(rt; days.milliseconds(), 2_000);
-    assert!(rt; days == days_ms::new(-3, 2_000));
-    assert!(rt; days != days_ms::new(-3, 2_001));
-    assert!(rt; days != days_ms::new(3, 2_000));
-    assert!(rt; days_ms::default() == days_ms::new(0, 0));
-    let months = months_days_ns::new(1, -2, i64::MIN);
-    assert_eq!(rt; months.months(), 1);
-    assert_eq!(rt; months.days(), -2);
-    assert_eq!(rt; months.ns(), i64::MIN);
-    assert!(rt; months == months_days_ns::new(1, -2, i64::MIN));
-    assert!(rt; months != months_days_ns::new(1, -2, 0));
-    assert!(rt; months != months_days_ns::new(1, 2, i64::MIN));
-    assert!(rt; months != months_days_ns::new(0, -2, i64::MIN));
-    assert!(rt; months_days_ns::default() == months_days_ns::new(0, 0, 0));
-    assert!(rt; is_zero(months_days_ns::new(0, 0, 0)) && !is_zero(days));
-    assert!(rt; are_equal_rows(7u8, 7) && !are_equal_rows(i128::MIN, i128::MAX));
+    let days = [(0, 0), (-3, 2_000), (-3, 2_001), (3, 2_000)];
+    for (i, (day, milliseconds)) in days.iter().enumerate() {
+        let left = days_ms::new(*day, *milliseconds);
+        assert!(rt; left.days() == *day && left.milliseconds() == *milliseconds);
+        assert!(rt; is_zero(left) == (i == 0));
+        for (j, (day, milliseconds)) in days.iter().enumerate() {
+            assert!(rt; (left == days_ms::new(*day, *milliseconds)) == (i == j));
+        }
+    }
+    let months = [
+        (0, 0, 0),
+        (1, -2, i64::MIN),
+        (1, -2, 0),
+        (1, 2, i64::MIN),
+        (0, -2, i64::MIN),
+    ];
+    for (i, (month, day, ns)) in months.iter().enumerate() {
+        let left = months_days_ns::new(*month, *day, *ns);
+        assert!(rt; left.months() == *month && left.days() == *day && left.ns() == *ns);
+        assert!(rt; is_zero(left) == (i == 0));
+        for (j, (month, day, ns)) in months.iter().enumerate() {
+            assert!(rt; are_equal_rows(left, months_days_ns::new(*month, *day, *ns)) == (i == j));
+        }
+    }
 }
 
 /// The greatest number of an index type, one above it, and rows of none, of one and of all.
 fn check_index<I: Index + DictionaryKey + Debug>(rt: &impl Abort, greatest: usize) {
-    assert!(rt; I::from_usize(0).is_some());
+    assert!(rt; I::from_usize(0) == Some(I::default()));
     let last = I::from_usize(greatest);
-    assert_eq!(rt; key_again::<I>(greatest), Some(greatest));
+    assert!(rt; key_again::<I>(greatest) == Some(greatest));
     if let Some(above) = greatest.checked_add(1) {
-        assert_eq!(rt; I::from_usize(above), None, "{above}");
+        assert!(rt; I::from_usize(above) == None);
         assert!(rt; last.is_some_and(|last| last.in_range(above)));
     }
     assert!(rt; last.is_some_and(|last| !last.in_range(greatest)));
@@ -137,20 +143,17 @@ fn indices_keys_and_offsets(rt: HostRuntime) {
         assert!(rt; !negative.in_range(usize::MAX));
     }
     assert!(rt; !(-1i8).in_range(1) && !i16::MIN.in_range(1) && !(-1i64).in_range(usize::MAX));
-    assert_eq!(rt; index_again(7u16), Some(7));
-    assert_eq!(rt; i8::KEY_TYPE, IntegerType::Int8);
-    assert_eq!(rt; u64::KEY_TYPE, IntegerType::UInt64);
-    assert_eq!(rt; offset_again::<i32>(2_147_483_647), Some(2_147_483_647));
-    assert_eq!(rt; offset_again::<i32>(2_147_483_648), None);
+    assert!(rt; index_again(7u16) == Some(7));
+    assert!(rt; i8::KEY_TYPE == IntegerType::Int8);
+    assert!(rt; u64::KEY_TYPE == IntegerType::UInt64);
+    assert!(rt; offset_again::<i32>(2_147_483_647) == Some(2_147_483_647));
+    assert!(rt; offset_again::<i32>(2_147_483_648) == None);
     let greatest = 9_223_372_036_854_775_807;
-    assert_eq!(rt; offset_again::<i64>(greatest), Some(greatest));
-    assert_eq!(rt; offset_again::<i64>(greatest + 1), None);
+    assert!(rt; offset_again::<i64>(greatest) == Some(greatest));
+    assert!(rt; offset_again::<i64>(greatest + 1) == None);
     assert!(rt; !i32::IS_LARGE && i64::IS_LARGE);
-    assert_eq!(rt; 13i32.shifted(10, 4), 7);
-    assert_eq!(rt;
-        9_223_372_036_854_775_806i64.shifted(1, 2),
-        9_223_372_036_854_775_807
-    );
+    assert!(rt; 13i32.shifted(10, 4) == 7);
+    assert!(rt; 9_223_372_036_854_775_806i64.shifted(1, 2) == 9_223_372_036_854_775_807);
 }
 
 #[test]
@@ -170,6 +173,6 @@ fn element_types(rt: HostRuntime) {
         (months_days_ns::PRIMITIVE, PrimitiveType::MonthDayNano),
     ];
     for (found, want) in types {
-        assert_eq!(rt; found, want);
+        assert!(rt; found == want);
     }
 }

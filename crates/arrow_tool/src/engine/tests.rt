@@ -147,351 +147,382 @@ fn check(
         }
         assert!(rt;
             attempt == 0 && is_out_of_memory(outcome, &output, want),
-            "{name}: {outcome:?}, {:?}",
-            str::from_utf8(&output)
+            "{name}"
         );
     }
 }
 
+/// Input by a name, whether a line of it is refused, and the output.
+const LINES: [(&str, &[u8], bool, &[u8]); 46] = [
+    ("nothing", b"", false, b""),
+    (
+        "filter",
+        b"filter i32[5,6,7,8,9] bool[t,f,f,t,f]\n",
+        false,
+        b"i32[5,8]\n",
+    ),
+    (
+        "the end of the input ends a line",
+        b"filter i32[5,6,7,8,9] bool[t,f,f,t,f]",
+        false,
+        b"i32[5,8]\n",
+    ),
+    (
+        "three lines",
+        b"filter i32[1,_2,3] bool[f,t,t]\n\nconcatenate i32[1] bool[t]\n",
+        true,
+        b"i32[_,3]\nerror ConcatenateTypes\n",
+    ),
+    (
+        "an offset that passes the length",
+        b"shift i32[1,_,3] 4\n",
+        true,
+        b"error ShiftOffset\n",
+    ),
+    (
+        "back and forth",
+        b"shift i32[1,_,3] 1\nshift bool[t,_,f] -1\nshift utf8[\"a\",\"b\"] 0\n",
+        false,
+        b"i32[_,1,_]\nbool[_,f,_]\nutf8[\"a\",\"b\"]\n",
+    ),
+    (
+        "past 64 bits",
+        b"shift i32[1] 9223372036854775808\n",
+        true,
+        b"error Usage\n",
+    ),
+    (
+        "the least of 64 bits",
+        b"shift i32[1] -9223372036854775808\n",
+        true,
+        b"error ShiftOffset\n",
+    ),
+    (
+        "no offset",
+        b"shift i32[1] i32[1]\n",
+        true,
+        b"error Usage\n",
+    ),
+    (
+        "a number",
+        b"concatenate i32[1] 4\n",
+        true,
+        b"error Usage\n",
+    ),
+    (
+        "a null over true",
+        b"filter i32[1,2,3] bool[t,_t,f]\n",
+        false,
+        b"i32[1]\n",
+    ),
+    (
+        "two lengths",
+        b"filter i32[1] bool[t,f]\n",
+        true,
+        b"error Usage\n",
+    ),
+    (
+        "no array",
+        b"concatenate\n",
+        true,
+        b"error ConcatenateEmpty\n",
+    ),
+    (
+        "a null and a minus",
+        b"concatenate i32[] i32[_,-4]\n",
+        false,
+        b"i32[_,-4]\n",
+    ),
+    (
+        "no such command",
+        b"grow i32[1]\n",
+        true,
+        b"error Command\n",
+    ),
+    (
+        "no bracket",
+        b"filter i32[1 bool[t]\n",
+        true,
+        b"error Syntax\n",
+    ),
+    (
+        "booleans",
+        b"filter bool[t,f,_,_t] bool[t,t,t,f]\n",
+        false,
+        b"bool[t,f,_]\n",
+    ),
+    (
+        "joined booleans",
+        b"concatenate bool[t] bool[] bool[_f,f]\n",
+        false,
+        b"bool[t,_,f]\n",
+    ),
+    (
+        "nothing chosen",
+        b"filter bool[t] bool[_t]\n",
+        false,
+        b"bool[]\n",
+    ),
+    ("no elements", b"filter i32[] bool[]\n", false, b"i32[]\n"),
+    (
+        "the least and the greatest",
+        b"concatenate i32[-2147483648,2147483647,-0,007]\n",
+        false,
+        b"i32[-2147483648,2147483647,0,7]\n",
+    ),
+    (
+        "past the greatest",
+        b"concatenate i32[2147483648]\n",
+        true,
+        b"error Syntax\n",
+    ),
+    ("a plus", b"concatenate i32[+1]\n", true, b"error Syntax\n"),
+    (
+        "no element",
+        b"concatenate i32[1,]\n",
+        true,
+        b"error Syntax\n",
+    ),
+    (
+        "a minus alone",
+        b"concatenate i32[-]\n",
+        true,
+        b"error Syntax\n",
+    ),
+    (
+        "a quote in a text",
+        b"concatenate utf8[\"a\",_] utf8[\"b\\\"c\"]\n",
+        false,
+        b"utf8[\"a\",_,\"b\\\"c\"]\n",
+    ),
+    (
+        "the three escapes, a comma, a space and a bracket",
+        b"concatenate utf8[\"\\\"\\\\\\n\",\"a, b]\",\"\"]\n",
+        false,
+        b"utf8[\"\\\"\\\\\\n\",\"a, b]\",\"\"]\n",
+    ),
+    (
+        "texts chosen",
+        b"filter utf8[\"h\xc3\xa9\",_,\"c\"] bool[t,t,_t]\n",
+        false,
+        b"utf8[\"h\xc3\xa9\",_]\n",
+    ),
+    ("no texts", b"concatenate utf8[]\n", false, b"utf8[]\n"),
+    (
+        "texts and numbers",
+        b"concatenate utf8[\"a\"] i32[1]\n",
+        true,
+        b"error ConcatenateTypes\n",
+    ),
+    (
+        "a text without quotes",
+        b"concatenate utf8[a]\nconcatenate utf8[\"]\nconcatenate utf8[\"a\",]\n",
+        true,
+        b"error Syntax\nerror Syntax\nerror Syntax\n",
+    ),
+    (
+        "a quote inside",
+        b"concatenate utf8[\"a\"b\"]\nconcatenate utf8[\"a\"\"]\n",
+        true,
+        b"error Syntax\nerror Syntax\n",
+    ),
+    (
+        "no such escape",
+        b"concatenate utf8[\"\\t\"]\nconcatenate utf8[\"a\\\"]\n",
+        true,
+        b"error Syntax\nerror Syntax\n",
+    ),
+    (
+        "a text beneath a null",
+        b"concatenate utf8[_\"a\"]\n",
+        true,
+        b"error Syntax\n",
+    ),
+    (
+        "a capital",
+        b"Filter i32[1] bool[t]\n",
+        true,
+        b"error Syntax\n",
+    ),
+    ("an array first", b"i32[1]\n", true, b"error Syntax\n"),
+    (
+        "a form before a name",
+        b"grow i32[\n",
+        true,
+        b"error Syntax\n",
+    ),
+    (
+        "a name before a use",
+        b"grow 1 2 3\n",
+        true,
+        b"error Command\n",
+    ),
+    ("two arguments", b"filter i32[1]\n", true, b"error Usage\n"),
+    (
+        "three arguments",
+        b"filter i32[1] bool[t] bool[t]\n",
+        true,
+        b"error Usage\n",
+    ),
+    (
+        "no predicate",
+        b"filter i32[1] i32[1]\n",
+        true,
+        b"error Usage\n",
+    ),
+    (
+        "spaces",
+        b"  concatenate   i32[1]  \n   \n",
+        false,
+        b"i32[1]\n",
+    ),
+    (
+        "a carriage return",
+        b"concatenate i32[1]\r\n\r\nconcatenate i32[2]\r",
+        false,
+        b"i32[1]\ni32[2]\n",
+    ),
+    (
+        "two carriage returns",
+        b"concatenate i32[1]\r\r\n",
+        true,
+        b"error Syntax\n",
+    ),
+    ("not UTF-8", b"concatenate \xff\n", true, b"error Syntax\n"),
+    (
+        "a refusal and an answer",
+        b"grow\nconcatenate bool[f]",
+        true,
+        b"error Command\nbool[f]\n",
+    ),
+];
+
+/// A byte at a time.
+const BY_BYTES: Manner = Manner {
+    read: 1,
+    write: 1,
+    ..AT_ONCE
+};
+
 #[test]
 fn lines(rt: HostRuntime) {
-    let cases: [(&str, &[u8], bool, &[u8]); 46] = [
-        ("nothing", b"", false, b""),
-        (
-            "filter",
-            b"filter i32[5,6,7,8,9] bool[t,f,f,t,f]\n",
-            false,
-            b"i32[5,8]\n",
-        ),
-        (
-            "the end of the input ends a line",
-            b"filter i32[5,6,7,8,9] bool[t,f,f,t,f]",
-            false,
-            b"i32[5,8]\n",
-        ),
-        (
-            "three lines",
-            b"filter i32[1,_2,3] bool[f,t,t]\n\nconcatenate i32[1] bool[t]\n",
-            true,
-            b"i32[_,3]\nerror ConcatenateTypes\n",
-        ),
-        (
-            "an offset that passes the length",
-            b"shift i32[1,_,3] 4\n",
-            true,
-            b"error ShiftOffset\n",
-        ),
-        (
-            "back and forth",
-            b"shift i32[1,_,3] 1\nshift bool[t,_,f] -1\nshift utf8[\"a\",\"b\"] 0\n",
-            false,
-            b"i32[_,1,_]\nbool[_,f,_]\nutf8[\"a\",\"b\"]\n",
-        ),
-        (
-            "past 64 bits",
-            b"shift i32[1] 9223372036854775808\n",
-            true,
-            b"error Usage\n",
-        ),
-        (
-            "the least of 64 bits",
-            b"shift i32[1] -9223372036854775808\n",
-            true,
-            b"error ShiftOffset\n",
-        ),
-        (
-            "no offset",
-            b"shift i32[1] i32[1]\n",
-            true,
-            b"error Usage\n",
-        ),
-        (
-            "a number",
-            b"concatenate i32[1] 4\n",
-            true,
-            b"error Usage\n",
-        ),
-        (
-            "a null over true",
-            b"filter i32[1,2,3] bool[t,_t,f]\n",
-            false,
-            b"i32[1]\n",
-        ),
-        (
-            "two lengths",
-            b"filter i32[1] bool[t,f]\n",
-            true,
-            b"error Usage\n",
-        ),
-        (
-            "no array",
-            b"concatenate\n",
-            true,
-            b"error ConcatenateEmpty\n",
-        ),
-        (
-            "a null and a minus",
-            b"concatenate i32[] i32[_,-4]\n",
-            false,
-            b"i32[_,-4]\n",
-        ),
-        (
-            "no such command",
-            b"grow i32[1]\n",
-            true,
-            b"error Command\n",
-        ),
-        (
-            "no bracket",
-            b"filter i32[1 bool[t]\n",
-            true,
-            b"error Syntax\n",
-        ),
-        (
-            "booleans",
-            b"filter bool[t,f,_,_t] bool[t,t,t,f]\n",
-            false,
-            b"bool[t,f,_]\n",
-        ),
-        (
-            "joined booleans",
-            b"concatenate bool[t] bool[] bool[_f,f]\n",
-            false,
-            b"bool[t,_,f]\n",
-        ),
-        (
-            "nothing chosen",
-            b"filter bool[t] bool[_t]\n",
-            false,
-            b"bool[]\n",
-        ),
-        ("no elements", b"filter i32[] bool[]\n", false, b"i32[]\n"),
-        (
-            "the least and the greatest",
-            b"concatenate i32[-2147483648,2147483647,-0,007]\n",
-            false,
-            b"i32[-2147483648,2147483647,0,7]\n",
-        ),
-        (
-            "past the greatest",
-            b"concatenate i32[2147483648]\n",
-            true,
-            b"error Syntax\n",
-        ),
-        ("a plus", b"concatenate i32[+1]\n", true, b"error Syntax\n"),
-        (
-            "no element",
-            b"concatenate i32[1,]\n",
-            true,
-            b"error Syntax\n",
-        ),
-        (
-            "a minus alone",
-            b"concatenate i32[-]\n",
-            true,
-            b"error Syntax\n",
-        ),
-        (
-            "a quote in a text",
-            b"concatenate utf8[\"a\",_] utf8[\"b\\\"c\"]\n",
-            false,
-            b"utf8[\"a\",_,\"b\\\"c\"]\n",
-        ),
-        (
-            "the three escapes, a comma, a space and a bracket",
-            b"concatenate utf8[\"\\\"\\\\\\n\",\"a, b]\",\"\"]\n",
-            false,
-            b"utf8[\"\\\"\\\\\\n\",\"a, b]\",\"\"]\n",
-        ),
-        (
-            "texts chosen",
-            b"filter utf8[\"h\xc3\xa9\",_,\"c\"] bool[t,t,_t]\n",
-            false,
-            b"utf8[\"h\xc3\xa9\",_]\n",
-        ),
-        ("no texts", b"concatenate utf8[]\n", false, b"utf8[]\n"),
-        (
-            "texts and numbers",
-            b"concatenate utf8[\"a\"] i32[1]\n",
-            true,
-            b"error ConcatenateTypes\n",
-        ),
-        (
-            "a text without quotes",
-            b"concatenate utf8[a]\nconcatenate utf8[\"]\nconcatenate utf8[\"a\",]\n",
-            true,
-            b"error Syntax\nerror Syntax\nerror Syntax\n",
-        ),
-        (
-            "a quote inside",
-            b"concatenate utf8[\"a\"b\"]\nconcatenate utf8[\"a\"\"]\n",
-            true,
-            b"error Syntax\nerror Syntax\n",
-        ),
-        (
-            "no such escape",
-            b"concatenate utf8[\"\\t\"]\nconcatenate utf8[\"a\\\"]\n",
-            true,
-            b"error Syntax\nerror Syntax\n",
-        ),
-        (
-            "a text beneath a null",
-            b"concatenate utf8[_\"a\"]\n",
-            true,
-            b"error Syntax\n",
-        ),
-        (
-            "a capital",
-            b"Filter i32[1] bool[t]\n",
-            true,
-            b"error Syntax\n",
-        ),
-        ("an array first", b"i32[1]\n", true, b"error Syntax\n"),
-        (
-            "a form before a name",
-            b"grow i32[\n",
-            true,
-            b"error Syntax\n",
-        ),
-        (
-            "a name before a use",
-            b"grow 1 2 3\n",
-            true,
-            b"error Command\n",
-        ),
-        ("two arguments", b"filter i32[1]\n", true, b"error Usage\n"),
-        (
-            "three arguments",
-            b"filter i32[1] bool[t] bool[t]\n",
-            true,
-            b"error Usage\n",
-        ),
-        (
-            "no predicate",
-            b"filter i32[1] i32[1]\n",
-            true,
-            b"error Usage\n",
-        ),
-        (
-            "spaces",
-            b"  concatenate   i32[1]  \n   \n",
-            false,
-            b"i32[1]\n",
-        ),
-        (
-            "a carriage return",
-            b"concatenate i32[1]\r\n\r\nconcatenate i32[2]\r",
-            false,
-            b"i32[1]\ni32[2]\n",
-        ),
-        (
-            "two carriage returns",
-            b"concatenate i32[1]\r\r\n",
-            true,
-            b"error Syntax\n",
-        ),
-        ("not UTF-8", b"concatenate \xff\n", true, b"error Syntax\n"),
-        (
-            "a refusal and an answer",
-            b"grow\nconcatenate bool[f]",
-            true,
-            b"error Command\nbool[f]\n",
-        ),
-    ];
-    let by_bytes = Manner {
-        read: 1,
-        write: 1,
-        ..AT_ONCE
-    };
-    for (name, input, is_refused, output) in cases {
+    for (name, input, is_refused, output) in LINES {
         check(&rt, name, input, AT_ONCE, (Ok(is_refused), output));
-        check(&rt, name, input, by_bytes, (Ok(is_refused), output));
+        check(&rt, name, input, BY_BYTES, (Ok(is_refused), output));
     }
 }
+
+/// A reader that fails at the end of the input.
+const CUT: Manner = Manner {
+    reader_fails: true,
+    ..AT_ONCE
+};
+
+/// A writer with room for ten bytes, and one with none.
+const FULL: Manner = Manner {
+    room: 10,
+    ..AT_ONCE
+};
+
+const NO_ROOM: Manner = Manner { room: 0, ..AT_ONCE };
+
+const THREE: &[u8] = b"concatenate i32[1]\nfilter i32[2] bool[t]\nconcatenate i32[3]";
+
+/// A reader that fails after the second line, a writer that is full within the second answer, and
+/// streams that fail at once or need not.
+const FAULTS: [(&str, &[u8], Manner, (Outcome, &[u8])); 5] = [
+    (
+        "a read",
+        THREE,
+        CUT,
+        (Err(RunFault::Read), b"i32[1]\ni32[2]\n"),
+    ),
+    (
+        "a write",
+        THREE,
+        FULL,
+        (Err(RunFault::Write), b"i32[1]\ni32"),
+    ),
+    ("no input", b"", CUT, (Err(RunFault::Read), b"")),
+    ("no room", b"grow", NO_ROOM, (Err(RunFault::Write), b"")),
+    ("no answer", b"\n \n", NO_ROOM, (Ok(false), b"")),
+];
+
+/// What runs answer, and the status of the program.
+const STATUSES: [(Outcome, u8); 5] = [
+    (Ok(false), 0),
+    (Ok(true), 1),
+    (Err(RunFault::Read), 2),
+    (Err(RunFault::Write), 2),
+    (Err(RunFault::OutOfMemory), 2),
+];
 
 #[test]
 fn faults(rt: HostRuntime) {
-    let input = b"concatenate i32[1]\nfilter i32[2] bool[t]\nconcatenate i32[3]";
-    let cut = Manner {
-        reader_fails: true,
-        ..AT_ONCE
-    };
-    let full = Manner {
-        room: 10,
-        ..AT_ONCE
-    };
-    // A reader that fails after the second line, and a writer that is full within the second answer.
-    check(
-        &rt,
-        "a read",
-        input,
-        cut,
-        (Err(RunFault::Read), b"i32[1]\ni32[2]\n"),
-    );
-    check(
-        &rt,
-        "a write",
-        input,
-        full,
-        (Err(RunFault::Write), b"i32[1]\ni32"),
-    );
-    check(&rt, "no input", b"", cut, (Err(RunFault::Read), b""));
-    let none = Manner { room: 0, ..AT_ONCE };
-    check(&rt, "no room", b"grow", none, (Err(RunFault::Write), b""));
-    check(&rt, "no answer", b"\n \n", none, (Ok(false), b""));
-}
-
-/// Repeats a text.
-fn repeated(out: &mut Vec<u8>, text: &[u8], count: usize) -> Result<(), AllocError> {
-    for _ in 0..count {
-        out.extend_from_slice(text)?;
+    for (name, input, manner, want) in FAULTS {
+        check(&rt, name, input, manner, want);
     }
-    Ok(())
-}
-
-/// A line of many elements and its answer.
-fn long_line(alloc: Global) -> Result<(Vec<u8>, Vec<u8>), AllocError> {
-    let mut input = Vec::with_capacity(alloc, 1_000_000)?;
-    input.extend_from_slice(b"filter i32[")?;
-    repeated(&mut input, b"-12,_,", 49_999)?;
-    input.extend_from_slice(b"3,4] bool[")?;
-    repeated(&mut input, b"t,f,", 49_999)?;
-    input.extend_from_slice(b"f,t]\n")?;
-    let mut output = Vec::with_capacity(alloc, 1_000_000)?;
-    output.extend_from_slice(b"i32[")?;
-    repeated(&mut output, b"-12,", 49_999)?;
-    output.extend_from_slice(b"4]\n")?;
-    Ok((input, output))
-}
-
-/// Many lines and their answers.
-fn many_lines(alloc: Global) -> Result<(Vec<u8>, Vec<u8>), AllocError> {
-    let mut input = Vec::with_capacity(alloc, 1_000_000)?;
-    let mut output = Vec::with_capacity(alloc, 1_000_000)?;
-    for _ in 0..10 {
-        input.extend_from_slice(b"concatenate i32[7]\n")?;
-        repeated(&mut input, b"grow\n", 999)?;
-        output.extend_from_slice(b"i32[7]\n")?;
-        repeated(&mut output, b"error Command\n", 999)?;
+    for (outcome, want) in STATUSES {
+        assert!(rt; status(&outcome) == want);
     }
-    Ok((input, output))
 }
+
+/// Texts, and how often each is repeated.
+type Pieces = &'static [(&'static [u8], usize)];
+
+/// A text of these pieces, all so many times.
+fn repeated(alloc: Global, pieces: Pieces, times: usize) -> Result<Vec<u8>, AllocError> {
+    let mut text = Vec::with_capacity(alloc, 1_000_000)?;
+    for _ in 0..times {
+        for (piece, count) in pieces {
+            for _ in 0..*count {
+                text.extend_from_slice(piece)?;
+            }
+        }
+    }
+    Ok(text)
+}
+
+/// A line of many elements, and many lines: the pieces of the input and of the output, how many times,
+/// and whether a line is refused.
+const LONG: [(&str, Pieces, Pieces, usize, bool); 2] = [
+    (
+        "a long line",
+        &[
+            (b"filter i32[", 1),
+            (b"-12,_,", 49_999),
+            (b"3,4] bool[", 1),
+            (b"t,f,", 49_999),
+            (b"f,t]\n", 1),
+        ],
+        &[(b"i32[", 1), (b"-12,", 49_999), (b"4]\n", 1)],
+        1,
+        false,
+    ),
+    (
+        "many lines",
+        &[(b"concatenate i32[7]\n", 1), (b"grow\n", 999)],
+        &[(b"i32[7]\n", 1), (b"error Command\n", 999)],
+        10,
+        true,
+    ),
+];
 
 #[test]
 fn long_input(rt: HostRuntime) {
-    let long = long_line(rt.alloc()).or_else(|_| long_line(rt.alloc()));
-    let (input, output) = long.expect(&rt, "memory for a long line");
-    check(&rt, "a long line", &input, AT_ONCE, (Ok(false), &output));
-    let many = many_lines(rt.alloc()).or_else(|_| many_lines(rt.alloc()));
-    let (input, output) = many.expect(&rt, "memory for many lines");
-    check(&rt, "many lines", &input, AT_ONCE, (Ok(true), &output));
-}
-
-#[test]
-fn statuses(rt: HostRuntime) {
-    assert_eq!(rt; status(&Ok(false)), 0);
-    assert_eq!(rt; status(&Ok(true)), 1);
-    assert_eq!(rt; status(&Err(RunFault::Read)), 2);
-    assert_eq!(rt; status(&Err(RunFault::Write)), 2);
-    assert_eq!(rt; status(&Err(RunFault::OutOfMemory)), 2);
+    for (name, input, output, times, is_refused) in LONG {
+        let text = repeated(rt.alloc(), input, times).or_else(|_| repeated(
+            rt.alloc(),
+            input,
+            times,
+        ));
+        let input = text.expect(&rt, "memory for the input");
+        let text = repeated(rt.alloc(), output, times).or_else(|_| repeated(
+            rt.alloc(),
+            output,
+            times,
+        ));
+        let output = text.expect(&rt, "memory for the output");
+        check(&rt, name, &input, AT_ONCE, (Ok(is_refused), &output));
+    }
 }
