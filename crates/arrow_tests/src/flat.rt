@@ -10,7 +10,8 @@ use crate::fixture::check_again;
 
 #[test]
 fn flat_arrays(rt: HostRuntime) {
-    check_again!(rt; letters::check_kinds, nulls::check_counts, nulls::check_named);
+    check_again!(rt; letters::check_kinds, nulls::check_counts);
+    check_again!(rt; nulls::check_named, nulls::check_types);
     check_again!(rt; numbers::check_integers, numbers::check_wide);
     check_again!(rt; numbers::check_others, numbers::check_equality);
     check_again!(rt; bytes::check_texts, bytes::check_binary, bytes::check_layouts);

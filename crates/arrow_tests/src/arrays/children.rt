@@ -1,9 +1,7 @@
 //! The children of slices, other validities over the same children, and arrays three levels deep.
 
 use crate::arrays::rows::check_rows;
-use crate::fixture::arrays::{
-    ListKind, Shape, array_of, from_row, list_type, make_lists, make_pairs,
-};
+use crate::fixture::arrays::{ListKind, Shape, array_of, from_row, lists_of, make_structs};
 use arrow_arrays::array::{AnyArray, ListArray, MapArray, StructArray};
 use arrow_memory::bitmap::Bitmap;
 use arrow_types::datatypes::UnionMode;
@@ -160,9 +158,8 @@ fn deep(
     let left = from_row(rt, array_of(alloc, Shape::Dictionary, keys.0)?, keys.1);
     let sparse = Shape::Pairs(Some(UnionMode::Sparse));
     let right = from_row(rt, array_of(alloc, sparse, values.0)?, values.1);
-    let structs = from_row(rt, make_pairs(alloc, None, rows.0, left, right)?, rows.1);
-    let data_type = list_type(alloc, ListKind::Small, structs.data_type().clone()?)?;
-    let array = make_lists(alloc, ListKind::Small, data_type, ends.0, structs, None)?;
+    let structs = from_row(rt, make_structs(alloc, rows.0, left, right)?, rows.1);
+    let array = lists_of(alloc, ListKind::Small, ends.0, structs, None)?;
     Ok(from_row(rt, array, ends.1))
 }
 

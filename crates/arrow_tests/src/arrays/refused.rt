@@ -1,7 +1,7 @@
 //! Parts that make no lists and no pairs, and which of them is named.
 
 use crate::fixture::arrays::{
-    ListKind, Shape, array_of, flat, list_type, make_lists, make_pairs, make_union, pair_type,
+    ListKind, Shape, array_of, flat, list_type, make_lists, make_structs, make_union, pair_type,
     validity_of,
 };
 use crate::fixture::types::refusal;
@@ -12,89 +12,6 @@ use arrow_types::error::{Error, SpecPart};
 use std::alloc::Global;
 use std::process::Abort;
 
-/// Two rows, or three where the length is wrong.
-fn marks(alloc: Global, wrong: [Option<SpecPart>; 2]) -> Result<Option<Bitmap>, Error> {
-    if wrong.contains(&Some(SpecPart::Length)) {
-        validity_of(alloc, b"aBc")
-    } else {
-        validity_of(alloc, b"aB")
-    }
-}
-
-/// Two lists of two items, with parts that are wrong.
-fn wrong_lists(
-    alloc: Global,
-    kind: ListKind,
-    wrong: [Option<SpecPart>; 2],
-) -> Result<AnyArray, Error> {
-    let named = match (kind, wrong.contains(&Some(SpecPart::Kind))) {
-        (kind, false) => kind,
-        (ListKind::Large, true) => ListKind::Small,
-        (_, true) => ListKind::Large,
-    };
-    let is_map = kind == ListKind::Map;
-    let item = if is_map {
-        pair_type(alloc, None, DataType::Utf8, DataType::Int32)?
-    } else {
-        DataType::Utf8
-    };
-    let values = if is_map != wrong.contains(&Some(SpecPart::Child)) {
-        array_of(alloc, Shape::Pairs(None), b"abcd")?
-    } else {
-        flat(alloc, Shape::Utf8, b"abcd")?
-    };
-    let last = if wrong.contains(&Some(SpecPart::Offsets)) {
-        5
-    } else {
-        4
-    };
-    let data_type = list_type(alloc, named, item)?;
-    let validity = marks(alloc, wrong)?;
-    make_lists(alloc, kind, data_type, &[0, 2, last], values, validity)
-}
-
-/// Two pairs, with parts that are wrong.
-fn wrong_pairs(
-    alloc: Global,
-    mode: Option<UnionMode>,
-    wrong: [Option<SpecPart>; 2],
-) -> Result<AnyArray, Error> {
-    let named = match (mode, wrong.contains(&Some(SpecPart::Kind))) {
-        (mode, false) => mode,
-        (None, true) => Some(UnionMode::Sparse),
-        (Some(_), true) => None,
-    };
-    let data_type = pair_type(alloc, named, DataType::Utf8, DataType::Int32)?;
-    let left = flat(alloc, Shape::Utf8, b"ab")?;
-    let mut fields = vec![in alloc; left, flat(alloc, Shape::Number, b"ab")?]?;
-    if wrong.contains(&Some(SpecPart::Child)) {
-        fields.reverse();
-    }
-    let Some(mode) = mode else {
-        let validity = marks(alloc, wrong)?;
-        return Ok(AnyArray::Struct(StructArray::try_new(data_type, fields, validity)?));
-    };
-    let id = if wrong.contains(&Some(SpecPart::TypeId)) {
-        6
-    } else {
-        7
-    };
-    let place = if wrong.contains(&Some(SpecPart::Offsets)) {
-        2
-    } else {
-        1
-    };
-    let places = [place, 0];
-    let has_places = (mode == UnionMode::Dense) != wrong.contains(&Some(SpecPart::Length));
-    make_union(
-        alloc,
-        data_type,
-        &[5, id],
-        fields,
-        if has_places { Some(&places) } else { None },
-    )
-}
-
 const KIND: Option<SpecPart> = Some(SpecPart::Kind);
 
 const CHILD: Option<SpecPart> = Some(SpecPart::Child);
@@ -104,6 +21,81 @@ const LENGTH: Option<SpecPart> = Some(SpecPart::Length);
 const OFFSETS: Option<SpecPart> = Some(SpecPart::Offsets);
 
 const TYPE_ID: Option<SpecPart> = Some(SpecPart::TypeId);
+
+/// Parts that are wrong.
+type Wrong = [Option<SpecPart>; 2];
+
+/// Two rows, or three where the length is wrong.
+fn marks(alloc: Global, wrong: Wrong) -> Result<Option<Bitmap>, Error> {
+    let letters: &[u8] = if wrong.contains(&LENGTH) {
+        b"aBc"
+    } else {
+        b"aB"
+    };
+    validity_of(alloc, letters)
+}
+
+/// Two lists of two items, with parts that are wrong.
+fn wrong_lists(alloc: Global, kind: ListKind, wrong: Wrong) -> Result<AnyArray, Error> {
+    let named = match (kind, wrong.contains(&KIND)) {
+        (kind, false) => kind,
+        (ListKind::Large, true) => ListKind::Small,
+        (_, true) => ListKind::Large,
+    };
+    let is_map = kind == ListKind::Map;
+    let shape = if is_map != wrong.contains(&CHILD) {
+        Shape::Pairs(None)
+    } else {
+        Shape::Utf8
+    };
+    let last = if wrong.contains(&OFFSETS) { 5 } else { 4 };
+    let validity = marks(alloc, wrong)?;
+    let item = if is_map {
+        pair_type(alloc, None, DataType::Utf8, DataType::Int32)?
+    } else {
+        DataType::Utf8
+    };
+    let data_type = list_type(alloc, named, item)?;
+    let values = array_of(alloc, shape, b"abcd")?;
+    make_lists(alloc, kind, data_type, &[0, 2, last], values, validity)
+}
+
+/// Two texts and two numbers, or the other way around.
+fn wrong_fields(alloc: Global, wrong: Wrong) -> Result<Vec<AnyArray>, Error> {
+    let (left, right) = if wrong.contains(&CHILD) {
+        (Shape::Number, Shape::Utf8)
+    } else {
+        (Shape::Utf8, Shape::Number)
+    };
+    let left = flat(alloc, left, b"ab")?;
+    Ok(vec![in alloc; left, flat(alloc, right, b"ab")?]?)
+}
+
+/// A struct of these fields.
+fn wrong_struct(alloc: Global, data_type: DataType, wrong: Wrong) -> Result<AnyArray, Error> {
+    let validity = marks(alloc, wrong)?;
+    let fields = wrong_fields(alloc, wrong)?;
+    Ok(AnyArray::Struct(StructArray::try_new(data_type, fields, validity)?))
+}
+
+/// Two pairs, with parts that are wrong.
+fn wrong_pairs(alloc: Global, mode: Option<UnionMode>, wrong: Wrong) -> Result<AnyArray, Error> {
+    let named = match (mode, wrong.contains(&KIND)) {
+        (mode, false) => mode,
+        (None, true) => Some(UnionMode::Sparse),
+        (Some(_), true) => None,
+    };
+    let data_type = pair_type(alloc, named, DataType::Utf8, DataType::Int32)?;
+    let Some(mode) = mode else {
+        return wrong_struct(alloc, data_type, wrong);
+    };
+    let id = if wrong.contains(&TYPE_ID) { 6 } else { 7 };
+    let places = [if wrong.contains(&OFFSETS) { 2 } else { 1 }, 0];
+    let has_places = (mode == UnionMode::Dense) != wrong.contains(&LENGTH);
+    let fields = wrong_fields(alloc, wrong)?;
+    let places: Option<&[i32]> = if has_places { Some(&places) } else { None };
+    make_union(alloc, data_type, &[5, id], fields, places)
+}
 
 const LISTED: &[Option<SpecPart>] = &[KIND, CHILD, LENGTH, OFFSETS, None];
 
@@ -155,7 +147,7 @@ pub fn check_lengths(rt: &(impl Abort + Alloc<A = Global>)) -> Result<(), Error>
         flat(alloc, Shape::Utf8, b"ab")?,
         flat(alloc, Shape::Number, b"a")?,
     );
-    let made = make_pairs(alloc, None, b"ab", left, right);
+    let made = make_structs(alloc, b"ab", left, right);
     assert!(rt; refusal(made)? == Some(SpecPart::Length));
     Ok(())
 }

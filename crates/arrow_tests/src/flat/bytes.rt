@@ -28,11 +28,8 @@ fn rows_of<O: Offset, K: ByteKind>(
     FlatArray::<ByteRows<O, K>>::try_new(K::data_type(O::IS_LARGE), offsets, values, validity)
 }
 
-/// The example of Arrow's format: joe, null, null and mark.
-pub fn check_texts(rt: &(impl Abort + Alloc<A = Global>)) -> Result<(), Error> {
-    let validity = [true, false, false, true];
-    let offsets = [0, 3, 3, 3, 7];
-    let mut texts = rows_of::<i32, Text>(rt.alloc(), &offsets, b"joemark", Some(&validity))?;
+/// The rows joe, null, null and mark, and a slice.
+fn check_names(rt: &impl Abort, texts: &mut FlatArray<ByteRows<i32, Text>>) {
     assert!(rt; texts.len() == 4 && texts.null_count() == 2);
     assert!(rt; texts.value(0) == "joe" && texts.value(1) == "" && texts.value(3) == "mark");
     texts.slice(2, 2);
@@ -40,20 +37,33 @@ pub fn check_texts(rt: &(impl Abort + Alloc<A = Global>)) -> Result<(), Error> {
     assert!(rt; texts.value(0) == "" && texts.value(1) == "mark");
     assert!(rt; texts.offsets().buffer() == [3, 3, 7].as_slice());
     assert!(rt; texts.values().as_slice() == b"joemark".as_slice());
+}
+
+/// The example of Arrow's format.
+pub fn check_texts(rt: &(impl Abort + Alloc<A = Global>)) -> Result<(), Error> {
+    let validity = [true, false, false, true];
+    let offsets = [0, 3, 3, 3, 7];
+    let mut texts = rows_of::<i32, Text>(rt.alloc(), &offsets, b"joemark", Some(&validity))?;
+    check_names(rt, &mut texts);
     Ok(())
 }
 
 /// Bytes that are no text, before, between and behind which there are others.
-pub fn check_binary(rt: &(impl Abort + Alloc<A = Global>)) -> Result<(), Error> {
-    let validity = [true, false, true, true];
-    let bytes = [9, 255, 254, 128, 0, 9];
-    let mut array = rows_of::<i64, Binary>(rt.alloc(), &[1, 3, 4, 4, 5], &bytes, Some(&validity))?;
-    assert!(rt; array.len() == 4 && array.values().as_slice() == bytes.as_slice());
+const BYTES: &[u8] = &[9, 255, 254, 128, 0, 9];
+
+/// Of these two bytes, one beneath a null, none and one, and a slice.
+fn check_rows(rt: &impl Abort, array: &mut FlatArray<ByteRows<i64, Binary>>) {
+    assert!(rt; array.len() == 4 && array.values().as_slice() == BYTES);
     assert!(rt; array.value(0) == [255, 254].as_slice() && array.value(2).is_empty());
-    // beneath the null
     assert!(rt; array.value(1) == [128].as_slice());
     array.slice(2, 2);
     assert!(rt; array.len() == 2 && array.value(1) == [0].as_slice());
+}
+
+pub fn check_binary(rt: &(impl Abort + Alloc<A = Global>)) -> Result<(), Error> {
+    let validity = [true, false, true, true];
+    let mut array = rows_of::<i64, Binary>(rt.alloc(), &[1, 3, 4, 4, 5], BYTES, Some(&validity))?;
+    check_rows(rt, &mut array);
     Ok(())
 }
 
@@ -117,11 +127,13 @@ const FAULTS: [(&[i32], &[u8], Option<&[bool]>, Option<SpecPart>); 15] = [
 /// null rows too. Bytes are refused for the first two.
 pub fn check_faults(rt: &(impl Abort + Alloc<A = Global>)) -> Result<(), Error> {
     for (rows, bytes, validity, want) in FAULTS {
-        let texts = rows_of::<i32, Text>(rt.alloc(), rows, bytes, validity);
-        assert!(rt; refusal(texts)? == want, "{bytes:?} in {rows:?}");
-        let binary = rows_of::<i32, Binary>(rt.alloc(), rows, bytes, validity);
+        let found = refusal(rows_of::<i32, Text>(rt.alloc(), rows, bytes, validity))?;
+        assert!(rt; found == want, "{bytes:?} in {rows:?}");
+    }
+    for (rows, bytes, validity, want) in FAULTS {
         let want = if want == UTF8 { None } else { want };
-        assert!(rt; refusal(binary)? == want, "{bytes:?} in {rows:?}");
+        let found = refusal(rows_of::<i32, Binary>(rt.alloc(), rows, bytes, validity))?;
+        assert!(rt; found == want, "{bytes:?} in {rows:?}");
     }
     Ok(())
 }

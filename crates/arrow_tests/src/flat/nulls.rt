@@ -35,17 +35,32 @@ pub fn check_counts(rt: &(impl Abort + Alloc<A = Global>)) -> Result<(), Error> 
     Ok(())
 }
 
-/// Slices of a clone, by another name of the type.
-pub fn check_named(rt: &(impl Abort + Alloc<A = Global>)) -> Result<(), Error> {
-    let data_type = extension(rt.alloc(), "nothing", DataType::Null)?;
-    let array = NullArray::try_new(data_type.clone()?, 5)?;
-    let mut part = array.clone()?;
-    assert!(rt; part.len() == 5 && *part.data_type() == data_type && array == part);
+/// Slices, each of the one before, of five rows.
+fn check_slices(rt: &impl Abort, part: &mut NullArray) {
+    assert!(rt; part.len() == 5);
     part.slice(1, 4);
-    check_rows(rt, &part, 4);
-    assert!(rt; array != part && part.len() == 4);
-    check_rows(rt, &part.sliced(4, 0), 0);
+    check_rows(rt, part, 4);
+    assert!(rt; part.len() == 4);
+    part.slice(4, 0);
+    check_rows(rt, part, 0);
+}
+
+/// Slices of a clone, under another name of the type, and an array under none.
+pub fn check_named(rt: &(impl Abort + Alloc<A = Global>)) -> Result<(), Error> {
+    let array = NullArray::try_new(extension(rt.alloc(), "nothing", DataType::Null)?, 5)?;
+    let mut part = array.clone()?;
+    assert!(rt; array == part && part.data_type() == array.data_type());
+    check_slices(rt, &mut part);
+    assert!(rt; array != part && array.len() == 5);
+    check_rows(rt, &array.sliced(1, 3), 3);
+    Ok(())
+}
+
+/// The data type is the one given, and tells arrays of as many rows apart.
+pub fn check_types(rt: &(impl Abort + Alloc<A = Global>)) -> Result<(), Error> {
     let plain = NullArray::try_new(DataType::Null, 5)?;
-    assert!(rt; *plain.data_type() == DataType::Null && array != plain);
+    let named = NullArray::try_new(extension(rt.alloc(), "nothing", DataType::Null)?, 5)?;
+    assert!(rt; *plain.data_type() == DataType::Null && plain != named);
+    assert!(rt; *named.data_type() == extension(rt.alloc(), "nothing", DataType::Null)?);
     Ok(())
 }

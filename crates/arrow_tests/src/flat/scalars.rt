@@ -54,16 +54,20 @@ pub fn check_entries(rt: &(impl Abort + Alloc<A = Global>)) -> Result<(), Error>
     Ok(())
 }
 
+/// An entry of a dictionary as a value of another.
+fn nested_entry(alloc: Global) -> Result<Option<Box<AnyScalar>>, Error> {
+    let texts = read(alloc, "utf8 dictionary:i8")?;
+    let scalar = DictionaryScalar::try_new(texts, entry(alloc)?)?;
+    Ok(Some(Box::new(alloc, AnyScalar::Dictionary(scalar))?))
+}
+
 /// An entry of a dictionary in a dictionary, extensions around the types apart.
 pub fn check_nested(rt: &(impl Abort + Alloc<A = Global>)) -> Result<(), Error> {
-    let texts = read(rt.alloc(), "utf8 dictionary:i8")?;
-    let scalar = DictionaryScalar::try_new(texts, entry(rt.alloc())?)?;
     let outer = read(
         rt.alloc(),
         "utf8 dictionary:i8 extension:words dictionary:i8",
     )?;
-    let value = Box::new(rt.alloc(), AnyScalar::Dictionary(scalar))?;
-    let scalar = DictionaryScalar::try_new(outer.clone()?, Some(value))?;
+    let scalar = DictionaryScalar::try_new(outer.clone()?, nested_entry(rt.alloc())?)?;
     check_scalar(rt, AnyScalar::Dictionary(scalar), outer, true);
     Ok(())
 }

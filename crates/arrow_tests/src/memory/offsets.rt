@@ -72,23 +72,45 @@ enum Rows {
 /// Rows, and what they are refused for.
 type Steps<'a> = &'a [(Rows, Option<Error>)];
 
-fn append<O: Offset>(
+/// Appends rows. Those that are refused change nothing.
+fn check_step<O: Offset>(
     rt: &impl Abort,
     offsets: &mut Offsets<O>,
     others: &OffsetsBuffer<O>,
     rows: Rows,
+    refused: Option<Error>,
 ) -> Result<(), Error> {
-    match rows {
+    let (len, last) = (offsets.len(), *offsets.last());
+    let outcome = match rows {
         Rows::One(items) => offsets.try_push_usize(items),
         Rows::Empty(count) => offsets.extend_constant(count),
         Rows::Others(start, len) => {
             assert!(rt; start < others.len() && len < others.len() - start);
             offsets.try_extend_from_slice(others, start, len)
         }
+    };
+    if refused.is_none() {
+        return outcome;
     }
+    assert!(rt; outcome.err() == refused && offsets.len() == len && *offsets.last() == last);
+    Ok(())
 }
 
-/// Rows appended one after the other. Some are refused, and these change nothing.
+/// Rows appended one after the other.
+fn check_steps<O: Offset>(
+    rt: &impl Abort,
+    offsets: &mut Offsets<O>,
+    others: &OffsetsBuffer<O>,
+    steps: Steps,
+) -> Result<(), Error> {
+    assert!(rt; offsets.len() == 1 && offsets.last().to_usize() == 0);
+    for (rows, refused) in steps {
+        check_step(rt, offsets, others, *rows, *refused)?;
+    }
+    Ok(())
+}
+
+/// Offsets of such rows.
 fn check_rows<O: Offset>(
     rt: &(impl Abort + Alloc<A = Global>),
     capacity: usize,
@@ -96,19 +118,8 @@ fn check_rows<O: Offset>(
     steps: Steps,
     want: &[O],
 ) -> Result<(), Error> {
-    let others = offsets_of(rt.alloc(), others)?;
     let mut offsets = Offsets::<O>::with_capacity(rt.alloc(), capacity)?;
-    assert!(rt; offsets.len() == 1 && offsets.last().to_usize() == 0);
-    for (rows, refused) in steps {
-        let (len, last) = (offsets.len(), *offsets.last());
-        let outcome = append(rt, &mut offsets, &others, *rows);
-        match refused {
-            None => outcome?,
-            Some(error) => assert!(rt;
-                outcome == Err(*error) && offsets.len() == len && *offsets.last() == last
-            ),
-        }
-    }
+    check_steps(rt, &mut offsets, &offsets_of(rt.alloc(), others)?, steps)?;
     assert!(rt; offsets.into_buffer()?.buffer() == want);
     Ok(())
 }
