@@ -2,12 +2,22 @@
 
 use crate::arrays::rows::check_rows;
 use crate::fixture::arrays::{ListKind, Shape, array_of, from_row, lists_of, make_structs};
-use arrow_arrays::array::{AnyArray, ListArray, MapArray, StructArray};
+use arrow_arrays::array::{
+    AnyArray, AnyOffsetsBuffer, FixedSizeListArray, ListArray, MapArray, StructArray,
+};
 use arrow_memory::bitmap::Bitmap;
 use arrow_types::datatypes::UnionMode;
 use arrow_types::error::Error;
 use std::alloc::Global;
 use std::process::Abort;
+
+/// Where each row of three lies.
+fn check_spans(rt: &impl Abort, offsets: &AnyOffsetsBuffer, spans: &[(usize, usize)]) {
+    assert!(rt; offsets.len() == 4);
+    for (i, span) in spans.iter().enumerate() {
+        assert!(rt; i < 3 && offsets.start_end(i) == *span);
+    }
+}
 
 /// The items of a list, where each row lies among them, and the same of clones.
 fn check_list(
@@ -17,12 +27,8 @@ fn check_list(
     items: &AnyArray,
 ) -> Result<(), Error> {
     assert!(rt; array.clone()? == *array && array.values() == items);
-    let copy = array.offsets().clone()?;
-    assert!(rt; array.len() == 3 && copy.len() == 4);
-    for (i, span) in spans.iter().enumerate() {
-        assert!(rt; i < 3 && array.offsets().start_end(i) == *span);
-        assert!(rt; copy.start_end(i) == *span);
-    }
+    check_spans(rt, array.offsets(), spans);
+    check_spans(rt, &array.offsets().clone()?, spans);
     Ok(())
 }
 
@@ -40,16 +46,24 @@ fn check_map(
     Ok(())
 }
 
-/// Whether a struct has the fields of another.
-fn has_fields(array: &StructArray, items: &AnyArray) -> bool {
+/// The same of lists of two items each.
+fn check_fixed(rt: &impl Abort, array: &FixedSizeListArray, items: &AnyArray) -> Result<(), Error> {
+    assert!(rt; array.clone()? == *array && array.values() == items && array.size() == 2);
+    Ok(())
+}
+
+/// The fields of a struct, which are those of another, and the same of a clone.
+fn check_struct(rt: &impl Abort, array: &StructArray, items: &AnyArray) -> Result<(), Error> {
+    assert!(rt; array.clone()? == *array);
     match items {
-        AnyArray::Struct(items) => array.values() == items.values(),
-        _ => false,
+        AnyArray::Struct(items) => assert!(rt; array.values() == items.values()),
+        _ => panic!(rt; "no struct"),
     }
+    Ok(())
 }
 
 /// The children of lists or of a struct and, but for those of a fixed size, where each list lies among
-/// them. Clones are the same.
+/// them.
 fn check_items(
     rt: &impl Abort,
     array: &AnyArray,
@@ -57,18 +71,12 @@ fn check_items(
     items: &AnyArray,
 ) -> Result<(), Error> {
     match array {
-        AnyArray::List(array) => check_list(rt, array, spans, items)?,
-        AnyArray::Map(array) => check_map(rt, array, spans, items)?,
-        AnyArray::FixedSizeList(array) => {
-            assert!(rt; array.clone()? == *array && array.values() == items);
-            assert!(rt; array.size() == 2);
-        }
-        AnyArray::Struct(array) => {
-            assert!(rt; array.clone()? == *array && has_fields(array, items));
-        }
+        AnyArray::List(array) => check_list(rt, array, spans, items),
+        AnyArray::Map(array) => check_map(rt, array, spans, items),
+        AnyArray::FixedSizeList(array) => check_fixed(rt, array, items),
+        AnyArray::Struct(array) => check_struct(rt, array, items),
         _ => panic!(rt; "no lists and no struct"),
     }
-    Ok(())
 }
 
 /// The same children under another validity.

@@ -212,8 +212,25 @@ const EQUAL: [(&[u8], &[u8], bool); 17] = [
     (b"", b"a", true),
 ];
 
+/// Whether rows are the same as others but their first letter, which is left out of a range, and then
+/// sliced off.
+fn check_pair<V: Letters>(
+    rt: &impl Abort,
+    array: &FlatArray<V>,
+    other: &mut FlatArray<V>,
+    want: bool,
+) {
+    let (len, other_len) = (array.len(), other.len());
+    assert!(rt; other_len > 0);
+    if len == other_len - 1 {
+        assert!(rt; array.equal_range(0, other, 1, len) == want);
+    }
+    other.slice(1, other_len - 1);
+    assert!(rt; [*array == *other, *other == *array] == [want; 2]);
+}
+
 /// Equal are the same rows, whatever is stored beneath nulls, wherever they begin, and under a validity
-/// or none. The first letter of the other rows is left out of a range, and then sliced off.
+/// or none.
 fn check_equality<V: Letters>(
     rt: &(impl Abort + Alloc<A = Global>),
     plain: &DataType,
@@ -221,15 +238,12 @@ fn check_equality<V: Letters>(
     for (left, right, want) in EQUAL {
         let array = array_of::<V>(rt.alloc(), plain, left)?;
         check_rows(rt, &array, left);
-        let mut other = array_of::<V>(rt.alloc(), plain, right)?;
-        let (len, other_len) = (array.len(), other.len());
-        assert!(rt; other_len > 0);
-        if len == other_len - 1 {
-            assert!(rt; array.equal_range(0, &other, 1, len) == want);
-        }
-        other.slice(1, other_len - 1);
-        let found = [array == other, other == array];
-        assert!(rt; found == [want; 2], "{left:?} and {right:?}");
+        check_pair(
+            rt,
+            &array,
+            &mut array_of::<V>(rt.alloc(), plain, right)?,
+            want,
+        );
     }
     Ok(())
 }

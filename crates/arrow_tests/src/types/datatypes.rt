@@ -194,14 +194,11 @@ pub fn check_different(rt: &(impl Abort + Alloc<A = Global>)) -> Result<(), Erro
 
 pub fn check_fields(rt: &(impl Abort + Alloc<A = Global>)) -> Result<(), Error> {
     let field = Field::new(String::from_str(rt.alloc(), "id")?, DataType::Int64, false);
-    assert!(rt; field.name() == "id");
-    assert!(rt; field.data_type() == &DataType::Int64);
+    assert!(rt; field.name() == "id" && *field.data_type() == DataType::Int64);
     assert!(rt; !field.is_nullable());
-    let copy = field.clone()?;
-    assert!(rt; copy.name() == "id");
-    assert!(rt; copy == field);
-    let nullable = child(rt.alloc(), "id", DataType::Int64)?;
-    assert!(rt; nullable.is_nullable() && nullable != field);
+    assert!(rt; field.clone()? == field && field.clone()?.name() == "id");
+    assert!(rt; child(rt.alloc(), "id", DataType::Int64)? != field);
+    assert!(rt; child(rt.alloc(), "id", DataType::Int64)?.is_nullable());
     Ok(())
 }
 
