@@ -1,4 +1,4 @@
-//! Tests of the crates below, by their public calls alone: a module for each crate.
+//! Tests of `arrow_arrays`, `arrow_growable` and `arrow_select`, by their public calls alone.
 #![tactic(auto)]
 
 #[cfg(test)]
@@ -6,12 +6,6 @@ mod arrays;
 #[cfg(test)]
 mod fixture;
 #[cfg(test)]
-mod flat;
-#[cfg(test)]
 mod growable;
 #[cfg(test)]
-mod memory;
-#[cfg(test)]
 mod select;
-#[cfg(test)]
-mod types;

@@ -5,8 +5,8 @@ mod filter;
 mod window;
 
 use crate::fixture::arrays::{Shape, array_of};
-use crate::fixture::check_again;
 use arrow_arrays::array::AnyArray;
+use arrow_fixture::check_again;
 use arrow_types::error::Error;
 use std::alloc::Global;
 use std::process::Abort;

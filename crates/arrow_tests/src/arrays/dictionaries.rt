@@ -1,35 +1,21 @@
 //! The keys of dictionaries of texts and of their slices, parts that make none, and which are equal.
 
 use crate::fixture::arrays::{Shape, flat};
-use crate::fixture::types::refusal;
 use arrow_arrays::array::{AnyKeys, DictionaryArray};
+use arrow_fixture::read::read;
+use arrow_fixture::types::refusal;
 use arrow_flat::array::PrimitiveArray;
 use arrow_memory::bitmap::Bitmap;
 use arrow_memory::buffer::Buffer;
-use arrow_types::datatypes::{DataType, IntegerType};
+use arrow_types::datatypes::DataType;
 use arrow_types::error::{Error, SpecPart};
 use std::alloc::Global;
 use std::process::Abort;
 
-/// The data type that a dictionary of texts is given.
-#[derive(Clone, Copy, Debug, PartialEq, Eq)]
-enum Given {
-    /// Its keys have 8 bits.
-    Narrow,
-    Ordered,
-    /// Its keys have 64 bits, and -1 stands for the greatest of them.
-    Wide,
-    /// The type of the texts.
-    Texts,
-    /// That of other keys.
-    OtherKeys,
-    /// That of other values.
-    OtherValues,
-}
-
+/// Keys of 8 bits, or of 64, where -1 stands for the greatest of them.
 fn keys_of(
     alloc: Global,
-    given: Given,
+    are_wide: bool,
     keys: &[i8],
     validity: Option<&[bool]>,
 ) -> Result<AnyKeys, Error> {
@@ -37,7 +23,7 @@ fn keys_of(
         None => None,
         Some(bits) => Some(Bitmap::from_bools(alloc, bits)?),
     };
-    if given == Given::Wide {
+    if are_wide {
         let mut wide = Vec::new(alloc);
         for key in keys {
             wide.push(u64::try_from(*key).unwrap_or(u64::MAX))?;
@@ -50,32 +36,26 @@ fn keys_of(
     Ok(AnyKeys::Int8(PrimitiveArray::<i8>::try_new(DataType::Int8, keys, validity)?))
 }
 
-/// A dictionary of these texts, under a data type that it is given.
+/// A dictionary of these texts, under a data type by its words. Its keys have 8 bits but where the type
+/// names 64.
 fn dictionary_of(
     alloc: Global,
-    given: Given,
+    words: &str,
     keys: &[i8],
     validity: Option<&[bool]>,
     letters: &[u8],
 ) -> Result<DictionaryArray, Error> {
-    let key_type = match given {
-        Given::Wide => IntegerType::UInt64,
-        Given::OtherKeys => IntegerType::Int16,
-        _ => IntegerType::Int8,
-    };
-    let value_type = match given {
-        Given::OtherValues => DataType::LargeUtf8,
-        _ => DataType::Utf8,
-    };
-    let is_ordered = matches!(&given, Given::Ordered | Given::Wide);
-    let data_type = match given {
-        Given::Texts => value_type,
-        _ => DataType::Dictionary(key_type, Box::new(alloc, value_type)?, is_ordered),
-    };
-    let keys = keys_of(alloc, given, keys, validity)?;
+    let keys = keys_of(alloc, words.ends_with("u64"), keys, validity)?;
+    let data_type = read(alloc, words)?;
     let texts = Box::new(alloc, flat(alloc, Shape::Utf8, letters)?)?;
     DictionaryArray::try_new(data_type, keys, texts)
 }
+
+const NARROW: &str = "utf8 dictionary:i8";
+
+const ORDERED: &str = "utf8 ordered_dictionary:i8";
+
+const WIDE: &str = "utf8 ordered_dictionary:u64";
 
 /// Whether two lists of keys of 8 bits are the same.
 fn are_same(keys: &AnyKeys, others: &AnyKeys) -> bool {
@@ -169,7 +149,7 @@ const KEYS: [((&[i8], Option<&[bool]>), &[u8], &[Option<usize>], Slices); 7] = [
 /// no value lies beneath a null, and one that names a null value is valid.
 pub fn check_keys(rt: &(impl Abort + Alloc<A = Global>)) -> Result<(), Error> {
     for ((keys, validity), letters, rows, slices) in KEYS {
-        let mut array = dictionary_of(rt.alloc(), Given::Narrow, keys, validity, letters)?;
+        let mut array = dictionary_of(rt.alloc(), NARROW, keys, validity, letters)?;
         check_rows(rt, &array, validity.is_some(), rows)?;
         let nulls = usize::from(letters == b"aB".as_slice());
         assert!(rt; array.values().null_count() == nulls);
@@ -183,26 +163,31 @@ const KIND: Option<SpecPart> = Some(SpecPart::Kind);
 const KEY: Option<SpecPart> = Some(SpecPart::Key);
 
 /// A data type, keys under a validity, and what they are refused for.
-const REFUSED: [(Given, &[i8], Option<&[bool]>, Option<SpecPart>); 11] = [
-    (Given::Texts, &[2], None, KIND),
-    (Given::OtherKeys, &[2], None, KIND),
-    (Given::OtherValues, &[2], None, Some(SpecPart::Child)),
-    (Given::Narrow, &[0, 1], None, None),
-    (Given::Narrow, &[0, 2], None, KEY),
-    (Given::Narrow, &[0, -1], None, KEY),
-    (Given::Narrow, &[2, 0], Some(&[true, false]), KEY),
-    (Given::Narrow, &[2, 0], Some(&[false, true]), None),
-    (Given::Narrow, &[-1, 0], Some(&[false, true]), None),
-    (Given::Wide, &[0, 1], None, None),
-    (Given::Wide, &[0, -1], None, KEY),
+const REFUSED: [(&str, &[i8], Option<&[bool]>, Option<SpecPart>); 11] = [
+    ("utf8", &[2], None, KIND),
+    ("utf8 dictionary:i16", &[2], None, KIND),
+    (
+        "large_utf8 dictionary:i8",
+        &[2],
+        None,
+        Some(SpecPart::Child),
+    ),
+    (NARROW, &[0, 1], None, None),
+    (NARROW, &[0, 2], None, KEY),
+    (NARROW, &[0, -1], None, KEY),
+    (NARROW, &[2, 0], Some(&[true, false]), KEY),
+    (NARROW, &[2, 0], Some(&[false, true]), None),
+    (NARROW, &[-1, 0], Some(&[false, true]), None),
+    (WIDE, &[0, 1], None, None),
+    (WIDE, &[0, -1], None, KEY),
 ];
 
 /// Types of another kind, keys of another width and values of another type. Keys below 0, the last one
 /// that names a value, and one past it. Keys of 64 bits, the greatest of which names no value.
 pub fn check_refused(rt: &(impl Abort + Alloc<A = Global>)) -> Result<(), Error> {
-    for (given, keys, validity, want) in REFUSED {
-        let made = dictionary_of(rt.alloc(), given, keys, validity, b"ab");
-        assert!(rt; refusal(made)? == want, "{keys:?} of {given:?}");
+    for (words, keys, validity, want) in REFUSED {
+        let made = dictionary_of(rt.alloc(), words, keys, validity, b"ab");
+        assert!(rt; refusal(made)? == want, "{keys:?} of {words}");
     }
     Ok(())
 }
@@ -212,23 +197,23 @@ const BOTH: Option<&[bool]> = Some(&[true, true]);
 const FIRST: Option<&[bool]> = Some(&[true, false]);
 
 /// The validity of the keys 0 and 1 over a and b, other keys, and whether they say the same.
-const EQUAL: [(Option<&[bool]>, Given, &[i8], Option<&[bool]>, &[u8], bool); 8] = [
-    (BOTH, Given::Narrow, &[1, 0], None, b"ba", true),
-    (BOTH, Given::Narrow, &[0, 1], None, b"ab", true),
-    (BOTH, Given::Narrow, &[0, 1], None, b"ba", false),
-    (BOTH, Given::Narrow, &[1, 1], None, b"ab", false),
-    (BOTH, Given::Narrow, &[0], None, b"ab", false),
-    (BOTH, Given::Narrow, &[0, 1], FIRST, b"ab", false),
-    (FIRST, Given::Narrow, &[1, 9], FIRST, b"ca", true),
-    (None, Given::Ordered, &[0, 1], None, b"ab", false),
+const EQUAL: [(Option<&[bool]>, &str, &[i8], Option<&[bool]>, &[u8], bool); 8] = [
+    (BOTH, NARROW, &[1, 0], None, b"ba", true),
+    (BOTH, NARROW, &[0, 1], None, b"ab", true),
+    (BOTH, NARROW, &[0, 1], None, b"ba", false),
+    (BOTH, NARROW, &[1, 1], None, b"ab", false),
+    (BOTH, NARROW, &[0], None, b"ab", false),
+    (BOTH, NARROW, &[0, 1], FIRST, b"ab", false),
+    (FIRST, NARROW, &[1, 9], FIRST, b"ca", true),
+    (None, ORDERED, &[0, 1], None, b"ab", false),
 ];
 
 /// Equal to the keys 0 and 1 over a and b are arrays whose keys name the same values, wherever these lie,
 /// whatever lies beneath nulls, but not under another type.
 pub fn check_equality(rt: &(impl Abort + Alloc<A = Global>)) -> Result<(), Error> {
-    for (marks, given, keys, validity, letters, want) in EQUAL {
-        let array = dictionary_of(rt.alloc(), Given::Narrow, &[0, 1], marks, b"ab")?;
-        let other = dictionary_of(rt.alloc(), given, keys, validity, letters)?;
+    for (marks, words, keys, validity, letters, want) in EQUAL {
+        let array = dictionary_of(rt.alloc(), NARROW, &[0, 1], marks, b"ab")?;
+        let other = dictionary_of(rt.alloc(), words, keys, validity, letters)?;
         assert!(rt; (array == other) == want, "{keys:?} over {letters:?}");
     }
     Ok(())

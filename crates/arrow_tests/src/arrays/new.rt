@@ -1,9 +1,9 @@
 //! Arrays of nulls and arrays without rows.
 
 use crate::fixture::arrays::{Shape, flat, make_union};
-use crate::fixture::read::read;
-use crate::fixture::types::refusal;
 use arrow_arrays::array::{AnyArray, new_empty_array, new_null_array};
+use arrow_fixture::read::read;
+use arrow_fixture::types::refusal;
 use arrow_types::datatypes::DataType;
 use arrow_types::error::{Error, SpecPart};
 use std::alloc::Global;

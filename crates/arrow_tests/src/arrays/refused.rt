@@ -2,10 +2,10 @@
 
 use crate::fixture::arrays::{
     ListKind, Shape, array_of, flat, list_type, make_lists, make_structs, make_union, pair_type,
-    validity_of,
 };
-use crate::fixture::types::refusal;
 use arrow_arrays::array::{AnyArray, StructArray};
+use arrow_fixture::arrays::validity_of;
+use arrow_fixture::types::refusal;
 use arrow_memory::bitmap::Bitmap;
 use arrow_types::datatypes::{DataType, UnionMode};
 use arrow_types::error::{Error, SpecPart};

@@ -2,6 +2,7 @@
 
 use crate::fixture::arrays::{SHAPES, Shape, array_of, flat, from_row};
 use arrow_arrays::array::AnyArray;
+use arrow_fixture::arrays::EQUAL;
 use arrow_types::datatypes::DataType;
 use arrow_types::error::Error;
 use std::alloc::Global;
@@ -59,27 +60,6 @@ fn check_slices(rt: &(impl Abort + Alloc<A = Global>), shape: Shape) -> Result<(
     }
     check_rows(rt, &array, shape, b"baCDabb")
 }
-
-/// Rows, others behind a first letter, and whether they are equal.
-const EQUAL: [(&[u8], &[u8], bool); 14] = [
-    (b"abCd", b"aabCd", true),
-    // another letter beneath the null, and in other rows
-    (b"abCd", b"BabGd", true),
-    (b"abCd", b"abbCd", false),
-    (b"abCd", b"aabCe", false),
-    // one null less, and one more
-    (b"abCd", b"aabcd", false),
-    (b"abCd", b"aaBCd", false),
-    (b"abCd", b"aabC", false),
-    (b"abCd", b"a", false),
-    // no null
-    (b"ab", b"cab", true),
-    (b"ab", b"Aab", true),
-    (b"ab", b"aaa", false),
-    (b"ab", b"aabb", false),
-    (b"AB", b"aCD", true),
-    (b"", b"b", true),
-];
 
 /// Equal are the same rows, whatever is stored beneath nulls, wherever they begin, and under a validity
 /// or none. The first letter of the other rows is sliced off.

@@ -1,8 +1,8 @@
 //! The rows of unions and of their slices, where each lies, and parts that make no union.
 
 use crate::fixture::arrays::{Shape, flat, from_row, make_union, pair_type};
-use crate::fixture::types::refusal;
 use arrow_arrays::array::AnyArray;
+use arrow_fixture::types::refusal;
 use arrow_types::datatypes::{DataType, UnionMode};
 use arrow_types::error::{Error, SpecPart};
 use std::alloc::Global;

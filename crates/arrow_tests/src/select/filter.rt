@@ -1,7 +1,8 @@
 //! The rows at which a predicate is true.
 
-use crate::fixture::arrays::{FLATS, Shape, array_of, from_row, is_flat, truths};
+use crate::fixture::arrays::{FLATS, Shape, array_of, from_row, is_flat};
 use crate::select::check_answer;
+use arrow_fixture::arrays::truths;
 use arrow_select::filter::filter;
 use arrow_types::error::Error;
 use std::alloc::Global;

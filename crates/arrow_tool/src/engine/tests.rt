@@ -483,6 +483,14 @@ fn repeated(alloc: Global, pieces: Pieces, times: usize) -> Result<Vec<u8>, Allo
     Ok(text)
 }
 
+/// Such a text, asked for once more where memory was refused.
+fn text_of(rt: &(impl Abort + Alloc<A = Global>), pieces: Pieces, times: usize) -> Vec<u8> {
+    match repeated(rt.alloc(), pieces, times) {
+        Ok(text) => text,
+        Err(_) => repeated(rt.alloc(), pieces, times).expect(rt, "memory for a text"),
+    }
+}
+
 /// A line of many elements, and many lines: the pieces of the input and of the output, how many times,
 /// and whether a line is refused.
 const LONG: [(&str, Pieces, Pieces, usize, bool); 2] = [
@@ -511,18 +519,7 @@ const LONG: [(&str, Pieces, Pieces, usize, bool); 2] = [
 #[test]
 fn long_input(rt: HostRuntime) {
     for (name, input, output, times, is_refused) in LONG {
-        let text = repeated(rt.alloc(), input, times).or_else(|_| repeated(
-            rt.alloc(),
-            input,
-            times,
-        ));
-        let input = text.expect(&rt, "memory for the input");
-        let text = repeated(rt.alloc(), output, times).or_else(|_| repeated(
-            rt.alloc(),
-            output,
-            times,
-        ));
-        let output = text.expect(&rt, "memory for the output");
+        let (input, output) = (text_of(&rt, input, times), text_of(&rt, output, times));
         check(&rt, name, &input, AT_ONCE, (Ok(is_refused), &output));
     }
 }

@@ -1,6 +1,6 @@
 //! Arrays of the null type.
 
-use crate::fixture::types::{extension, refusal};
+use arrow_fixture::types::{extension, refusal};
 use arrow_flat::array::NullArray;
 use arrow_types::datatypes::DataType;
 use arrow_types::error::{Error, SpecPart};

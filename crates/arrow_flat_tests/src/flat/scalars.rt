@@ -1,6 +1,6 @@
 //! Scalars: truth values, texts, bytes, and entries of dictionaries.
 
-use crate::fixture::read::read;
+use arrow_fixture::read::read;
 use arrow_flat::scalar::{AnyScalar, BinaryScalar, BooleanScalar, DictionaryScalar, Utf8Scalar};
 use arrow_types::datatypes::DataType;
 use arrow_types::error::{Error, SpecPart};

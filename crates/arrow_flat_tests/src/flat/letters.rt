@@ -2,8 +2,8 @@
 //!
 //! Rows are letters. A capital is a null, and beneath it the small letter is stored.
 
-use crate::fixture::arrays::{byte_rows, fixed_bytes, numbers, truths, validity_of};
-use crate::fixture::types::{extension, refusal};
+use arrow_fixture::arrays::{EQUAL, byte_rows, fixed_bytes, numbers, truths, validity_of};
+use arrow_fixture::types::{extension, refusal};
 use arrow_flat::array::{
     Binary, BooleanArray, ByteKind, ByteRows, FixedRows, FixedSizeBinaryArray, FlatArray,
     PrimitiveArray, Text, Values,
@@ -187,30 +187,6 @@ fn check_validities<V: Letters>(
     check_rows(rt, &bare, b"abc");
     Ok(())
 }
-
-/// Rows, others behind a first letter, and whether they are equal.
-const EQUAL: [(&[u8], &[u8], bool); 17] = [
-    (b"abCd", b"aabCd", true),
-    // another letter beneath the null, and in other rows
-    (b"abCd", b"BabDd", true),
-    (b"abCd", b"abbCd", false),
-    (b"abCd", b"aabCe", false),
-    // one null less, and one more
-    (b"abCd", b"aabcd", false),
-    (b"abCd", b"aaBCd", false),
-    (b"abCd", b"aabC", false),
-    (b"abCd", b"a", false),
-    // no null
-    (b"ab", b"aab", true),
-    (b"ab", b"Aab", true),
-    (b"ab", b"aaa", false),
-    (b"ab", b"Abb", false),
-    (b"ab", b"aa", false),
-    (b"ab", b"aabb", false),
-    (b"ab", b"aaB", false),
-    (b"AB", b"aBC", true),
-    (b"", b"a", true),
-];
 
 /// Whether rows are the same as others but their first letter, which is left out of a range, and then
 /// sliced off.

@@ -1,6 +1,6 @@
 //! Arrays of texts and of bytes, under offsets and in rows of a size.
 
-use crate::fixture::types::refusal;
+use arrow_fixture::types::refusal;
 use arrow_flat::array::{Binary, ByteKind, ByteRows, FixedSizeBinaryArray, FlatArray, Text};
 use arrow_memory::bitmap::Bitmap;
 use arrow_memory::buffer::Buffer;

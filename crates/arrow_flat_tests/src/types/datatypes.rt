@@ -1,7 +1,7 @@
 //! Data types and fields.
 
-use crate::fixture::read::read;
-use crate::fixture::types::child;
+use arrow_fixture::read::read;
+use arrow_fixture::types::child;
 use arrow_types::datatypes::{DataType, Field, IntegerType, PhysicalType};
 use arrow_types::error::Error;
 use arrow_types::types::PrimitiveType;

@@ -1,7 +1,7 @@
 //! Arrays and scalars of numbers and intervals, of any element type.
 
-use crate::fixture::arrays::numbers;
 use crate::flat::scalars::check_scalar;
+use arrow_fixture::arrays::numbers;
 use arrow_flat::array::{AnyPrimitive, PrimitiveArray};
 use arrow_flat::scalar::{AnyPrimitiveScalar, AnyScalar, PrimitiveScalar};
 use arrow_memory::bitmap::Bitmap;

@@ -1,0 +1,9 @@
+//! Tests of `arrow_types`, `arrow_memory` and `arrow_flat`, by their public calls alone.
+#![tactic(auto)]
+
+#[cfg(test)]
+mod flat;
+#[cfg(test)]
+mod memory;
+#[cfg(test)]
+mod types;
