@@ -50,6 +50,7 @@ pub fn validity_of(alloc: Global, letters: &[u8]) -> Result<Option<Bitmap>, Erro
     })
 }
 
+/// The letter t is true, and so is every other one from a on.
 pub fn truths(alloc: Global, letters: &[u8]) -> Result<BooleanArray, Error> {
     let mut bits = MutableBitmap::with_capacity(alloc, letters.len())?;
     for letter in letters {
@@ -97,6 +98,7 @@ pub fn byte_rows<O: Offset, K: ByteKind>(
     FlatArray::<ByteRows<O, K>>::try_new(K::data_type(O::IS_LARGE), offsets, bytes, validity)
 }
 
+/// Rows of three bytes: each letter three times.
 pub fn fixed_bytes(alloc: Global, letters: &[u8]) -> Result<FixedSizeBinaryArray, Error> {
     let (bytes, validity) = (thrice(alloc, letters)?, validity_of(alloc, letters)?);
     FixedSizeBinaryArray::try_new(DataType::FixedSizeBinary(3), bytes, validity)

@@ -22,6 +22,13 @@ fn check_bits(
     Ok(())
 }
 
+/// A bitmap that is sliced itself is that slice.
+fn check_slice(rt: &impl Abort, whole: &mut Bitmap, part: &Bitmap, offset: usize, len: usize) {
+    assert!(rt; offset <= whole.len() && len <= whole.len() - offset);
+    whole.slice(offset, len);
+    assert!(rt; *whole == *part);
+}
+
 /// A slice of a slice, which is not the first one, and a slice of the same bits packed again.
 fn check_twice(
     rt: &(impl Abort + Alloc<A = Global>),
@@ -112,6 +119,7 @@ fn check_run(
     let a = whole.clone()?.sliced(offset, len);
     let left = &bits[offset..offset + len];
     check_bits(rt, &a, left)?;
+    check_slice(rt, &mut whole.clone()?, &a, offset, len);
     if len > 1 {
         check_twice(rt, &a, left)?;
     }

@@ -175,4 +175,5 @@ fn element_types(rt: HostRuntime) {
     for (found, want) in types {
         assert!(rt; found == want);
     }
+    assert!(rt; are_equal_rows(7u8, 7) && !are_equal_rows(i128::MIN, i128::MAX));
 }
