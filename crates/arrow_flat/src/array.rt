@@ -49,6 +49,9 @@ pub trait Values: Clone + Drop {
         ensures { result ≡ length (slots self.now) };
 
     /// Keeps `len` rows from row `offset` on. Nothing is copied.
+    ///
+    /// # Requires
+    /// `offset + len` is at most the count of rows.
     fn slice(&mut self, offset: usize, len: usize)
         requires { offset + len ≤ length (slots self.old) }
         ensures { self.new ≡ part self.old offset len };
@@ -58,6 +61,9 @@ pub trait Values: Clone + Drop {
         ensures { IsTrue result ↔ (slots self.now ≡ slots other.now) };
 
     /// Whether the same is stored in row `i` as in row `j` of the other.
+    ///
+    /// # Requires
+    /// `i` is below the count of rows, and `j` below that of the other.
     fn equal_at(&self, i: usize, other: &Self, j: usize) -> bool
         requires here { i < length (slots self.now) }
         requires there { j < length (slots other.now) }
@@ -139,6 +145,9 @@ impl<V: Values> FlatArray<V> {
     }
 
     /// Keeps `len` rows from row `offset` on. Nothing is copied.
+    ///
+    /// # Requires
+    /// `offset + len` is at most the count of rows.
     pub fn slice(&mut self, offset: usize, len: usize)
         requires { offset + len ≤ length (rows_by V.slots self.old) }
         ensures part { self.new ≡ part_by V.part self.old offset len }
@@ -149,6 +158,9 @@ impl<V: Values> FlatArray<V> {
     }
 
     /// The `len` rows from row `offset` on. Nothing is copied.
+    ///
+    /// # Requires
+    /// `offset + len` is at most the count of rows.
     pub fn sliced(self, offset: usize, len: usize) -> FlatArray<V>
         requires { offset + len ≤ length (rows_by V.slots self) }
         ensures part { result ≡ part_by V.part self offset len }
@@ -160,6 +172,9 @@ impl<V: Values> FlatArray<V> {
     }
 
     /// The same rows under another validity: what is stored is null where a bit is not set.
+    ///
+    /// # Requires
+    /// A validity has a bit for each row.
     pub fn with_validity(self, validity: Option<Bitmap>) -> FlatArray<V>
         requires { FitsRows validity (length (V.slots self.values)) }
         ensures { result ≡ with_bits self validity }
@@ -168,6 +183,9 @@ impl<V: Values> FlatArray<V> {
     }
 
     /// Whether row `i` is valid.
+    ///
+    /// # Requires
+    /// `i` is below the count of rows.
     pub fn is_valid(&self, i: usize) -> bool
         requires { i < length (V.slots self.now.values) }
         ensures { result ≡ valid_at self.now.validity i }
@@ -191,6 +209,9 @@ impl<V: Values> FlatArray<V> {
     /// Whether `len` rows from row `start` on are the same as those of the other from row
     /// `other_start` on, null or not: at once where these are all rows and none is null, and else row
     /// by row.
+    ///
+    /// # Requires
+    /// `start + len` is at most the count of rows, and `other_start + len` at most that of the other.
     pub fn equal_range(
         &self,
         start: usize,
@@ -227,6 +248,7 @@ impl<V: Values> FlatArray<V> {
     fn is_without_nulls(&self) -> bool
         ensures { IsTrue result → rows_by V.slots self.now ≡ V.slots self.now.values }
     {
+        // Its reading opens the parts: a validity without a bit that is not set is as none.
         let _ = &self.validity;
         self.null_count() == 0
     }

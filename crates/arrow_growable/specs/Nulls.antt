@@ -1,5 +1,5 @@
 -- Arrays of the null type under construction.
-use Rattle.std.specs.Prelude.{◌≡◌, List, Option, None, replicate}
+use Rattle.std.specs.Prelude.{ℕ, ◌≡◌, ◌+◌, ◌≤◌, ◌^◌, false, List, Option, None, replicate}
 use Rattle.arrow_types.specs.declared.datatypes.physical_type.PhysicalType.TheVariants as physical
 use Rattle.arrow_types.specs.Slot.{Null}
 use Rattle.arrow_flat.specs.Faults.{IsCarriedAs}
@@ -12,6 +12,10 @@ pub record IsGrownNull (g : Grown) : Type 0 where
   pub kind : IsCarriedAs physical.Null g.arrow_type
   pub unbound : g.sources ≡ None
   pub nulls : g.rows ≡ replicate g.count Null
+
+-- it has not failed, and its rows with so many more are more than a usize counts
+abbrev pub CannotCount : Grown → ℕ → Type 0
+CannotCount g n = (g.failed ≡ false) × (2 ^ 64 ≤ g.count + n)
 
 -- an array of the null type as contracts of arrays of any type see it
 abbrev pub null_layout : NullParts → Layout

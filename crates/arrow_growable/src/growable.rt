@@ -34,6 +34,9 @@ pub trait Growable<'a> {
 
     /// Appends `len` rows of bound array `index`, from row `start` on.
     ///
+    /// # Requires
+    /// `index` is that of a bound array, and `start + len` at most the count of its rows.
+    ///
     /// # Errors
     /// `Failed` where an earlier call refused; `Overflow` only where the rows do not fit the type or one
     /// of those named is crowded; `OutOfMemory` where memory is refused.

@@ -95,6 +95,9 @@ impl Bitmap {
     }
 
     /// Whether bit `i` is set.
+    ///
+    /// # Requires
+    /// `i` is below the count of bits.
     pub fn get_bit(&self, i: usize) -> bool
         requires { i < length self.now }
         ensures { slice_get self.now i ≡ Some result }
@@ -111,6 +114,9 @@ impl Bitmap {
     }
 
     /// Keeps `len` bits from place `offset` on. Nothing is copied.
+    ///
+    /// # Requires
+    /// `offset + len` is at most the count of bits.
     pub fn slice(&mut self, offset: usize, len: usize)
         requires { offset + len ≤ length self.old }
         ensures { self.new ≡ sliced self.old offset len }
@@ -120,6 +126,9 @@ impl Bitmap {
     }
 
     /// The `len` bits from place `offset` on. Nothing is copied.
+    ///
+    /// # Requires
+    /// `offset + len` is at most the count of bits.
     pub fn sliced(self, offset: usize, len: usize) -> Bitmap
         requires { offset + len ≤ length self }
         ensures { result ≡ sliced self offset len }
@@ -130,6 +139,9 @@ impl Bitmap {
     }
 
     /// The bits that are set in both, word by word.
+    ///
+    /// # Requires
+    /// Both have as many bits.
     ///
     /// # Errors
     /// `OutOfMemory` as of [`Bitmap::new_zeroed`].
@@ -147,6 +159,9 @@ impl Bitmap {
     }
 
     /// The bits that are set in one at least, word by word.
+    ///
+    /// # Requires
+    /// Both have as many bits.
     ///
     /// # Errors
     /// `OutOfMemory` as of [`Bitmap::new_zeroed`].

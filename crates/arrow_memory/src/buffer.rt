@@ -72,6 +72,9 @@ impl<T> Buffer<T> {
     }
 
     /// Keeps `len` values from place `offset` on. Nothing is copied.
+    ///
+    /// # Requires
+    /// `offset + len` is at most the count of values.
     pub fn slice(&mut self, offset: usize, len: usize)
         requires { offset + len ≤ length self.old }
         ensures { self.new ≡ sliced self.old offset len }
@@ -81,6 +84,9 @@ impl<T> Buffer<T> {
     }
 
     /// The `len` values from place `offset` on. Nothing is copied.
+    ///
+    /// # Requires
+    /// `offset + len` is at most the count of values.
     pub fn sliced(self, offset: usize, len: usize) -> Buffer<T>
         requires { offset + len ≤ length self }
         ensures { result ≡ sliced self offset len }

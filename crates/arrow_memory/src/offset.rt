@@ -77,6 +77,9 @@ impl<O: Offset> OffsetsBuffer<O> {
     }
 
     /// Where row `i` begins and ends.
+    ///
+    /// # Requires
+    /// `i + 1` is below the count of offsets.
     pub fn start_end(&self, i: usize) -> (usize, usize)
         requires { i + 1 < length self.now }
         ensures start { result.0 ≡ slice_index self.now i }
@@ -102,6 +105,9 @@ impl<O: Offset> OffsetsBuffer<O> {
     }
 
     /// Keeps `len` offsets from place `offset` on: those of `len - 1` rows. Nothing is copied.
+    ///
+    /// # Requires
+    /// `len` is at least 1, and `offset + len` at most the count of offsets.
     pub fn slice(&mut self, offset: usize, len: usize)
         requires part { offset + len ≤ length self.old }
         requires some { 0 < len }
@@ -215,7 +221,11 @@ impl<O: Offset> Offsets<O> {
         Ok(())
     }
 
-    /// Appends `len` rows of other offsets, from row `start` on: as long as they are there.
+    /// Appends `len` rows of other offsets, from row `start` on: the last offset counted on by their
+    /// lengths.
+    ///
+    /// # Requires
+    /// `start + len` is below the count of the other offsets.
     ///
     /// # Errors
     /// As of [`Offsets::try_push_usize`].

@@ -16,8 +16,11 @@ use arrow_growable::growable::{Growable, make_growable};
 use arrow_types::error::{ArgumentFault, Error};
 use std::alloc::Global;
 
-/// The rows of all arrays, one array behind the other, in an array of their data type. The data types
-/// must be without children.
+/// The rows of all arrays, one array behind the other, in an array of their data type.
+///
+/// # Requires
+/// Each data type is one without children: by its physical type Null, Boolean, Primitive, Utf8,
+/// LargeUtf8, Binary, LargeBinary or FixedSizeBinary.
 ///
 /// # Errors
 /// `ConcatenateEmpty` of no array, `ConcatenateTypes` where two data types differ; then `Overflow` where

@@ -17,8 +17,11 @@ use arrow_types::error::Error;
 use std::alloc::Global;
 
 /// The rows at which the predicate is true, in order, in an array of the same type. A null of the
-/// predicate counts as false, whatever is stored beneath it. The predicate has a row for each row of the
-/// array, whose data type must be without children.
+/// predicate counts as false, whatever is stored beneath it.
+///
+/// # Requires
+/// The predicate has as many rows as the array, and the array's data type is one without children: by
+/// its physical type Null, Boolean, Primitive, Utf8, LargeUtf8, Binary, LargeBinary or FixedSizeBinary.
 ///
 /// # Errors
 /// `Overflow` where the rows do not fit the type, and `OutOfMemory` where memory is refused.

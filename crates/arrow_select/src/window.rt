@@ -17,8 +17,12 @@ use arrow_types::error::{ArgumentFault, Error};
 use std::alloc::Global;
 
 /// The rows moved by `offset` places, in an array of the same type: for an offset above 0, so many null
-/// slots and then all rows but the last ones; else all rows but the first ones, and then the null slots.
-/// The data type must be without children.
+/// slots and then all rows but the last ones; else all rows but the first ones, and then the null
+/// slots.
+///
+/// # Requires
+/// The data type is one without children: by its physical type Null, Boolean, Primitive, Utf8,
+/// LargeUtf8, Binary, LargeBinary or FixedSizeBinary.
 ///
 /// # Errors
 /// `ShiftOffset` where the offset is the least number or passes the count of rows, either way; then

@@ -130,8 +130,10 @@ fn answer_lines<R: Source, W: Sink>(
     Ok(())
 }
 
-/// Answers each line of the input by a line of output, and tells whether some line was refused.
-/// A line ends at a line feed, or with the input, which also counts as ended after 2^64 - 1 reads.
+/// Answers each line of the input by a line of output, and tells whether some line was refused. A line
+/// ends at a line feed, or with the input, which also counts as ended after 2^64 - 1 reads.
+///
+/// # Requires
 /// Neither stream has failed yet.
 ///
 /// # Errors

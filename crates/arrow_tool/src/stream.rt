@@ -19,8 +19,10 @@ pub trait Source {
     /// The bytes that it will give, where they are known.
     ghost remaining: { Self → Option (List ℕ) } = { λ _. None };
 
-    /// Reads some bytes to the front of the buffer, which is not empty, and answers how many. None
-    /// is the end of the input.
+    /// Reads some bytes to the front of the buffer, and answers how many. None is the end of the input.
+    ///
+    /// # Requires
+    /// The buffer is not empty.
     ///
     /// # Errors
     /// `Fault` where the read failed; `failed` then answers true.
@@ -44,8 +46,10 @@ pub trait Sink {
     /// The bytes that it holds, where they are known.
     ghost contents: { Self → Option (List ℕ) } = { λ _. None };
 
-    /// Writes some bytes from the front of the slice, which is not empty, and answers how many: at
-    /// least one.
+    /// Writes some bytes from the front of the slice, and answers how many: at least one.
+    ///
+    /// # Requires
+    /// The slice is not empty.
     ///
     /// # Errors
     /// `Fault` where the write failed; `failed` then answers true.

@@ -5,3 +5,5 @@
 pub mod datatypes;
 pub mod error;
 pub mod types;
+
+pub use error::{ArgumentFault, Error, SpecPart, Unsupported};

@@ -107,6 +107,9 @@ impl AnyArray {
     }
 
     /// Keeps `len` rows from row `offset` on. Nothing is copied.
+    ///
+    /// # Requires
+    /// `offset + len` is at most the count of rows.
     #[cycle(slice)]
     pub fn slice(&mut self, offset: usize, len: usize)
         requires { offset + len ≤ length (any_array_rows self.old) }
@@ -117,6 +120,9 @@ impl AnyArray {
     }
 
     /// The `len` rows from row `offset` on. Nothing is copied.
+    ///
+    /// # Requires
+    /// `offset + len` is at most the count of rows.
     pub fn sliced(self, offset: usize, len: usize) -> AnyArray
         requires { offset + len ≤ length (any_array_rows self) }
         ensures part { layout_of result ≡ part_of (layout_of self) offset len }
@@ -202,6 +208,7 @@ impl AnyArray {
 fn have_one_kind(left: &AnyArray, right: &AnyArray)
     ensures { any_array_type left.now ≡ any_array_type right.now → kind_of left.now ≡ kind_of right.now }
 {
+    // The kind of each follows from its data type.
     let _ = left.data_type();
     let _ = right.data_type();
 }

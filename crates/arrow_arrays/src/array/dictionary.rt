@@ -93,6 +93,7 @@ impl DictionaryArray {
         ensures carried { IsCarried self.now.arrow_type }
         ensures kind { kind_in (physical_type_of self.now.arrow_type) ≡ dictionary_kind }
     {
+        // The data type names the type of the keys, so it is a dictionary's.
         let _ = self.keys.key_type();
         &self.data_type
     }
@@ -144,6 +145,9 @@ impl DictionaryArray {
     }
 
     /// Keeps `len` rows from row `offset` on. Nothing is copied.
+    ///
+    /// # Requires
+    /// `offset + len` is at most the count of rows.
     pub fn slice(&mut self, offset: usize, len: usize)
         requires { offset + len ≤ length (keyed_rows self.old) }
         ensures part { self.new ≡ keyed_part self.old offset len }
@@ -153,6 +157,9 @@ impl DictionaryArray {
     }
 
     /// The `len` rows from row `offset` on. Nothing is copied.
+    ///
+    /// # Requires
+    /// `offset + len` is at most the count of rows.
     pub fn sliced(self, offset: usize, len: usize) -> DictionaryArray
         requires { offset + len ≤ length (keyed_rows self) }
         ensures part { result ≡ keyed_part self offset len }

@@ -145,6 +145,9 @@ impl FixedSizeListArray {
     }
 
     /// Keeps `len` rows from row `offset` on. Nothing is copied.
+    ///
+    /// # Requires
+    /// `offset + len` is at most the count of rows.
     #[cycle(slice)]
     pub fn slice(&mut self, offset: usize, len: usize)
         requires { offset + len ≤ length (fixed_list_rows self.old) }
@@ -156,6 +159,9 @@ impl FixedSizeListArray {
     }
 
     /// The `len` rows from row `offset` on. Nothing is copied.
+    ///
+    /// # Requires
+    /// `offset + len` is at most the count of rows.
     pub fn sliced(self, offset: usize, len: usize) -> FixedSizeListArray
         requires { offset + len ≤ length (fixed_list_rows self) }
         ensures part { result ≡ fixed_list_part self offset len }
@@ -167,6 +173,9 @@ impl FixedSizeListArray {
     }
 
     /// The same items under another validity: a row is null where a bit is not set.
+    ///
+    /// # Requires
+    /// A validity has a bit for each row.
     pub fn with_validity(self, validity: Option<Bitmap>) -> FixedSizeListArray
         requires { FitsRows validity (length (rows self.child) / self.size) }
         ensures { result ≡ fixed_list_with_bits self validity }

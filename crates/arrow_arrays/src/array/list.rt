@@ -49,6 +49,9 @@ impl AnyOffsetsBuffer {
     }
 
     /// Where row `i` begins and ends.
+    ///
+    /// # Requires
+    /// `i` is below the count of rows.
     pub fn start_end(&self, i: usize) -> (usize, usize)
         requires { i + 1 < length (offsets_of self.now) }
         ensures start { result.0 ≡ slice_index (offsets_of self.now) i }
@@ -182,6 +185,7 @@ impl ListArray {
         ensures carried { IsCarried self.now.arrow_type }
         ensures kind { kind_in (physical_type_of self.now.arrow_type) ≡ list_kind }
     {
+        // The data type names the width of the offsets, so it is a list's.
         let _ = self.offsets.physical_type();
         &self.data_type
     }
@@ -236,6 +240,9 @@ impl ListArray {
     }
 
     /// Keeps `len` rows from row `offset` on. Nothing is copied.
+    ///
+    /// # Requires
+    /// `offset + len` is at most the count of rows.
     pub fn slice(&mut self, offset: usize, len: usize)
         requires { offset + len ≤ length (list_rows self.old) }
         ensures part { self.new ≡ list_part self.old offset len }
@@ -247,6 +254,9 @@ impl ListArray {
     }
 
     /// The `len` rows from row `offset` on. Nothing is copied.
+    ///
+    /// # Requires
+    /// `offset + len` is at most the count of rows.
     pub fn sliced(self, offset: usize, len: usize) -> ListArray
         requires { offset + len ≤ length (list_rows self) }
         ensures part { result ≡ list_part self offset len }
@@ -258,6 +268,9 @@ impl ListArray {
     }
 
     /// The same items under another validity: a row is null where a bit is not set.
+    ///
+    /// # Requires
+    /// A validity has a bit for each row.
     pub fn with_validity(self, validity: Option<Bitmap>) -> ListArray
         requires { FitsRows validity (length self.offsets - 1) }
         ensures { result ≡ list_with_bits self validity }

@@ -156,6 +156,9 @@ impl MapArray {
     }
 
     /// Keeps `len` rows from row `offset` on. Nothing is copied.
+    ///
+    /// # Requires
+    /// `offset + len` is at most the count of rows.
     pub fn slice(&mut self, offset: usize, len: usize)
         requires { offset + len ≤ length (list_rows self.old) }
         ensures part { self.new ≡ list_part self.old offset len }
@@ -167,6 +170,9 @@ impl MapArray {
     }
 
     /// The `len` rows from row `offset` on. Nothing is copied.
+    ///
+    /// # Requires
+    /// `offset + len` is at most the count of rows.
     pub fn sliced(self, offset: usize, len: usize) -> MapArray
         requires { offset + len ≤ length (list_rows self) }
         ensures part { result ≡ list_part self offset len }
@@ -178,6 +184,9 @@ impl MapArray {
     }
 
     /// The same entries under another validity: a row is null where a bit is not set.
+    ///
+    /// # Requires
+    /// A validity has a bit for each row.
     pub fn with_validity(self, validity: Option<Bitmap>) -> MapArray
         requires { FitsRows validity (length self.offsets - 1) }
         ensures { result ≡ list_with_bits self validity }

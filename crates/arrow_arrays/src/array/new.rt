@@ -24,8 +24,10 @@ use arrow_types::datatypes::{DataType, Field, IntegerType, PhysicalType, UnionMo
 use arrow_types::error::Error;
 use std::alloc::Global;
 
-/// An array of a data type, which must be carried, without rows. It takes the memory of the data types
-/// of all children.
+/// An array of a data type, without rows. It takes the memory of the data types of all children.
+///
+/// # Requires
+/// The data type is carried (`DataType::is_carried`).
 ///
 /// # Errors
 /// `OutOfMemory` where memory is refused.
@@ -41,10 +43,13 @@ pub fn new_empty_array(alloc: Global, data_type: DataType) -> Result<AnyArray, E
     new_null_array(alloc, data_type, 0)
 }
 
-/// An array of `length` null slots of a data type, which must be carried. A row is null, but for a
-/// union's, which has no validity: it is a null slot of its first field. All such rows of a dense union
-/// are one row of that field. What lies beneath nulls is zeros, and lists are empty, but for lists of a
-/// fixed size, whose items are null slots too.
+/// An array of `length` null slots of a data type. A row is null, but for a union's, which has no
+/// validity: it is a null slot of its first field. All such rows of a dense union are one row of that
+/// field. What lies beneath nulls is zeros, and lists are empty, but for lists of a fixed size, whose
+/// items are null slots too.
+///
+/// # Requires
+/// The data type is carried (`DataType::is_carried`).
 ///
 /// # Errors
 /// `Overflow` where the bytes of a fixed size, or the items of lists of a fixed size, are not counted by

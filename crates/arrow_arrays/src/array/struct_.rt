@@ -136,6 +136,9 @@ impl StructArray {
     }
 
     /// Keeps `len` rows from row `offset` on. Nothing is copied.
+    ///
+    /// # Requires
+    /// `offset + len` is at most the count of rows.
     #[cycle(slice)]
     pub fn slice(&mut self, offset: usize, len: usize)
         requires { offset + len ≤ length (struct_rows self.old) }
@@ -147,6 +150,9 @@ impl StructArray {
     }
 
     /// The `len` rows from row `offset` on. Nothing is copied.
+    ///
+    /// # Requires
+    /// `offset + len` is at most the count of rows.
     pub fn sliced(self, offset: usize, len: usize) -> StructArray
         requires { offset + len ≤ length (struct_rows self) }
         ensures part { result ≡ struct_part self offset len }
@@ -158,6 +164,9 @@ impl StructArray {
     }
 
     /// The same columns under another validity: a row is null where a bit is not set.
+    ///
+    /// # Requires
+    /// A validity has a bit for each row.
     pub fn with_validity(self, validity: Option<Bitmap>) -> StructArray
         requires { FitsRows validity (row_count self.children) }
         ensures { result ≡ struct_with_bits self validity }

@@ -86,6 +86,7 @@ impl UnionArray {
         ensures sound { OnOk result (IsUnion offsets (record { arrow_type = type_of data_type; types = types; places = places_of offsets; start = 0; children = map layout_of fields.items })) }
         ensures fault { IfErr result (IsUnionFault (type_of data_type) types (map layout_of fields.items) offsets) }
     {
+        // There are at most as many rows as a `usize` counts.
         let _ = types.len();
         check_union(&data_type, &types, &fields, &offsets)?;
         Ok(UnionArray {
@@ -141,6 +142,9 @@ impl UnionArray {
     }
 
     /// Which field row `i` lies in, by its place among the fields, and in which row of it.
+    ///
+    /// # Requires
+    /// `i` is below the count of rows.
     pub fn index(&self, i: usize) -> (usize, usize)
         requires { i < length self.now.types }
         ensures row { slice_index_or (union_rows self.now) i Null ≡ Variant (slice_index_or self.now.types i (pos 0)) (row_in self.now.children result.0 result.1) }
@@ -148,6 +152,7 @@ impl UnionArray {
         ensures field { FindsField (field_ids self.now.arrow_type) (length self.now.children) (slice_index_or self.now.types i (pos 0)) (Some result.0) }
         ensures within { result.1 < length (rows_of_field self.now.children result.0) }
     {
+        // Its reading opens the parts, so that each row lies in a field.
         let _ = &self.data_type;
         (self.field_of(i), self.place_of(i))
     }
@@ -204,6 +209,9 @@ impl UnionArray {
     }
 
     /// Keeps `len` rows from row `offset` on. Nothing is copied; the children stay whole.
+    ///
+    /// # Requires
+    /// `offset + len` is at most the count of rows.
     pub fn slice(&mut self, offset: usize, len: usize)
         requires { offset + len ≤ length (union_rows self.old) }
         ensures part { self.new ≡ union_part self.old offset len }
@@ -217,6 +225,9 @@ impl UnionArray {
     }
 
     /// The `len` rows from row `offset` on. Nothing is copied.
+    ///
+    /// # Requires
+    /// `offset + len` is at most the count of rows.
     pub fn sliced(self, offset: usize, len: usize) -> UnionArray
         requires { offset + len ≤ length (union_rows self) }
         ensures part { result ≡ union_part self offset len }

@@ -136,6 +136,9 @@ impl AnyPrimitive {
     }
 
     /// Keeps `len` rows from row `offset` on. Nothing is copied.
+    ///
+    /// # Requires
+    /// `offset + len` is at most the count of rows.
     pub fn slice(&mut self, offset: usize, len: usize)
         requires { offset + len ≤ length (any_rows self.old) }
         ensures same { any_type self.new ≡ any_type self.old }
@@ -145,6 +148,9 @@ impl AnyPrimitive {
     }
 
     /// The `len` rows from row `offset` on. Nothing is copied.
+    ///
+    /// # Requires
+    /// `offset + len` is at most the count of rows.
     pub fn sliced(self, offset: usize, len: usize) -> AnyPrimitive
         requires { offset + len ≤ length (any_rows self) }
         ensures same { any_type result ≡ any_type self }
@@ -155,8 +161,12 @@ impl AnyPrimitive {
         part
     }
 
-    /// Whether `len` rows from row `start` on are the same as those of the other from row
-    /// `other_start` on, null or not. Both arrays have the same element type.
+    /// Whether `len` rows from row `start` on are the same as those of the other from row `other_start`
+    /// on, null or not.
+    ///
+    /// # Requires
+    /// Both arrays have the same element type; `start + len` is at most the count of rows, and
+    /// `other_start + len` at most that of the other.
     pub fn equal_range(
         &self,
         start: usize,

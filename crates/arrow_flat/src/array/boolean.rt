@@ -88,6 +88,9 @@ impl FlatArray<Bitmap> {
     }
 
     /// The value of row `i`; of a null row, what is stored beneath it.
+    ///
+    /// # Requires
+    /// `i` is below the count of rows.
     pub fn value(&self, i: usize) -> bool
         requires { i < length self.now.values }
         ensures { slice_get self.now.values i ≡ Some result }

@@ -297,6 +297,9 @@ impl<O: Offset, K: ByteKind> FlatArray<ByteRows<O, K>> {
 
 impl<O: Offset> FlatArray<ByteRows<O, Text>> {
     /// The text of row `i`; of a null row, what is stored beneath it.
+    ///
+    /// # Requires
+    /// `i` is below the count of rows.
     pub fn value(&self, i: usize) -> &str
         requires { i < length (row_bytes self.now.values) }
         ensures { slice_get (row_bytes self.now.values) i ≡ Some result.now }
@@ -307,6 +310,9 @@ impl<O: Offset> FlatArray<ByteRows<O, Text>> {
 
 impl<O: Offset> FlatArray<ByteRows<O, Binary>> {
     /// The bytes of row `i`; of a null row, what is stored beneath it.
+    ///
+    /// # Requires
+    /// `i` is below the count of rows.
     pub fn value(&self, i: usize) -> &[u8]
         requires { i < length (row_bytes self.now.values) }
         ensures { slice_get (row_bytes self.now.values) i ≡ Some result.now }

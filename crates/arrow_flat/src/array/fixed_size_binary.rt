@@ -177,6 +177,9 @@ impl FlatArray<FixedRows> {
     }
 
     /// The bytes of row `i`; of a null row, what is stored beneath it.
+    ///
+    /// # Requires
+    /// `i` is below the count of rows.
     pub fn value(&self, i: usize) -> &[u8]
         requires { i < length (fixed_row_bytes self.now.values) }
         ensures { slice_get (fixed_row_bytes self.now.values) i ≡ Some result.now }

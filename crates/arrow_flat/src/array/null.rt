@@ -94,6 +94,9 @@ impl NullArray {
     }
 
     /// Keeps `len` rows from row `offset` on.
+    ///
+    /// # Requires
+    /// `offset + len` is at most the count of rows.
     pub fn slice(&mut self, offset: usize, len: usize)
         requires { offset + len ≤ length (null_rows self.old) }
         ensures part { self.new ≡ record { arrow_type = self.old.arrow_type; count = len } }
@@ -103,6 +106,9 @@ impl NullArray {
     }
 
     /// The `len` rows from row `offset` on.
+    ///
+    /// # Requires
+    /// `offset + len` is at most the count of rows.
     pub fn sliced(self, offset: usize, len: usize) -> NullArray
         requires { offset + len ≤ length (null_rows self) }
         ensures part { result ≡ record { arrow_type = self.arrow_type; count = len } }

@@ -89,6 +89,9 @@ impl<T: NativeType> FlatArray<Buffer<T>> {
     }
 
     /// The value of row `i`; of a null row, what is stored beneath it.
+    ///
+    /// # Requires
+    /// `i` is below the count of rows.
     pub fn value(&self, i: usize) -> T
         requires { i < length self.now.values }
         ensures { slice_get self.now.values i ≡ Some result }

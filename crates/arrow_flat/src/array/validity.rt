@@ -19,6 +19,9 @@ pub fn fits_rows(validity: &Option<Bitmap>, len: usize) -> bool
 }
 
 /// Whether row `i` is valid.
+///
+/// # Requires
+/// Where there are bits, `i` is below their count.
 pub fn is_valid(validity: &Option<Bitmap>, i: usize) -> bool
     requires { IfSome validity.now (λ bits. i < length bits) }
     ensures { result ≡ valid_at validity.now i }
@@ -40,6 +43,9 @@ pub fn unset_bits(validity: &Option<Bitmap>) -> usize
 }
 
 /// Keeps the bits of `len` rows from row `offset` on.
+///
+/// # Requires
+/// Where there are bits, `offset + len` is at most their count.
 pub fn slice(validity: &mut Option<Bitmap>, offset: usize, len: usize)
     requires { IfSome validity.old (λ bits. offset + len ≤ length bits) }
     ensures { validity.new ≡ option_map (λ bits. sliced bits offset len) validity.old }

@@ -73,6 +73,7 @@ impl GrowableValues for GrowableBits {
         array: &BooleanArray,
         capacity: usize,
     ) -> Result<GrowableBits, Error> {
+        // That rows of the type are stored so follows from the array.
         let _ = array.data_type();
         let bits = MutableBitmap::with_capacity(alloc, capacity)?;
         Ok(GrowableBits { alloc, bits })

@@ -68,6 +68,9 @@ pub trait AnyRows<O> {
     ghost any_kind: { Kind };
 
     /// An array of any type as one of such rows.
+    ///
+    /// # Requires
+    /// The array has such rows: texts or bytes, under offsets of this type.
     fn of_any(array: &AnyArray) -> &FlatArray<Self::Rows>
         requires { kind_of array.now ≡ any_kind }
         ensures { rows_layout Self.Rows.slots result.now ≡ layout_of array.now };
@@ -185,6 +188,7 @@ impl<O: Offset, K: GrowableKind> GrowableBytes<O, K> {
         ensures rows { result ≡ length (row_bytes self.now) }
         ensures bytes { total (row_bytes self.now) ≤ O.greatest }
     {
+        // The last offset is the count of all bytes, and at most the greatest of its type.
         let _ = self.offsets.last().to_usize();
         self.offsets.len() - 1
     }
@@ -393,6 +397,7 @@ impl<O: Offset, K: GrowableKind + AnyRows<O, Rows = ByteRows<O, K>>> GrowableVal
         array: &FlatArray<ByteRows<O, K>>,
         capacity: usize,
     ) -> Result<GrowableBytes<O, K>, Error> {
+        // That rows of the type are stored so follows from the array.
         let _ = array.data_type();
         GrowableBytes::empty(alloc, capacity)
     }
@@ -408,12 +413,14 @@ impl<O: Offset, K: GrowableKind + AnyRows<O, Rows = ByteRows<O, K>>> GrowableVal
         len: usize,
     ) -> Result<(), Error> {
         self.append(array, start, len)?;
+        // The bytes are then at most the greatest offset, so the rows fit.
         let _ = self.len();
         Ok(())
     }
 
     fn extend_nulls(&mut self, additional: usize) -> Result<(), Error> {
         self.append_empty(additional)?;
+        // The bytes are then at most the greatest offset, so the rows fit.
         let _ = self.len();
         Ok(())
     }

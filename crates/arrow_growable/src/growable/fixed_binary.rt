@@ -102,6 +102,7 @@ impl GrowableValues for GrowableFixedRows {
         array: &FixedSizeBinaryArray,
         capacity: usize,
     ) -> Result<GrowableFixedRows, Error> {
+        // That rows of the type are stored so, and their size, follow from the array.
         let _ = array.data_type();
         let size = array.size();
         let Some(room) = capacity.checked_mul(size) else {
@@ -129,6 +130,7 @@ impl GrowableValues for GrowableFixedRows {
         len: usize,
     ) -> Result<(), Error> {
         let size = array.size();
+        // That rows of the type are stored so, and their size, follow from the array.
         let _ = array.data_type();
         let (count, _) = grown(self.count, len, size)?;
         let bytes = array.values().as_slice();

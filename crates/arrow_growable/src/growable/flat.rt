@@ -80,6 +80,9 @@ pub trait GrowableValues: Drop {
         ensures err { IsOkUnless result Error.OutOfMemory };
 
     /// Appends what is stored of `len` rows of an array from row `start` on.
+    ///
+    /// # Requires
+    /// The array's data type is stored so, and `start + len` is at most the count of its rows.
     fn extend(&mut self, array: &Self::Array, start: usize, len: usize) -> Result<(), Error>
         requires kind { are_of self.old (type_in array.now) }
         requires within { start + len ≤ length (stored_in array.now) }
@@ -98,6 +101,9 @@ pub trait GrowableValues: Drop {
         ensures others { IfErr result IsGrowthError };
 
     /// An array of these rows under a validity.
+    ///
+    /// # Requires
+    /// The data type is carried, and its rows are stored so; a validity has a bit for each row.
     fn into_array(self, data_type: DataType, validity: Option<Bitmap>) -> Result<Self::Array, Error>
         requires carried { IsCarried (type_of data_type) }
         requires kind { are_of self (type_of data_type) }
@@ -107,6 +113,9 @@ pub trait GrowableValues: Drop {
         ensures err { IsOkUnless result Error.OutOfMemory };
 
     /// An array of any type as one whose rows are stored so.
+    ///
+    /// # Requires
+    /// The array's rows are stored so.
     fn of_any(array: &AnyArray) -> &Self::Array
         requires { kind_of array.now ≡ kind }
         ensures { flat_layout type_in bits_in stored_in result.now ≡ layout_of array.now };
@@ -174,6 +183,9 @@ impl<'a, G: GrowableValues> FlatGrowable<'a, G> {
     /// A growable without rows, to which rows of these arrays, of one data type, can be appended, with
     /// room for `capacity` rows. With `use_validity` it keeps a validity from the first row on, and else
     /// once a row may be null; no row depends on that.
+    ///
+    /// # Requires
+    /// There is an array at least, and all are of one data type.
     ///
     /// # Errors
     /// `OutOfMemory` where memory is refused, as for a capacity that is too great.

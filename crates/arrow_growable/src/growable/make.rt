@@ -19,8 +19,12 @@ use arrow_types::types::PrimitiveType;
 use std::alloc::Global;
 
 /// A growable without rows, to which rows of these arrays, of one data type, can be appended, with room
-/// for `capacity` rows. The data type must be one without children. With `use_validity` it keeps a
-/// validity from the first row on, and else once a row may be null; no row depends on that.
+/// for `capacity` rows. With `use_validity` it keeps a validity from the first row on, and else once a
+/// row may be null; no row depends on that.
+///
+/// # Requires
+/// There is an array at least, and all are of one data type, which has no children: by its physical
+/// type Null, Boolean, Primitive, Utf8, LargeUtf8, Binary, LargeBinary or FixedSizeBinary.
 ///
 /// # Errors
 /// `OutOfMemory` where memory is refused, as for a capacity that is too great.
@@ -80,6 +84,7 @@ fn bound<'a, G: GrowableValues>(
 {
     let mut flat = Vec::with_capacity(alloc, arrays.len())?;
     for array in arrays {
+        // The kind of each array follows from its data type.
         let _ = array.data_type();
         flat.push(G::of_any(*array))?;
     }
@@ -96,6 +101,7 @@ fn bound_nulls<'a>(alloc: Global, arrays: &[&'a AnyArray]) -> Result<BoundNulls<
 {
     let mut nulls: Vec<&'a NullArray> = Vec::with_capacity(alloc, arrays.len())?;
     for array in arrays {
+        // The kind of each array follows from its data type.
         let _ = array.data_type();
         nulls.push(as_null(*array))?;
     }
@@ -127,6 +133,7 @@ fn bound_primitives<'a>(
     ensures ok { IfOk result (λ growable. primitive_grown_of growable ≡ bound_to (map (λ a. layout_of a.now) arrays.now)) }
     ensures err { IsOkUnless result Error.OutOfMemory }
 {
+    // The type is carried, so its elements are none of the floats.
     let _ = arrays[0].data_type();
     match element {
         PrimitiveType::Int8 => {

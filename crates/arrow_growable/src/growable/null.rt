@@ -1,6 +1,6 @@
 //! Arrays of the null type under construction.
 
-ghost use Rattle.std.specs.Prelude.{◌≡◌, ◌+◌, ◌<◌, ◌≤◌, ◌^◌, ◌↔◌, length, map, replicate, true, false, None, Ok, Err, Some, IfOk, IfErr, OnOk, OnErr, IsOkUnless};
+ghost use Rattle.std.specs.Prelude.{◌≡◌, ◌<◌, ◌^◌, ◌↔◌, length, map, replicate, true, None, Err, Some, IfOk, IfErr, OnOk, OnErr, IsOkUnless};
 ghost use Rattle.arrow_types.specs.declared.error.Error.{Error};
 ghost use Rattle.arrow_types.specs.declared.datatypes.physical_type.PhysicalType.TheVariants as physical;
 ghost use Rattle.arrow_types.specs.ArrowType.{plain, null};
@@ -9,18 +9,21 @@ ghost use Rattle.arrow_types.specs.TypeOf.{type_of};
 ghost use Rattle.arrow_flat.specs.Faults.{IsCarriedAs};
 ghost use Rattle.arrow_flat.specs.NullParts.{null_rows};
 ghost use Rattle.arrow_growable.specs.Grown.{AreOfOneType, HasFailed, IsFailedOrMemory, IsFailedOrOverflow, IsRefusal, FitsItself, FitsWith, NamesCrowded, appended, bound_to, empty_over, named_rows, null_rows_of};
-ghost use Rattle.arrow_growable.specs.Nulls.{IsGrownNull, null_layout};
+ghost use Rattle.arrow_growable.specs.Nulls.{CannotCount, IsGrownNull, null_layout};
 
 use crate::growable::Growable;
 use arrow_arrays::array::AnyArray;
 use arrow_flat::array::NullArray;
 use arrow_types::datatypes::DataType;
 use arrow_types::error::Error;
+use std::alloc::Global;
 use std::marker::Model;
 
 /// An array of the null type under construction. It binds no array: any rows that are named are null.
 #[derive(Drop)]
 pub struct GrowableNull {
+    // held as each growable holds its own; no call of this one takes memory by it
+    alloc: Option<Global>,
     data_type: DataType,
     len: usize,
     has_failed: bool,
@@ -45,11 +48,23 @@ impl Model for GrowableNull {
 
 impl GrowableNull {
     /// A growable without rows, of a data type that lies in memory as the null type does.
-    pub fn new(data_type: DataType) -> GrowableNull
+    ///
+    /// # Requires
+    /// The data type is carried, and its physical type is Null.
+    pub fn new(alloc: Global, data_type: DataType) -> GrowableNull
+        requires { IsCarriedAs physical.Null (type_of data_type) }
+        ensures { result ≡ empty_over (type_of data_type) None }
+    {
+        GrowableNull::empty(Some(alloc), data_type)
+    }
+
+    /// A growable without rows, under an allocator or none.
+    fn empty(alloc: Option<Global>, data_type: DataType) -> GrowableNull
         requires { IsCarriedAs physical.Null (type_of data_type) }
         ensures { result ≡ empty_over (type_of data_type) None }
     {
         GrowableNull {
+            alloc,
             data_type,
             len: 0,
             has_failed: false,
@@ -76,7 +91,7 @@ impl GrowableNull {
         ensures ok { OnOk result (self.new ≡ appended self.old (replicate additional Null)) }
         ensures err { OnErr result (HasFailed self.old self.new) }
         ensures failed { (result ≡ Err Error.Failed) ↔ (self.old.failed ≡ true) }
-        ensures overflow { result ≡ Err Error.Overflow → 2 ^ 64 ≤ self.old.count + additional }
+        ensures overflow { (result ≡ Err Error.Overflow) ↔ CannotCount self.old additional }
         ensures others { IfErr result IsRefusal }
         ensures takes_no_memory { IfErr result IsFailedOrOverflow }
         ensures fits { OnOk result (self.new.count < 2 ^ 64) }
@@ -106,20 +121,23 @@ fn null_array(data_type: DataType, len: usize) -> NullArray
     array
 }
 
-/// No rows of the null type itself.
+/// No rows of the null type itself, and no allocator.
 impl Default for GrowableNull {
     ghost is_default = { λ growable. growable ≡ empty_over (plain null) None };
 
     fn default() -> GrowableNull {
-        GrowableNull::new(DataType::Null)
+        GrowableNull::empty(None, DataType::Null)
     }
 }
 
 impl<'a> Growable<'a> for GrowableNull {
     ghost state = { λ g. g };
 
-    /// Appends `len` nulls, whatever is named. It takes no memory: of one that has not failed it
-    /// answers `Ok`, or `Overflow` exactly where there are to be more than 2^64 - 1 rows.
+    /// Appends `len` nulls, whatever is named. It takes no memory.
+    ///
+    /// # Errors
+    /// `Failed` exactly where an earlier call refused, and else `Overflow` exactly where there are to be
+    /// more than 2^64 - 1 rows.
     fn extend(&mut self, index: usize, start: usize, len: usize) -> Result<(), Error>
         ensures ok { OnOk result (self.new ≡ appended self.old (named_rows self.old index start len)) }
         ensures fits { OnOk result (FitsItself self.new) }
@@ -128,13 +146,16 @@ impl<'a> Growable<'a> for GrowableNull {
         ensures overflow { result ≡ Err Error.Overflow → FitsWith self.old (named_rows self.old index start len) → NamesCrowded self.old index start len }
         ensures others { IfErr result IsRefusal }
         ensures takes_no_memory { IfErr result IsFailedOrOverflow }
-        ensures exact { result ≡ Err Error.Overflow → 2 ^ 64 ≤ self.old.count + len }
+        ensures exact { (result ≡ Err Error.Overflow) ↔ CannotCount self.old len }
     {
         let _ = (index, start);
         self.extend_nulls(len)
     }
 
-    /// Appends so many nulls, as `extend` does.
+    /// Appends so many nulls. It takes no memory.
+    ///
+    /// # Errors
+    /// As of `extend`.
     fn extend_validity(&mut self, additional: usize) -> Result<(), Error>
         ensures ok { OnOk result (self.new ≡ appended self.old (null_rows_of self.old additional)) }
         ensures fits { OnOk result (FitsItself self.new) }
@@ -143,7 +164,7 @@ impl<'a> Growable<'a> for GrowableNull {
         ensures overflow { result ≡ Err Error.Overflow → FitsWith self.old (null_rows_of self.old additional) → ⊥ }
         ensures others { IfErr result IsRefusal }
         ensures takes_no_memory { IfErr result IsFailedOrOverflow }
-        ensures exact { result ≡ Err Error.Overflow → 2 ^ 64 ≤ self.old.count + additional }
+        ensures exact { (result ≡ Err Error.Overflow) ↔ CannotCount self.old additional }
     {
         self.extend_nulls(additional)
     }
@@ -189,6 +210,9 @@ impl<'a> Model for BoundNulls<'a> {
 impl<'a> BoundNulls<'a> {
     /// A growable without rows, to which rows of these arrays, of one data type, can be appended.
     ///
+    /// # Requires
+    /// There is an array at least, and all are of one data type.
+    ///
     /// # Errors
     /// `OutOfMemory` where memory is refused.
     pub fn new(arrays: Vec<&'a NullArray>) -> Result<BoundNulls<'a>, Error>
@@ -199,10 +223,8 @@ impl<'a> BoundNulls<'a> {
     {
         let first: &'a NullArray = arrays[0];
         let data_type = first.data_type().clone()?;
-        Ok(BoundNulls {
-            arrays,
-            growable: GrowableNull::new(data_type),
-        })
+        let growable = GrowableNull::new(*arrays.allocator(), data_type);
+        Ok(BoundNulls { arrays, growable })
     }
 }
 

@@ -37,6 +37,9 @@ pub trait AnyElement: NativeType {
         ensures err { IsOkUnless result Error.OutOfMemory };
 
     /// An array of any element type as one of this.
+    ///
+    /// # Requires
+    /// The array's elements are of this type.
     fn of_any(array: &AnyPrimitive) -> &PrimitiveArray<Self>
         requires { element_of array.now ≡ Self.PRIMITIVE }
         ensures { seen_by Self.slot result.now ≡ any_parts array.now };
@@ -223,6 +226,7 @@ impl<T: AnyElement> GrowableValues for Vec<T> {
         array: &PrimitiveArray<T>,
         capacity: usize,
     ) -> Result<Vec<T>, Error> {
+        // That rows of the type are stored so follows from the array.
         let _ = array.data_type();
         Ok(Vec::with_capacity(alloc, capacity)?)
     }

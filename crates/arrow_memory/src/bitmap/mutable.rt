@@ -105,6 +105,9 @@ impl MutableBitmap {
 
     /// Appends the `len` bits of a bitmap from place `start` on, a word at a time.
     ///
+    /// # Requires
+    /// `start + len` is at most the count of the bitmap's bits.
+    ///
     /// # Errors
     /// As of [`MutableBitmap::push`], `Overflow` where there are to be more than 2^64 - 1 bits.
     pub fn extend_from_bitmap(

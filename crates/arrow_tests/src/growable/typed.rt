@@ -132,7 +132,7 @@ pub fn check_null_arrays(rt: &(impl Abort + Alloc<A = Global>)) -> Result<(), Er
     check_nulls(rt, &mut growable)?;
     check_too_many(rt, &mut growable);
     assert!(rt; growable.into_array().err() == Some(Error::Failed));
-    let mut growable = GrowableNull::new(DataType::Null);
+    let mut growable = GrowableNull::new(rt.alloc(), DataType::Null);
     growable.extend_validity(3)?;
     assert!(rt; growable.into_array()? == NullArray::try_new(DataType::Null, 3)?);
     Ok(())

@@ -10,7 +10,10 @@ pub trait Index: NativeOrd {
     // the greatest number of the type
     ghost greatest: { ℕ };
 
-    /// The number, which must not be negative.
+    /// The number.
+    ///
+    /// # Requires
+    /// The number is not negative.
     fn to_usize(self) -> usize
         requires { pos 0 ≤ℤ Self.number self }
         ensures value { pos result ≡ Self.number self }

@@ -14,8 +14,11 @@ pub trait Offset: Index {
     /// Whether it is that of the large forms.
     const IS_LARGE: bool;
 
-    /// The offset, counted on from `to` where it was counted on from `from`: `to + (self - from)`,
-    /// which must not pass the greatest of the type.
+    /// The offset, counted on from `to` where it was counted on from `from`: `to + (self - from)`.
+    ///
+    /// # Requires
+    /// The offset is at least `from`, neither `from` nor `to` is negative, and the answer is at most
+    /// the greatest offset of the type.
     fn shifted(self, from: Self, to: Self) -> Self
         requires starts { pos 0 ≤ℤ Self.number from }
         requires rises { Self.number from ≤ℤ Self.number self }

@@ -52,7 +52,10 @@ impl AnyKeys {
         of_keys!(self, keys => keys.len())
     }
 
-    /// The key of row `i`, or `None` where it is null. A key that is not null must not be negative.
+    /// The key of row `i`, or `None` where it is null.
+    ///
+    /// # Requires
+    /// `i` is below the count of rows, and the key of that row, if it is not null, is not negative.
     #[tactic(auto, using(crate::proofs::KeyLemmas::key_read))]
     pub fn key(&self, i: usize) -> Option<usize>
         requires within { i < length (key_rows self.now) }
@@ -115,6 +118,7 @@ fn key_at<K: DictionaryKey>(keys: &PrimitiveArray<K>, i: usize) -> Option<usize>
     requires not_negative { IsKeyIn (slice_index_or (rows_by (map K.slot) keys.now) i Null) }
     ensures { result ≡ key_in (slice_index_or (rows_by (map K.slot) keys.now) i Null) }
 {
+    // The validity has a bit for each row.
     let _ = keys.validity();
     if keys.is_valid(i) {
         Some(keys.value(i).to_usize())
@@ -128,6 +132,7 @@ fn is_within<K: DictionaryKey>(keys: &PrimitiveArray<K>, i: usize, len: usize) -
     requires { i < length (rows_by (map K.slot) keys.now) }
     ensures { IsTrue result ↔ IsKey len (slice_index_or (rows_by (map K.slot) keys.now) i Null) }
 {
+    // The validity has a bit for each row.
     let _ = keys.validity();
     !keys.is_valid(i) || keys.value(i).in_range(len)
 }

@@ -23,4 +23,4 @@ returns-clause-overflow c overflows fits =
     let there = subst (λ h. NamesRows h c.args._index c.args._start c.args.len) (sym c.self.view_is) c.requires in
     let fit = subst (λ h. FitsWith h (named_rows h c.args._index c.args._start c.args.len)) (sym c.self.view_is) fits in
     let named = nulls_among (λ r. r.now) c.self.inside.arrays.items c.args._index c.args._start c.args.len there.0 there.1 in
-    absurd (nulls_over c.self.inside.growable _ c.args.len c.extend_nulls.ensures.before (ap length named ∙ length-replicate c.args.len Null) fit (c.extend_nulls.ensures.overflow overflows))
+    absurd (nulls_over c.self.inside.growable _ c.args.len c.extend_nulls.ensures.before (ap length named ∙ length-replicate c.args.len Null) fit ((c.extend_nulls.ensures.overflow.0 overflows).1))

@@ -21,4 +21,4 @@ pub returns-clause-overflow : goal.returns-clause-overflow
 returns-clause-overflow c overflows fits =
     let fit = subst (λ h. FitsWith h (null_rows_of h c.args.additional)) (sym c.self.view_is) fits in
     let nulls = null_rows c.self.inside.growable c.args.additional c.extend_nulls.ensures.before in
-    nulls_over c.self.inside.growable _ c.args.additional c.extend_nulls.ensures.before (ap length nulls ∙ length-replicate c.args.additional Null) fit (c.extend_nulls.ensures.overflow overflows)
+    nulls_over c.self.inside.growable _ c.args.additional c.extend_nulls.ensures.before (ap length nulls ∙ length-replicate c.args.additional Null) fit ((c.extend_nulls.ensures.overflow.0 overflows).1)

@@ -13,4 +13,4 @@ pub returns-clause-overflow : goal.returns-clause-overflow
 returns-clause-overflow c overflows fits =
     let sound = c.extend_nulls.ensures.before in
     let named = named_nulls c.args.self.now c.args.index c.args.start c.args.len sound in
-    absurd (nulls_over c.args.self.now _ c.args.len sound (ap length named ∙ length-replicate c.args.len Null) fits (c.extend_nulls.ensures.overflow overflows))
+    absurd (nulls_over c.args.self.now _ c.args.len sound (ap length named ∙ length-replicate c.args.len Null) fits ((c.extend_nulls.ensures.overflow.0 overflows).1))

@@ -17,4 +17,4 @@ pub returns-clause-overflow : goal.returns-clause-overflow
 returns-clause-overflow c overflows fits =
     let sound = c.extend_nulls.ensures.before in
     let nulls = null_rows c.args.self.now c.args.additional sound in
-    nulls_over c.args.self.now _ c.args.additional sound (ap length nulls ∙ length-replicate c.args.additional Null) fits (c.extend_nulls.ensures.overflow overflows)
+    nulls_over c.args.self.now _ c.args.additional sound (ap length nulls ∙ length-replicate c.args.additional Null) fits ((c.extend_nulls.ensures.overflow.0 overflows).1)
