@@ -82,11 +82,21 @@ pub trait Values: Clone + Drop {
 
 /// An array of a data type whose rows are stored as `V`, null where its validity has a bit that is
 /// not set.
-#[derive(Drop)]
 pub struct FlatArray<V: Values> {
     data_type: DataType,
     values: V,
     validity: Option<Bitmap>,
+}
+
+// by hand, so that a drop is a call, and is not written out wherever a value is dropped
+impl<V: Values> Drop for FlatArray<V> {
+    fn drop(self) {
+        let FlatArray {
+            data_type: _,
+            values: _,
+            validity: _,
+        } = self;
+    }
 }
 
 impl<V: Values> Model for FlatArray<V> {
@@ -179,7 +189,9 @@ impl<V: Values> FlatArray<V> {
         requires { FitsRows validity (length (V.slots self.values)) }
         ensures { result ≡ with_bits self validity }
     {
-        FlatArray { validity, ..self }
+        let mut array = self;
+        array.validity = validity;
+        array
     }
 
     /// Whether row `i` is valid.

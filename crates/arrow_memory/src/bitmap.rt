@@ -20,11 +20,21 @@ use std::rc::Rc;
 
 /// A list of bits, packed as in Arrow's columnar format ("Validity bitmaps") and shared by its
 /// clones and slices.
-#[derive(Drop)]
 pub struct Bitmap {
     words: Rc<Vec<u64>>,
     offset: usize,
     len: usize,
+}
+
+// by hand, so that a drop is a call, and is not written out wherever a value is dropped
+impl Drop for Bitmap {
+    fn drop(self) {
+        let Bitmap {
+            words: _,
+            offset: _,
+            len: _,
+        } = self;
+    }
 }
 
 impl Model for Bitmap {

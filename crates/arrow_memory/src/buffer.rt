@@ -10,11 +10,21 @@ use std::marker::Model;
 use std::rc::Rc;
 
 /// A list of values that is shared by its clones and slices: a buffer of Arrow's columnar format.
-#[derive(Drop)]
 pub struct Buffer<T> {
     values: Rc<Vec<T>>,
     offset: usize,
     len: usize,
+}
+
+// by hand, so that a drop is a call, and is not written out wherever a value is dropped
+impl<T: Drop> Drop for Buffer<T> {
+    fn drop(self) {
+        let Buffer {
+            values: _,
+            offset: _,
+            len: _,
+        } = self;
+    }
 }
 
 impl<T> Model for Buffer<T> {

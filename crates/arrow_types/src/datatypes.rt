@@ -116,11 +116,23 @@ pub enum DataType {
 
 /// A named child of a nested type.
 #[cycle(types)]
-#[derive(Debug, Drop)]
+#[derive(Debug)]
 pub struct Field {
     name: String,
     data_type: DataType,
     is_nullable: bool,
+}
+
+// by hand, so that a drop is a call, and is not written out wherever a value is dropped
+impl Drop for Field {
+    #[cycle(types)]
+    fn drop(self) {
+        let Field {
+            name: _,
+            data_type: _,
+            is_nullable: _,
+        } = self;
+    }
 }
 
 impl Field {

@@ -32,11 +32,22 @@ use std::marker::Model;
 
 /// An array of dictionaries: a key for each row, which names a value ("Dictionary-encoded Layout").
 #[cycle(arrays)]
-#[derive(Drop)]
 pub struct DictionaryArray {
     data_type: DataType,
     keys: AnyKeys,
     values: Box<AnyArray>,
+}
+
+// by hand, so that a drop is a call, and is not written out wherever a value is dropped
+impl Drop for DictionaryArray {
+    #[cycle(arrays)]
+    fn drop(self) {
+        let DictionaryArray {
+            data_type: _,
+            keys: _,
+            values: _,
+        } = self;
+    }
 }
 
 impl Model for DictionaryArray {

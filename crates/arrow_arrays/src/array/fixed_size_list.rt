@@ -27,12 +27,24 @@ use std::marker::Model;
 
 /// An array of lists of so many items each ("Fixed-Size List Layout").
 #[cycle(arrays)]
-#[derive(Drop)]
 pub struct FixedSizeListArray {
     data_type: DataType,
     size: usize,
     values: Box<AnyArray>,
     validity: Option<Bitmap>,
+}
+
+// by hand, so that a drop is a call, and is not written out wherever a value is dropped
+impl Drop for FixedSizeListArray {
+    #[cycle(arrays)]
+    fn drop(self) {
+        let FixedSizeListArray {
+            data_type: _,
+            size: _,
+            values: _,
+            validity: _,
+        } = self;
+    }
 }
 
 impl Model for FixedSizeListArray {
@@ -180,7 +192,9 @@ impl FixedSizeListArray {
         requires { FitsRows validity (length (rows self.child) / self.size) }
         ensures { result ≡ fixed_list_with_bits self validity }
     {
-        FixedSizeListArray { validity, ..self }
+        let mut array = self;
+        array.validity = validity;
+        array
     }
 
     /// Where the items of row `i` begin and how many there are, if it is not null.

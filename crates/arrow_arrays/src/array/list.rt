@@ -113,12 +113,24 @@ impl Clone for AnyOffsetsBuffer {
 
 /// An array of lists, under offsets of either width ("Variable-size List Layout").
 #[cycle(arrays)]
-#[derive(Drop)]
 pub struct ListArray {
     data_type: DataType,
     offsets: AnyOffsetsBuffer,
     values: Box<AnyArray>,
     validity: Option<Bitmap>,
+}
+
+// by hand, so that a drop is a call, and is not written out wherever a value is dropped
+impl Drop for ListArray {
+    #[cycle(arrays)]
+    fn drop(self) {
+        let ListArray {
+            data_type: _,
+            offsets: _,
+            values: _,
+            validity: _,
+        } = self;
+    }
 }
 
 impl Model for ListArray {
@@ -275,7 +287,9 @@ impl ListArray {
         requires { FitsRows validity (length self.offsets - 1) }
         ensures { result ≡ list_with_bits self validity }
     {
-        ListArray { validity, ..self }
+        let mut array = self;
+        array.validity = validity;
+        array
     }
 
     /// Where the items of row `i` begin and how many there are, if it is not null.

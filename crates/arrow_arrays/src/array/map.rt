@@ -32,12 +32,24 @@ use std::marker::Model;
 
 /// An array of maps: lists of entries, each a struct of a key and a value ("Map Layout").
 #[cycle(arrays)]
-#[derive(Drop)]
 pub struct MapArray {
     data_type: DataType,
     offsets: OffsetsBuffer<i32>,
     field: Box<AnyArray>,
     validity: Option<Bitmap>,
+}
+
+// by hand, so that a drop is a call, and is not written out wherever a value is dropped
+impl Drop for MapArray {
+    #[cycle(arrays)]
+    fn drop(self) {
+        let MapArray {
+            data_type: _,
+            offsets: _,
+            field: _,
+            validity: _,
+        } = self;
+    }
 }
 
 impl Model for MapArray {
@@ -191,7 +203,9 @@ impl MapArray {
         requires { FitsRows validity (length self.offsets - 1) }
         ensures { result ≡ list_with_bits self validity }
     {
-        MapArray { validity, ..self }
+        let mut array = self;
+        array.validity = validity;
+        array
     }
 
     /// Where the entries of row `i` begin and how many there are, if it is not null.

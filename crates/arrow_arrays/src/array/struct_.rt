@@ -29,11 +29,22 @@ use std::marker::Model;
 
 /// An array of structs: a row of each child, and a validity of its own ("Struct Layout").
 #[cycle(arrays)]
-#[derive(Drop)]
 pub struct StructArray {
     data_type: DataType,
     values: Vec<AnyArray>,
     validity: Option<Bitmap>,
+}
+
+// by hand, so that a drop is a call, and is not written out wherever a value is dropped
+impl Drop for StructArray {
+    #[cycle(arrays)]
+    fn drop(self) {
+        let StructArray {
+            data_type: _,
+            values: _,
+            validity: _,
+        } = self;
+    }
 }
 
 impl Model for StructArray {
@@ -171,7 +182,9 @@ impl StructArray {
         requires { FitsRows validity (row_count self.children) }
         ensures { result ≡ struct_with_bits self validity }
     {
-        StructArray { validity, ..self }
+        let mut array = self;
+        array.validity = validity;
+        array
     }
 
     /// Whether row `i` is valid.

@@ -33,13 +33,26 @@ use std::marker::Model;
 /// An array of unions: a type id for each row, and a child for each field ("Union Layout"). A row lies
 /// in the child of its id: in a sparse union at the same place, in a dense one where its offset says.
 #[cycle(arrays)]
-#[derive(Drop)]
 pub struct UnionArray {
     data_type: DataType,
     types: Buffer<i8>,
     fields: Vec<AnyArray>,
     offsets: Option<Buffer<i32>>,
     start: usize,
+}
+
+// by hand, so that a drop is a call, and is not written out wherever a value is dropped
+impl Drop for UnionArray {
+    #[cycle(arrays)]
+    fn drop(self) {
+        let UnionArray {
+            data_type: _,
+            types: _,
+            fields: _,
+            offsets: _,
+            start: _,
+        } = self;
+    }
 }
 
 impl Model for UnionArray {

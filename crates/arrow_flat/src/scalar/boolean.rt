@@ -11,10 +11,19 @@ use arrow_types::datatypes::DataType;
 use std::marker::Model;
 
 /// A truth value, or a null of type Boolean.
-#[derive(Drop)]
 pub struct BooleanScalar {
     data_type: DataType,
     value: Option<bool>,
+}
+
+// by hand, so that a drop is a call, and is not written out wherever a value is dropped
+impl Drop for BooleanScalar {
+    fn drop(self) {
+        let BooleanScalar {
+            data_type: _,
+            value: _,
+        } = self;
+    }
 }
 
 impl Model for BooleanScalar {

@@ -18,12 +18,23 @@ pub type Utf8Scalar<O> = ByteScalar<O, Text>;
 pub type BinaryScalar<O> = ByteScalar<O, Binary>;
 
 /// A text or bytes, or a null.
-#[derive(Drop)]
 pub struct ByteScalar<O: Offset, K: ByteKind> {
     data_type: DataType,
     value: Option<Vec<u8>>,
     offset: PhantomData<O>,
     kind: PhantomData<K>,
+}
+
+// by hand, so that a drop is a call, and is not written out wherever a value is dropped
+impl<O: Offset, K: ByteKind> Drop for ByteScalar<O, K> {
+    fn drop(self) {
+        let ByteScalar {
+            data_type: _,
+            value: _,
+            offset: _,
+            kind: _,
+        } = self;
+    }
 }
 
 impl<O: Offset, K: ByteKind> Model for ByteScalar<O, K> {

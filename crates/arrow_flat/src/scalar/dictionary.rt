@@ -13,10 +13,20 @@ use std::marker::Model;
 
 /// A value of a dictionary, or a null, of a dictionary's type.
 #[cycle(scalars)]
-#[derive(Drop)]
 pub struct DictionaryScalar {
     data_type: DataType,
     value: Option<Box<AnyScalar>>,
+}
+
+// by hand, so that a drop is a call, and is not written out wherever a value is dropped
+impl Drop for DictionaryScalar {
+    #[cycle(scalars)]
+    fn drop(self) {
+        let DictionaryScalar {
+            data_type: _,
+            value: _,
+        } = self;
+    }
 }
 
 /// A scalar of any type that has one.

@@ -15,10 +15,19 @@ use arrow_types::types::{NativeType, days_ms, i256, months_days_ns};
 use std::marker::Model;
 
 /// A number or an interval, or a null, of a data type whose rows are stored as `T`.
-#[derive(Drop)]
 pub struct PrimitiveScalar<T: NativeType> {
     data_type: DataType,
     value: Option<T>,
+}
+
+// by hand, so that a drop is a call, and is not written out wherever a value is dropped
+impl<T: NativeType> Drop for PrimitiveScalar<T> {
+    fn drop(self) {
+        let PrimitiveScalar {
+            data_type: _,
+            value: _,
+        } = self;
+    }
 }
 
 impl<T: NativeType> Model for PrimitiveScalar<T> {

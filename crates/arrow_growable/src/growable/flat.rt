@@ -153,7 +153,6 @@ pub trait GrowableValues: Drop {
 }
 
 /// A flat array under construction.
-#[derive(Drop)]
 pub struct FlatGrowable<'a, G: GrowableValues> {
     arrays: Vec<&'a G::Array>,
     data_type: DataType,
@@ -161,6 +160,20 @@ pub struct FlatGrowable<'a, G: GrowableValues> {
     validity: GrowableValidity,
     len: usize,
     has_failed: bool,
+}
+
+// by hand, so that a drop is a call, and is not written out wherever a value is dropped
+impl<'a, G: GrowableValues> Drop for FlatGrowable<'a, G> {
+    fn drop(self) {
+        let FlatGrowable {
+            arrays: _,
+            data_type: _,
+            values: _,
+            validity: _,
+            len: _,
+            has_failed: _,
+        } = self;
+    }
 }
 
 impl<'a, G: GrowableValues> Model for FlatGrowable<'a, G> {
@@ -226,7 +239,15 @@ impl<'a, G: GrowableValues> FlatGrowable<'a, G> {
         if self.has_failed {
             return Err(Error::Failed);
         }
-        finish(self.data_type, self.values, self.validity)
+        let FlatGrowable {
+            arrays: _,
+            data_type,
+            values,
+            validity,
+            len: _,
+            has_failed: _,
+        } = self;
+        finish(data_type, values, validity)
     }
 }
 

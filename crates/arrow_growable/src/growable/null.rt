@@ -20,13 +20,24 @@ use std::alloc::Global;
 use std::marker::Model;
 
 /// An array of the null type under construction. It binds no array: any rows that are named are null.
-#[derive(Drop)]
 pub struct GrowableNull {
     // held as each growable holds its own; no call of this one takes memory by it
     alloc: Option<Global>,
     data_type: DataType,
     len: usize,
     has_failed: bool,
+}
+
+// by hand, so that a drop is a call, and is not written out wherever a value is dropped
+impl Drop for GrowableNull {
+    fn drop(self) {
+        let GrowableNull {
+            alloc: _,
+            data_type: _,
+            len: _,
+            has_failed: _,
+        } = self;
+    }
 }
 
 impl Model for GrowableNull {
@@ -83,7 +94,13 @@ impl GrowableNull {
         if self.has_failed {
             return Err(Error::Failed);
         }
-        Ok(null_array(self.data_type, self.len))
+        let GrowableNull {
+            alloc: _,
+            data_type,
+            len,
+            has_failed: _,
+        } = self;
+        Ok(null_array(data_type, len))
     }
 
     /// Appends so many nulls.
