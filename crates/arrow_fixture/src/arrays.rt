@@ -50,6 +50,18 @@ pub fn validity_of(alloc: Global, letters: &[u8]) -> Result<Option<Bitmap>, Erro
     })
 }
 
+/// A validity by its letters: a row is valid at a t. There is none for `-`.
+pub fn marks_of(alloc: Global, letters: &str) -> Result<Option<Bitmap>, Error> {
+    if letters == "-" {
+        return Ok(None);
+    }
+    let mut bits = MutableBitmap::new(alloc);
+    for letter in letters.as_bytes() {
+        bits.push(*letter == b't')?;
+    }
+    Ok(Some(bits.into_bitmap()?))
+}
+
 /// The letter t is true, and so is every other one from a on.
 pub fn truths(alloc: Global, letters: &[u8]) -> Result<BooleanArray, Error> {
     let mut bits = MutableBitmap::with_capacity(alloc, letters.len())?;
@@ -64,15 +76,18 @@ pub fn truths(alloc: Global, letters: &[u8]) -> Result<BooleanArray, Error> {
 /// A digit is its number, and a letter one of its own.
 pub fn numbers(
     alloc: Global,
-    data_type: DataType,
+    data_type: &DataType,
     letters: &[u8],
 ) -> Result<PrimitiveArray<i32>, Error> {
     let mut values = Vec::with_capacity(alloc, letters.len())?;
     for letter in letters {
         values.push(i32::from(letter.to_ascii_lowercase()) - i32::from(b'0'))?;
     }
-    let values = Buffer::from_vec(alloc, values)?;
-    PrimitiveArray::try_new(data_type, values, validity_of(alloc, letters)?)
+    let (values, validity) = (
+        Buffer::from_vec(alloc, values)?,
+        validity_of(alloc, letters)?,
+    );
+    PrimitiveArray::try_new(data_type.clone()?, values, validity)
 }
 
 /// Each letter three times.

@@ -14,6 +14,7 @@ fn flat_arrays(rt: HostRuntime) {
     check_again!(rt; nulls::check_named, nulls::check_types);
     check_again!(rt; numbers::check_integers, numbers::check_wide);
     check_again!(rt; numbers::check_others, numbers::check_equality);
+    check_again!(rt; numbers::check_ranges);
     check_again!(rt; bytes::check_texts, bytes::check_binary, bytes::check_layouts);
     check_again!(rt; bytes::check_faults, bytes::check_refused_sizes, bytes::check_sizes);
 }

@@ -4,7 +4,7 @@ ghost use Rattle.std.specs.Prelude.{IfOk};
 ghost use Rattle.arrow_select.specs.Arrays.{IsFlat};
 
 use arrow_arrays::array::AnyArray;
-use arrow_fixture::check_again;
+use arrow_fixture::{check, check_again};
 use arrow_flat::array::{AnyPrimitive, BooleanArray, PrimitiveArray};
 use arrow_memory::bitmap::Bitmap;
 use arrow_memory::buffer::Buffer;
@@ -47,7 +47,7 @@ fn check_example(rt: &(impl Abort + Alloc<A = Global>)) -> Result<(), Error> {
     let AnyArray::Primitive(AnyPrimitive::Int32(rows)) = &both else {
         panic!(rt; "no array of numbers");
     };
-    assert!(rt; rows.values().as_slice() == [5, 8].as_slice());
+    check!(rt; rows.values().as_slice() == [5, 8].as_slice());
     Ok(())
 }
 

@@ -4,6 +4,8 @@
 #[cfg(test)]
 mod arrays;
 #[cfg(test)]
+mod check;
+#[cfg(test)]
 mod example;
 #[cfg(test)]
 mod fixture;

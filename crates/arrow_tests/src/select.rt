@@ -6,7 +6,7 @@ mod window;
 
 use crate::fixture::arrays::{Shape, array_of};
 use arrow_arrays::array::AnyArray;
-use arrow_fixture::check_again;
+use arrow_fixture::{check, check_again};
 use arrow_types::error::Error;
 use std::alloc::Global;
 use std::process::Abort;
@@ -21,12 +21,12 @@ fn check_answer(
     match answer {
         Ok(array) => {
             let want = array_of(rt.alloc(), shape, want?)?;
-            assert!(rt; array == want, "{shape:?}");
+            check!(rt; array == want, shape);
             Ok(())
         }
         Err(Error::OutOfMemory) => Err(Error::OutOfMemory),
         Err(refusal) => {
-            assert!(rt; Some(refusal) == want.err(), "{shape:?}");
+            check!(rt; Some(refusal) == want.err(), shape);
             Ok(())
         }
     }

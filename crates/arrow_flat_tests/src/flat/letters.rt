@@ -3,6 +3,7 @@
 //! Rows are letters. A capital is a null, and beneath it the small letter is stored.
 
 use arrow_fixture::arrays::{EQUAL, byte_rows, fixed_bytes, numbers, truths, validity_of};
+use arrow_fixture::check;
 use arrow_fixture::types::{extension, refusal};
 use arrow_flat::array::{
     Binary, BooleanArray, ByteKind, ByteRows, FixedRows, FixedSizeBinaryArray, FlatArray,
@@ -21,7 +22,7 @@ trait Letters: Values {
     /// An array that stores these letters.
     fn stored(
         alloc: Global,
-        data_type: DataType,
+        data_type: &DataType,
         letters: &[u8],
         validity: Option<Bitmap>,
     ) -> Result<FlatArray<Self>, Error>;
@@ -34,12 +35,13 @@ trait Letters: Values {
 impl Letters for Bitmap {
     fn stored(
         alloc: Global,
-        data_type: DataType,
+        data_type: &DataType,
         letters: &[u8],
         validity: Option<Bitmap>,
     ) -> Result<BooleanArray, Error> {
         let rows = truths(alloc, letters)?;
-        BooleanArray::try_new(data_type, rows.values().clone()?, validity)
+        let bits = rows.values().clone()?;
+        BooleanArray::try_new(data_type.clone()?, bits, validity)
     }
 
     fn is_stored(array: &BooleanArray, i: usize, letter: u8) -> bool {
@@ -52,12 +54,13 @@ impl Letters for Bitmap {
 impl Letters for Buffer<i32> {
     fn stored(
         alloc: Global,
-        data_type: DataType,
+        data_type: &DataType,
         letters: &[u8],
         validity: Option<Bitmap>,
     ) -> Result<PrimitiveArray<i32>, Error> {
-        let rows = numbers(alloc, DataType::Int32, letters)?;
-        PrimitiveArray::try_new(data_type, rows.values().clone()?, validity)
+        let rows = numbers(alloc, &DataType::Int32, letters)?;
+        let values = rows.values().clone()?;
+        PrimitiveArray::try_new(data_type.clone()?, values, validity)
     }
 
     fn is_stored(array: &PrimitiveArray<i32>, i: usize, letter: u8) -> bool {
@@ -70,13 +73,13 @@ impl Letters for Buffer<i32> {
 impl<O: Offset, K: ByteKind> Letters for ByteRows<O, K> {
     fn stored(
         alloc: Global,
-        data_type: DataType,
+        data_type: &DataType,
         letters: &[u8],
         validity: Option<Bitmap>,
     ) -> Result<FlatArray<ByteRows<O, K>>, Error> {
         let rows = byte_rows::<O, K>(alloc, letters)?;
         let (offsets, bytes) = (rows.offsets().clone()?, rows.values().clone()?);
-        FlatArray::<ByteRows<O, K>>::try_new(data_type, offsets, bytes, validity)
+        FlatArray::<ByteRows<O, K>>::try_new(data_type.clone()?, offsets, bytes, validity)
     }
 
     fn is_stored(array: &FlatArray<ByteRows<O, K>>, i: usize, letter: u8) -> bool {
@@ -92,12 +95,13 @@ impl<O: Offset, K: ByteKind> Letters for ByteRows<O, K> {
 impl Letters for FixedRows {
     fn stored(
         alloc: Global,
-        data_type: DataType,
+        data_type: &DataType,
         letters: &[u8],
         validity: Option<Bitmap>,
     ) -> Result<FixedSizeBinaryArray, Error> {
         let rows = fixed_bytes(alloc, letters)?;
-        FixedSizeBinaryArray::try_new(data_type, rows.values().clone()?, validity)
+        let bytes = rows.values().clone()?;
+        FixedSizeBinaryArray::try_new(data_type.clone()?, bytes, validity)
     }
 
     fn is_stored(array: &FixedSizeBinaryArray, i: usize, letter: u8) -> bool {
@@ -111,24 +115,24 @@ fn array_of<V: Letters>(
     plain: &DataType,
     letters: &[u8],
 ) -> Result<FlatArray<V>, Error> {
-    V::stored(alloc, plain.clone()?, letters, validity_of(alloc, letters)?)
+    V::stored(alloc, plain, letters, validity_of(alloc, letters)?)
 }
 
 /// The rows, one by one.
 fn check_rows<V: Letters>(rt: &impl Abort, array: &FlatArray<V>, letters: &[u8]) {
-    assert!(rt; array.len() == letters.len() && array.is_empty() == letters.is_empty());
+    check!(rt; array.len() == letters.len() && array.is_empty() == letters.is_empty());
     let mut nulls = 0usize;
     for (i, letter) in letters.iter().enumerate() {
         let is_set = match array.validity() {
             None => true,
             Some(bits) => i < bits.len() && bits.get_bit(i),
         };
-        assert!(rt; is_set == letter.is_ascii_lowercase());
-        assert!(rt; i < array.len() && array.is_valid(i) == is_set);
-        assert!(rt; V::is_stored(array, i, letter.to_ascii_lowercase()));
+        check!(rt; is_set == letter.is_ascii_lowercase());
+        check!(rt; i < array.len() && array.is_valid(i) == is_set);
+        check!(rt; V::is_stored(array, i, letter.to_ascii_lowercase()));
         nulls = nulls.saturating_add(usize::from(!is_set));
     }
-    assert!(rt; array.null_count() == nulls);
+    check!(rt; array.null_count() == nulls);
 }
 
 /// Where each slice begins in the one before, its length, and its rows.
@@ -141,7 +145,8 @@ const SLICES: [(usize, usize, &[u8]); 4] = [
 
 /// Slices, each of the one before, of the rows baCDabb.
 fn check_parts<V: Letters>(rt: &impl Abort, part: &mut FlatArray<V>) {
-    for (offset, len, rows) in SLICES {
+    for (offset, len, rows) in &SLICES {
+        let (offset, len) = (*offset, *len);
         assert!(rt; offset <= part.len() && len <= part.len() - offset);
         part.slice(offset, len);
         check_rows(rt, part, rows);
@@ -155,7 +160,7 @@ fn check_slices<V: Letters>(
 ) -> Result<(), Error> {
     let array = array_of::<V>(rt.alloc(), plain, b"baCDabb")?;
     let mut part = array.clone()?;
-    assert!(rt; part == array);
+    check!(rt; part == array);
     check_parts(rt, &mut part);
     assert!(rt; part != array && array.len() == 7);
     check_rows(rt, &array.sliced(2, 5), b"CDabb");
@@ -175,15 +180,15 @@ fn check_validities<V: Letters>(
     plain: &DataType,
 ) -> Result<(), Error> {
     let mut array = array_of::<V>(rt.alloc(), plain, b"abC")?;
-    for (bits, rows) in VALIDITIES {
+    for (bits, rows) in &VALIDITIES {
         let validity = Bitmap::from_bools(rt.alloc(), bits)?;
         assert!(rt; array.len() == 3 && validity.len() == 3);
         array = array.with_validity(Some(validity));
-        assert!(rt; array.validity().is_some());
+        check!(rt; array.validity().is_some());
         check_rows(rt, &array, rows);
     }
     let bare = array.with_validity(None);
-    assert!(rt; bare.validity().is_none());
+    check!(rt; bare.validity().is_none());
     check_rows(rt, &bare, b"abc");
     Ok(())
 }
@@ -199,10 +204,10 @@ fn check_pair<V: Letters>(
     let (len, other_len) = (array.len(), other.len());
     assert!(rt; other_len > 0);
     if len == other_len - 1 {
-        assert!(rt; array.equal_range(0, other, 1, len) == want);
+        check!(rt; array.equal_range(0, other, 1, len) == want);
     }
     other.slice(1, other_len - 1);
-    assert!(rt; [*array == *other, *other == *array] == [want; 2]);
+    check!(rt; [*array == *other, *other == *array] == [want; 2]);
 }
 
 /// Equal are the same rows, whatever is stored beneath nulls, wherever they begin, and under a validity
@@ -211,15 +216,11 @@ fn check_equality<V: Letters>(
     rt: &(impl Abort + Alloc<A = Global>),
     plain: &DataType,
 ) -> Result<(), Error> {
-    for (left, right, want) in EQUAL {
+    for (left, right, want) in &EQUAL {
         let array = array_of::<V>(rt.alloc(), plain, left)?;
         check_rows(rt, &array, left);
-        check_pair(
-            rt,
-            &array,
-            &mut array_of::<V>(rt.alloc(), plain, right)?,
-            want,
-        );
+        let mut other = array_of::<V>(rt.alloc(), plain, right)?;
+        check_pair(rt, &array, &mut other, *want);
     }
     Ok(())
 }
@@ -227,25 +228,31 @@ fn check_equality<V: Letters>(
 /// Validities that are not of two rows.
 const LENGTHS: [&[bool]; 4] = [&[], &[true], &[true, true, true], &[false, false, false]];
 
-/// Refused are types of other kinds, also by a name, for the kind and not for a validity of another
-/// length, and validities of other lengths.
+/// Refused is a type of another kind, for the kind and not for a validity of another length.
+fn check_other<V: Letters>(
+    rt: &(impl Abort + Alloc<A = Global>),
+    other: &DataType,
+) -> Result<(), Error> {
+    let validity = Bitmap::from_bools(rt.alloc(), &[])?;
+    let made = V::stored(rt.alloc(), other, b"ab", Some(validity));
+    check!(rt; refusal(made)? == Some(SpecPart::Kind), other);
+    Ok(())
+}
+
+/// Refused are types of other kinds, also by a name, and validities of other lengths.
 fn check_refused<V: Letters>(
     rt: &(impl Abort + Alloc<A = Global>),
     plain: &DataType,
     others: &[DataType],
 ) -> Result<(), Error> {
-    let alloc = rt.alloc();
     for other in others {
-        for data_type in [other.clone()?, extension(alloc, "other", other.clone()?)?] {
-            let validity = Bitmap::from_bools(alloc, &[])?;
-            let made = V::stored(alloc, data_type, b"ab", Some(validity));
-            assert!(rt; refusal(made)? == Some(SpecPart::Kind), "{other:?}");
-        }
+        check_other::<V>(rt, other)?;
+        check_other::<V>(rt, &extension(rt.alloc(), "other", other.clone()?)?)?;
     }
-    for bits in LENGTHS {
-        let validity = Bitmap::from_bools(alloc, bits)?;
-        let made = V::stored(alloc, plain.clone()?, b"ab", Some(validity));
-        assert!(rt; refusal(made)? == Some(SpecPart::Length), "under {bits:?}");
+    for bits in &LENGTHS {
+        let validity = Bitmap::from_bools(rt.alloc(), bits)?;
+        let made = V::stored(rt.alloc(), plain, b"ab", Some(validity));
+        check!(rt; refusal(made)? == Some(SpecPart::Length), bits);
     }
     Ok(())
 }
@@ -256,11 +263,11 @@ fn check_types<V: Letters>(
     plain: &DataType,
 ) -> Result<(), Error> {
     let data_type = extension(rt.alloc(), "name", plain.clone()?)?;
-    let named = V::stored(rt.alloc(), data_type, b"ab", None)?;
+    let named = V::stored(rt.alloc(), &data_type, b"ab", None)?;
     check_rows(rt, &named, b"ab");
-    assert!(rt; named == named.clone()? && named.data_type() != plain);
+    check!(rt; named == named.clone()? && named.data_type() != plain);
     let array = array_of::<V>(rt.alloc(), plain, b"ab")?;
-    assert!(rt; array != named && array.data_type() == plain);
+    check!(rt; array != named && array.data_type() == plain);
     Ok(())
 }
 

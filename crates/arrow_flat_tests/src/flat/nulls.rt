@@ -1,5 +1,6 @@
 //! Arrays of the null type.
 
+use arrow_fixture::check;
 use arrow_fixture::types::{extension, refusal};
 use arrow_flat::array::NullArray;
 use arrow_types::datatypes::DataType;
@@ -9,8 +10,8 @@ use std::process::Abort;
 
 /// So many rows, all null.
 fn check_rows(rt: &impl Abort, array: &NullArray, count: usize) {
-    assert!(rt; array.len() == count && array.null_count() == count);
-    assert!(rt; array.is_empty() == (count == 0) && array.validity().is_none());
+    check!(rt; array.len() == count && array.null_count() == count);
+    check!(rt; array.is_empty() == (count == 0) && array.validity().is_none());
 }
 
 /// Types of other kinds are refused. Equal are arrays of as many rows.
@@ -21,16 +22,13 @@ pub fn check_counts(rt: &(impl Abort + Alloc<A = Global>)) -> Result<(), Error> 
         DataType::FixedSizeBinary(0),
     ] {
         let made = NullArray::try_new(data_type, 2);
-        assert!(rt; refusal(made)? == Some(SpecPart::Kind));
+        check!(rt; refusal(made)? == Some(SpecPart::Kind));
     }
     let five = NullArray::try_new(DataType::Null, 5)?;
     for count in [0, 1, 4, 5, 6, usize::MAX] {
         let array = NullArray::try_new(DataType::Null, count)?;
         check_rows(rt, &array, count);
-        assert!(rt;
-            [array == five, five == array] == [count == 5; 2],
-            "of {count}"
-        );
+        check!(rt; [array == five, five == array] == [count == 5; 2], count);
     }
     Ok(())
 }
@@ -49,7 +47,7 @@ fn check_slices(rt: &impl Abort, part: &mut NullArray) {
 pub fn check_named(rt: &(impl Abort + Alloc<A = Global>)) -> Result<(), Error> {
     let array = NullArray::try_new(extension(rt.alloc(), "nothing", DataType::Null)?, 5)?;
     let mut part = array.clone()?;
-    assert!(rt; array == part && part.data_type() == array.data_type());
+    check!(rt; array == part && part.data_type() == array.data_type());
     check_slices(rt, &mut part);
     assert!(rt; array != part && array.len() == 5);
     check_rows(rt, &array.sliced(1, 3), 3);
@@ -60,7 +58,7 @@ pub fn check_named(rt: &(impl Abort + Alloc<A = Global>)) -> Result<(), Error> {
 pub fn check_types(rt: &(impl Abort + Alloc<A = Global>)) -> Result<(), Error> {
     let plain = NullArray::try_new(DataType::Null, 5)?;
     let named = NullArray::try_new(extension(rt.alloc(), "nothing", DataType::Null)?, 5)?;
-    assert!(rt; *plain.data_type() == DataType::Null && plain != named);
-    assert!(rt; *named.data_type() == extension(rt.alloc(), "nothing", DataType::Null)?);
+    check!(rt; *plain.data_type() == DataType::Null && plain != named);
+    check!(rt; *named.data_type() == extension(rt.alloc(), "nothing", DataType::Null)?);
     Ok(())
 }

@@ -2,6 +2,7 @@
 
 use crate::flat::scalars::check_scalar;
 use arrow_fixture::arrays::numbers;
+use arrow_fixture::check;
 use arrow_flat::array::{AnyPrimitive, PrimitiveArray};
 use arrow_flat::scalar::{AnyPrimitiveScalar, AnyScalar, PrimitiveScalar};
 use arrow_memory::bitmap::Bitmap;
@@ -12,16 +13,21 @@ use arrow_types::types::{NativeType, days_ms, i256, months_days_ns};
 use std::alloc::Global;
 use std::process::Abort;
 
+/// Three values, and a validity under which the second is null.
+fn parts_of<T: NativeType>(alloc: Global, values: &[T]) -> Result<(Buffer<T>, Bitmap), Error> {
+    let stored = Buffer::from_vec(alloc, Vec::from_slice(alloc, values)?)?;
+    Ok((stored, Bitmap::from_bools(alloc, &[true, false, true])?))
+}
+
 /// An array of three values, the second beneath a null.
 fn array_of<T: NativeType>(
     rt: &(impl Abort + Alloc<A = Global>),
     data_type: DataType,
     values: &[T],
 ) -> Result<PrimitiveArray<T>, Error> {
-    let stored = Buffer::from_vec(rt.alloc(), Vec::from_slice(rt.alloc(), values)?)?;
-    let validity = Bitmap::from_bools(rt.alloc(), &[true, false, true])?;
+    let (stored, validity) = parts_of(rt.alloc(), values)?;
     let array = PrimitiveArray::try_new(data_type, stored, Some(validity))?;
-    assert!(rt; array.values().as_slice() == values);
+    check!(rt; array.values().as_slice() == values);
     Ok(array)
 }
 
@@ -32,7 +38,7 @@ fn scalar_of<T: NativeType>(
     value: Option<T>,
 ) -> PrimitiveScalar<T> {
     let scalar = PrimitiveScalar::try_new(data_type, value).expect(rt, "a type of such numbers");
-    assert!(rt; scalar.value() == value && scalar.is_valid() == value.is_some());
+    check!(rt; scalar.value() == value && scalar.is_valid() == value.is_some());
     scalar
 }
 
@@ -42,19 +48,25 @@ fn check_slices(rt: &impl Abort, part: &mut AnyPrimitive) {
     part.slice(1, 2);
     assert!(rt; part.len() == 2 && part.null_count() == 1);
     part.slice(1, 1);
-    assert!(rt; part.len() == 1 && part.null_count() == 0 && !part.is_empty());
+    check!(rt; part.len() == 1 && part.null_count() == 0 && !part.is_empty());
 }
 
-/// Such an array, and slices of clones of it.
+/// Such an array of this data type.
 fn check_array(rt: &impl Abort, array: AnyPrimitive, data_type: DataType) -> Result<(), Error> {
-    assert!(rt; *array.data_type() == data_type && array.len() == 3);
-    assert!(rt; array.validity().is_some_and(|bits| bits.len() == 3));
-    assert!(rt; array.clone()?.sliced(1, 1).null_count() == 1);
+    check!(rt; *array.data_type() == data_type);
+    check_rows(rt, &array)
+}
+
+/// A value, a null and a value, and slices of clones of them.
+fn check_rows(rt: &impl Abort, array: &AnyPrimitive) -> Result<(), Error> {
+    assert!(rt; array.len() == 3);
+    check!(rt; array.validity().is_some_and(|bits| bits.len() == 3));
+    check!(rt; array.clone()?.sliced(1, 1).null_count() == 1);
     let mut part = array.clone()?;
-    assert!(rt; part == array);
+    check!(rt; part == *array);
     check_slices(rt, &mut part);
-    assert!(rt; part != array && part == array.sliced(2, 1) && part.len() == 1);
-    assert!(rt; part.sliced(1, 0).is_empty());
+    assert!(rt; part != *array && part == array.clone()?.sliced(2, 1) && part.len() == 1);
+    check!(rt; part.sliced(1, 0).is_empty());
     Ok(())
 }
 
@@ -116,8 +128,8 @@ pub fn check_others(rt: &(impl Abort + Alloc<A = Global>)) -> Result<(), Error> 
         DataType::Interval(IntervalUnit::YearMonth),
     ];
     for data_type in others {
-        let array = numbers(rt.alloc(), data_type, b"ab")?;
-        assert!(rt; array.len() == 2 && array.data_type() != &DataType::Int32);
+        let array = numbers(rt.alloc(), &data_type, b"ab")?;
+        check!(rt; array.len() == 2 && array.data_type() != &DataType::Int32);
     }
     let others = [
         DataType::Int64,
@@ -127,7 +139,7 @@ pub fn check_others(rt: &(impl Abort + Alloc<A = Global>)) -> Result<(), Error> 
     ];
     for data_type in others {
         let refused = PrimitiveScalar::try_new(data_type, Some(1i32)).err();
-        assert!(rt; refused == Some(Error::OutOfSpec(SpecPart::Kind)));
+        check!(rt; refused == Some(Error::OutOfSpec(SpecPart::Kind)));
     }
     scalar_of::<i32>(rt, DataType::Time32(TimeUnit::Millisecond), None);
     Ok(())
@@ -138,12 +150,18 @@ pub fn check_equality(rt: &(impl Abort + Alloc<A = Global>)) -> Result<(), Error
     let array = AnyPrimitive::Int32(array_of(rt, DataType::Int32, &[1i32, 2, 3])?);
     for (values, want) in [([1, 9, 3], true), ([1, 2, 4], false)] {
         let other = AnyPrimitive::Int32(array_of(rt, DataType::Int32, &values)?);
-        assert!(rt; (array == other) == want, "{values:?}");
+        check!(rt; (array == other) == want, values);
     }
+    let wide = AnyPrimitive::Int64(array_of(rt, DataType::Int64, &[1i64, 2, 3])?);
+    check!(rt; array != wide);
+    Ok(())
+}
+
+/// Not equal are arrays of other types, though their rows, and ranges of them, are the same.
+pub fn check_ranges(rt: &(impl Abort + Alloc<A = Global>)) -> Result<(), Error> {
+    let array = AnyPrimitive::Int32(array_of(rt, DataType::Int32, &[1i32, 2, 3])?);
     let date = AnyPrimitive::Int32(array_of(rt, DataType::Date32, &[1i32, 2, 3])?);
     assert!(rt; array != date && array.len() == 3 && date.len() == 3);
     assert!(rt; array.equal_range(0, &date, 0, 3) && !array.equal_range(0, &date, 1, 2));
-    let wide = AnyPrimitive::Int64(array_of(rt, DataType::Int64, &[1i64, 2, 3])?);
-    assert!(rt; array != wide);
     Ok(())
 }

@@ -1,5 +1,6 @@
 //! Scalars: truth values, texts, bytes, and entries of dictionaries.
 
+use arrow_fixture::check;
 use arrow_fixture::read::read;
 use arrow_flat::scalar::{AnyScalar, BinaryScalar, BooleanScalar, DictionaryScalar, Utf8Scalar};
 use arrow_types::datatypes::DataType;
@@ -9,9 +10,13 @@ use std::process::Abort;
 
 /// A scalar of this type, valid or null.
 pub fn check_scalar(rt: &impl Abort, scalar: AnyScalar, data_type: DataType, is_valid: bool) {
-    assert!(rt; *scalar.data_type() == data_type && scalar.is_valid() == is_valid);
-    if let AnyScalar::Primitive(scalar) = &scalar {
-        assert!(rt; *scalar.data_type() == data_type && scalar.is_valid() == is_valid);
+    check_lent(rt, &scalar, &data_type, is_valid);
+}
+
+fn check_lent(rt: &impl Abort, scalar: &AnyScalar, data_type: &DataType, is_valid: bool) {
+    check!(rt; scalar.data_type() == data_type && scalar.is_valid() == is_valid);
+    if let AnyScalar::Primitive(scalar) = scalar {
+        check!(rt; scalar.data_type() == data_type && scalar.is_valid() == is_valid);
     }
 }
 
@@ -19,11 +24,11 @@ pub fn check_texts_and_bytes(rt: &(impl Abort + Alloc<A = Global>)) -> Result<()
     let text = String::from_str(rt.alloc(), "h\u{e9}")?;
     let bytes = vec![in rt.alloc(); 255, 0]?;
     let text = Utf8Scalar::<i32>::new(Some(text));
-    assert!(rt; text.is_valid() && text.value() == Some("h\u{e9}"));
-    assert!(rt; *text.data_type() == DataType::Utf8);
+    check!(rt; text.is_valid() && text.value() == Some("h\u{e9}"));
+    check!(rt; *text.data_type() == DataType::Utf8);
     let bytes = BinaryScalar::<i64>::new(Some(bytes));
-    assert!(rt; bytes.is_valid() && bytes.value() == Some([255, 0].as_slice()));
-    assert!(rt; *bytes.data_type() == DataType::LargeBinary);
+    check!(rt; bytes.is_valid() && bytes.value() == Some([255, 0].as_slice()));
+    check!(rt; *bytes.data_type() == DataType::LargeBinary);
     Ok(())
 }
 
@@ -36,10 +41,10 @@ fn entry(alloc: Global) -> Result<Option<Box<AnyScalar>>, Error> {
 /// Refused are a type that is no dictionary's, and a value of another type than its values.
 pub fn check_refused(rt: &(impl Abort + Alloc<A = Global>)) -> Result<(), Error> {
     let refused = DictionaryScalar::try_new(DataType::Utf8, entry(rt.alloc())?).err();
-    assert!(rt; refused == Some(Error::OutOfSpec(SpecPart::Kind)));
+    check!(rt; refused == Some(Error::OutOfSpec(SpecPart::Kind)));
     let others = read(rt.alloc(), "large_utf8 dictionary:i8")?;
     let refused = DictionaryScalar::try_new(others, entry(rt.alloc())?).err();
-    assert!(rt; refused == Some(Error::OutOfSpec(SpecPart::Child)));
+    check!(rt; refused == Some(Error::OutOfSpec(SpecPart::Child)));
     Ok(())
 }
 
@@ -47,10 +52,10 @@ pub fn check_refused(rt: &(impl Abort + Alloc<A = Global>)) -> Result<(), Error>
 pub fn check_entries(rt: &(impl Abort + Alloc<A = Global>)) -> Result<(), Error> {
     let texts = read(rt.alloc(), "utf8 dictionary:i8")?;
     let null = DictionaryScalar::try_new(texts.clone()?, None)?;
-    assert!(rt; !null.is_valid() && null.value().is_none());
+    check!(rt; !null.is_valid() && null.value().is_none());
     let scalar = DictionaryScalar::try_new(texts.clone()?, entry(rt.alloc())?)?;
-    assert!(rt; scalar.is_valid() && *scalar.data_type() == texts);
-    assert!(rt; matches!(scalar.value(), Some(AnyScalar::Utf8(text)) if text.value() == Some("a")));
+    check!(rt; scalar.is_valid() && *scalar.data_type() == texts);
+    check!(rt; matches!(scalar.value(), Some(AnyScalar::Utf8(text)) if text.value() == Some("a")));
     Ok(())
 }
 
@@ -76,11 +81,11 @@ pub fn check_nested(rt: &(impl Abort + Alloc<A = Global>)) -> Result<(), Error> 
 pub fn check_without_memory(rt: &impl Abort) {
     for value in [None, Some(false), Some(true)] {
         let scalar = BooleanScalar::new(value);
-        assert!(rt; scalar.value() == value && scalar.is_valid() == value.is_some());
-        assert!(rt; *scalar.data_type() == DataType::Boolean);
+        check!(rt; scalar.value() == value && scalar.is_valid() == value.is_some());
+        check!(rt; *scalar.data_type() == DataType::Boolean);
     }
-    assert!(rt; Utf8Scalar::<i64>::new(None).value().is_none());
-    assert!(rt; BinaryScalar::<i32>::new(None).value().is_none());
+    check!(rt; Utf8Scalar::<i64>::new(None).value().is_none());
+    check!(rt; BinaryScalar::<i32>::new(None).value().is_none());
     let null = AnyScalar::Boolean(BooleanScalar::new(None));
     check_scalar(rt, null, DataType::Boolean, false);
     let null = AnyScalar::Utf8(Utf8Scalar::new(None));

@@ -1,5 +1,6 @@
 //! Bitmaps at each bit offset: slices, logic by words, and bits appended behind others.
 
+use arrow_fixture::check;
 use arrow_memory::bitmap::{Bitmap, MutableBitmap};
 use arrow_types::error::Error;
 use std::alloc::Global;
@@ -11,14 +12,14 @@ fn check_bits(
     found: &Bitmap,
     want: &[bool],
 ) -> Result<(), Error> {
-    assert!(rt; found.len() == want.len() && found.is_empty() == want.is_empty());
+    check!(rt; found.len() == want.len() && found.is_empty() == want.is_empty());
     let mut unset = 0usize;
     for (i, bit) in want.iter().enumerate() {
-        assert!(rt; i < found.len() && found.get_bit(i) == *bit);
+        check!(rt; i < found.len() && found.get_bit(i) == *bit);
         unset = unset.saturating_add(usize::from(!*bit));
     }
-    assert!(rt; found.unset_bits() == unset);
-    assert!(rt; *found == Bitmap::from_bools(rt.alloc(), want)?);
+    check!(rt; found.unset_bits() == unset);
+    check!(rt; *found == Bitmap::from_bools(rt.alloc(), want)?);
     Ok(())
 }
 
@@ -26,7 +27,7 @@ fn check_bits(
 fn check_slice(rt: &impl Abort, whole: &mut Bitmap, part: &Bitmap, offset: usize, len: usize) {
     assert!(rt; offset <= whole.len() && len <= whole.len() - offset);
     whole.slice(offset, len);
-    assert!(rt; *whole == *part);
+    check!(rt; *whole == *part);
 }
 
 /// A slice of a slice, which is not the first one, and a slice of the same bits packed again.
@@ -40,9 +41,9 @@ fn check_twice(
     let mut twice = part.clone()?;
     twice.slice(len / 2, len - len / 2);
     check_bits(rt, &twice, &want[len / 2..])?;
-    assert!(rt; twice != *part);
+    check!(rt; twice != *part);
     let packed = Bitmap::from_bools(rt.alloc(), want)?;
-    assert!(rt; twice == packed.sliced(len / 2, len - len / 2));
+    check!(rt; twice == packed.sliced(len / 2, len - len / 2));
     Ok(())
 }
 
@@ -102,7 +103,7 @@ fn check_appended(
     appended.push(true)?;
     let (ones, zeros) = (&[true; 130][..len], &[false; 130][..len]);
     let want = [before, run, ones, zeros, &[true]].concat(rt.alloc())?;
-    assert!(rt; appended.len() == want.len());
+    check!(rt; appended.len() == want.len());
     check_bits(rt, &appended.into_bitmap()?, &want)
 }
 
@@ -143,7 +144,7 @@ pub fn check_runs(rt: &(impl Abort + Alloc<A = Global>)) -> Result<(), Error> {
             check_run(rt, &whole, &bits, offset, len)?;
         }
         let zeros = Bitmap::new_zeroed(rt.alloc(), len)?;
-        assert!(rt; zeros.len() == len && zeros.unset_bits() == len);
+        check!(rt; zeros.len() == len && zeros.unset_bits() == len);
     }
     Ok(())
 }
@@ -151,23 +152,23 @@ pub fn check_runs(rt: &(impl Abort + Alloc<A = Global>)) -> Result<(), Error> {
 /// The validity of [0, 1, null, 2, null, 3], after the example of Arrow's format.
 pub fn check_example(rt: &(impl Abort + Alloc<A = Global>)) -> Result<(), Error> {
     let validity = Bitmap::from_bools(rt.alloc(), &[true, true, false, true, false, true])?;
-    assert!(rt; validity.len() == 6 && validity.unset_bits() == 2);
+    check!(rt; validity.len() == 6 && validity.unset_bits() == 2);
     let other = Bitmap::from_bools(rt.alloc(), &[true, true, false, true, false, false])?;
-    assert!(rt; validity != other);
+    check!(rt; validity != other);
     Ok(())
 }
 
 /// Room for bits: more than can be counted, and more than there is memory for.
 pub fn check_room(rt: &(impl Abort + Alloc<A = Global>)) -> Result<(), Error> {
     let mut bits = MutableBitmap::with_capacity(rt.alloc(), 100)?;
-    assert!(rt; bits.is_empty());
+    check!(rt; bits.is_empty());
     bits.push(true)?;
-    assert!(rt; !bits.is_empty());
-    assert!(rt; bits.extend_constant(usize::MAX, false) == Err(Error::Overflow));
-    assert!(rt; bits.extend_constant(1 << 62, true) == Err(Error::OutOfMemory));
-    assert!(rt; bits.len() == 1);
+    check!(rt; !bits.is_empty());
+    check!(rt; bits.extend_constant(usize::MAX, false) == Err(Error::Overflow));
+    check!(rt; bits.extend_constant(1 << 62, true) == Err(Error::OutOfMemory));
+    check!(rt; bits.len() == 1);
     check_bits(rt, &bits.into_bitmap()?, &[true])?;
     let too_many = MutableBitmap::with_capacity(rt.alloc(), 1 << 62);
-    assert!(rt; too_many.err() == Some(Error::OutOfMemory));
+    check!(rt; too_many.err() == Some(Error::OutOfMemory));
     Ok(())
 }

@@ -1,5 +1,6 @@
 //! Buffers, and slices that share their values.
 
+use arrow_fixture::check;
 use arrow_memory::buffer::Buffer;
 use arrow_types::error::Error;
 use std::alloc::Global;
@@ -15,7 +16,7 @@ pub fn check_parts(rt: &(impl Abort + Alloc<A = Global>)) -> Result<(), Error> {
     let last = part.sliced(2, 1);
     assert!(rt; last.as_slice() == [-4].as_slice() && !last.is_empty());
     let none = last.sliced(1, 0);
-    assert!(rt; none.len() == 0 && none.is_empty());
-    assert!(rt; values.as_slice() == [1, -2, 3, -4, 5].as_slice());
+    check!(rt; none.len() == 0 && none.is_empty());
+    check!(rt; values.as_slice() == [1, -2, 3, -4, 5].as_slice());
     Ok(())
 }

@@ -1,5 +1,6 @@
 //! Offsets: which numbers are taken, where rows lie, and rows appended up to the greatest offset.
 
+use arrow_fixture::check;
 use arrow_memory::offset::{Offsets, OffsetsBuffer};
 use arrow_types::error::{Error, SpecPart};
 use arrow_types::types::Offset;
@@ -14,19 +15,19 @@ fn offsets_of<O: Offset>(alloc: Global, values: &[O]) -> Result<OffsetsBuffer<O>
 fn check_part(rt: &impl Abort, part: &mut OffsetsBuffer<i32>) {
     assert!(rt; part.len() == 4);
     part.slice(1, 2);
-    assert!(rt; part.buffer() == [2, 5].as_slice() && *part.last() == 5);
+    check!(rt; part.buffer() == [2, 5].as_slice() && *part.last() == 5);
     part.slice(1, 1);
-    assert!(rt; part.buffer() == [5].as_slice() && *part.last() == 5);
+    check!(rt; part.buffer() == [5].as_slice() && *part.last() == 5);
 }
 
 /// Where three rows lie, which slices of a clone leave.
 pub fn check_places(rt: &(impl Abort + Alloc<A = Global>)) -> Result<(), Error> {
     let offsets = offsets_of(rt.alloc(), &[2i32, 2, 5, 9])?;
     check_part(rt, &mut offsets.clone()?);
-    assert!(rt; offsets.buffer() == [2, 2, 5, 9].as_slice() && *offsets.last() == 9);
+    check!(rt; offsets.buffer() == [2, 2, 5, 9].as_slice() && *offsets.last() == 9);
     assert!(rt; offsets.len() == 4);
     for (row, place) in [(2, 2), (2, 5), (5, 9)].iter().enumerate() {
-        assert!(rt; row < 3 && offsets.start_end(row) == *place);
+        check!(rt; row < 3 && offsets.start_end(row) == *place);
     }
     Ok(())
 }
@@ -47,13 +48,13 @@ const NUMBERS: [(&[i64], bool); 10] = [
 
 /// Which numbers are taken, and those as they are.
 pub fn check_numbers(rt: &(impl Abort + Alloc<A = Global>)) -> Result<(), Error> {
-    for (numbers, are_offsets) in NUMBERS {
+    for (numbers, are_offsets) in &NUMBERS {
         let is_as_wanted = match offsets_of(rt.alloc(), numbers) {
-            Ok(offsets) => are_offsets && offsets.buffer() == numbers,
+            Ok(offsets) => *are_offsets && offsets.buffer() == *numbers,
             Err(Error::OutOfMemory) => return Err(Error::OutOfMemory),
-            Err(error) => !are_offsets && error == Error::OutOfSpec(SpecPart::Offsets),
+            Err(error) => !*are_offsets && error == Error::OutOfSpec(SpecPart::Offsets),
         };
-        assert!(rt; is_as_wanted, "{numbers:?}");
+        check!(rt; is_as_wanted, numbers);
     }
     Ok(())
 }
@@ -92,7 +93,7 @@ fn check_step<O: Offset>(
     if refused.is_none() {
         return outcome;
     }
-    assert!(rt; outcome.err() == refused && offsets.len() == len && *offsets.last() == last);
+    check!(rt; outcome.err() == refused && offsets.len() == len && *offsets.last() == last);
     Ok(())
 }
 
@@ -120,7 +121,7 @@ fn check_rows<O: Offset>(
 ) -> Result<(), Error> {
     let mut offsets = Offsets::<O>::with_capacity(rt.alloc(), capacity)?;
     check_steps(rt, &mut offsets, &offsets_of(rt.alloc(), others)?, steps)?;
-    assert!(rt; offsets.into_buffer()?.buffer() == want);
+    check!(rt; offsets.into_buffer()?.buffer() == want);
     Ok(())
 }
 
@@ -171,7 +172,7 @@ pub fn check_appended(rt: &(impl Abort + Alloc<A = Global>)) -> Result<(), Error
     check_rows(rt, 0, &[0i32], MANY, &[0])?;
     for capacity in [1 << 62, usize::MAX] {
         let outcome = Offsets::<i32>::with_capacity(rt.alloc(), capacity);
-        assert!(rt; outcome.err() == Some(Error::OutOfMemory));
+        check!(rt; outcome.err() == Some(Error::OutOfMemory));
     }
     Ok(())
 }

@@ -1,5 +1,6 @@
 //! Data types and fields.
 
+use arrow_fixture::check;
 use arrow_fixture::read::read;
 use arrow_fixture::types::child;
 use arrow_types::datatypes::{DataType, Field, IntegerType, PhysicalType};
@@ -110,15 +111,15 @@ fn check_type(
     is_carried: bool,
 ) -> Result<PhysicalType, Error> {
     let data_type = read(rt.alloc(), text)?;
-    assert!(rt; data_type.is_carried() == is_carried, "{text}");
+    check!(rt; data_type.is_carried() == is_carried, text);
     let copy = data_type.clone()?;
-    assert!(rt; copy == data_type, "{text}");
+    check!(rt; copy == data_type, text);
     Ok(copy.to_physical_type())
 }
 
 pub fn check_types(rt: &(impl Abort + Alloc<A = Global>)) -> Result<(), Error> {
     for (text, physical_type) in &CARRIED {
-        assert!(rt; check_type(rt, text, true)? == *physical_type, "{text}");
+        check!(rt; check_type(rt, text, true)? == *physical_type, text);
     }
     for text in &UNCARRIED {
         check_type(rt, text, false)?;
@@ -186,7 +187,7 @@ pub fn check_different(rt: &(impl Abort + Alloc<A = Global>)) -> Result<(), Erro
     let again = read_all(rt.alloc(), &DIFFERENT)?;
     for (i, left) in types.iter().enumerate() {
         for (j, right) in again.iter().enumerate() {
-            assert!(rt; (left == right) == (i == j), "{left:?} against {right:?}");
+            check!(rt; (left == right) == (i == j), (left, right));
         }
     }
     Ok(())
@@ -194,11 +195,11 @@ pub fn check_different(rt: &(impl Abort + Alloc<A = Global>)) -> Result<(), Erro
 
 pub fn check_fields(rt: &(impl Abort + Alloc<A = Global>)) -> Result<(), Error> {
     let field = Field::new(String::from_str(rt.alloc(), "id")?, DataType::Int64, false);
-    assert!(rt; field.name() == "id" && *field.data_type() == DataType::Int64);
-    assert!(rt; !field.is_nullable());
-    assert!(rt; field.clone()? == field && field.clone()?.name() == "id");
-    assert!(rt; child(rt.alloc(), "id", DataType::Int64)? != field);
-    assert!(rt; child(rt.alloc(), "id", DataType::Int64)?.is_nullable());
+    check!(rt; field.name() == "id" && *field.data_type() == DataType::Int64);
+    check!(rt; !field.is_nullable());
+    check!(rt; field.clone()? == field && field.clone()?.name() == "id");
+    check!(rt; child(rt.alloc(), "id", DataType::Int64)? != field);
+    check!(rt; child(rt.alloc(), "id", DataType::Int64)?.is_nullable());
     Ok(())
 }
 
@@ -207,8 +208,8 @@ pub fn check_logical(rt: &(impl Abort + Alloc<A = Global>)) -> Result<(), Error>
     let list = read(rt.alloc(), "i32 extension:inside:m list")?;
     let named = "i32 extension:inside:m list extension:inner:m extension:outer:m";
     let named = read(rt.alloc(), named)?;
-    assert!(rt; named.to_logical_type() == &list);
-    assert!(rt; list.to_logical_type() == &list);
-    assert!(rt; named.to_physical_type() == PhysicalType::List);
+    check!(rt; named.to_logical_type() == &list);
+    check!(rt; list.to_logical_type() == &list);
+    check!(rt; named.to_physical_type() == PhysicalType::List);
     Ok(())
 }

@@ -5,6 +5,7 @@ ghost use Rattle.arrow_types.specs.Greatest.{greatest_number, greatest_offset};
 ghost use Rattle.arrow_types.specs.Relation.{related, eq};
 ghost use Rattle.arrow_types.specs.Slot.{Boolean};
 
+use arrow_fixture::check;
 use arrow_types::datatypes::IntegerType;
 use arrow_types::types::{
     DictionaryKey, Index, NativeOrd, NativeType, Offset, PrimitiveType, days_ms, i256,
@@ -72,19 +73,19 @@ fn wide_numbers_in_order(rt: HostRuntime) {
                 count += 1;
             }
             let number = i256::new(high, low);
-            assert!(rt; number.high() == high);
-            assert!(rt; number.low() == low);
+            check!(&rt; number.high() == high);
+            check!(&rt; number.low() == low);
         }
     }
     for (i, a) in numbers.iter().enumerate() {
         for (j, b) in numbers.iter().enumerate() {
-            assert!(rt; a.cmp(b) == i.cmp(&j));
-            assert!(rt; (a == b) == (i == j));
-            assert!(rt; a.partial_cmp(b) == Some(i.cmp(&j)));
+            check!(&rt; a.cmp(b) == i.cmp(&j));
+            check!(&rt; (a == b) == (i == j));
+            check!(&rt; a.partial_cmp(b) == Some(i.cmp(&j)));
         }
     }
-    assert!(rt; i256::default() == i256::new(0, 0));
-    assert!(rt; larger(i256::new(-1, u128::MAX), i256::new(0, 0)).high() == 0);
+    check!(&rt; i256::default() == i256::new(0, 0));
+    check!(&rt; larger(i256::new(-1, u128::MAX), i256::new(0, 0)).high() == 0);
 }
 
 #[test]
@@ -92,10 +93,10 @@ fn intervals(rt: HostRuntime) {
     let days = [(0, 0), (-3, 2_000), (-3, 2_001), (3, 2_000)];
     for (i, (day, milliseconds)) in days.iter().enumerate() {
         let left = days_ms::new(*day, *milliseconds);
-        assert!(rt; left.days() == *day && left.milliseconds() == *milliseconds);
-        assert!(rt; is_zero(left) == (i == 0));
+        check!(&rt; left.days() == *day && left.milliseconds() == *milliseconds);
+        check!(&rt; is_zero(left) == (i == 0));
         for (j, (day, milliseconds)) in days.iter().enumerate() {
-            assert!(rt; (left == days_ms::new(*day, *milliseconds)) == (i == j));
+            check!(&rt; (left == days_ms::new(*day, *milliseconds)) == (i == j));
         }
     }
     let months = [
@@ -107,26 +108,26 @@ fn intervals(rt: HostRuntime) {
     ];
     for (i, (month, day, ns)) in months.iter().enumerate() {
         let left = months_days_ns::new(*month, *day, *ns);
-        assert!(rt; left.months() == *month && left.days() == *day && left.ns() == *ns);
-        assert!(rt; is_zero(left) == (i == 0));
+        check!(&rt; left.months() == *month && left.days() == *day && left.ns() == *ns);
+        check!(&rt; is_zero(left) == (i == 0));
         for (j, (month, day, ns)) in months.iter().enumerate() {
-            assert!(rt; are_equal_rows(left, months_days_ns::new(*month, *day, *ns)) == (i == j));
+            check!(&rt; are_equal_rows(left, months_days_ns::new(*month, *day, *ns)) == (i == j));
         }
     }
 }
 
 /// The greatest number of an index type, one above it, and rows of none, of one and of all.
 fn check_index<I: Index + DictionaryKey + Debug>(rt: &impl Abort, greatest: usize) {
-    assert!(rt; I::from_usize(0) == Some(I::default()));
+    check!(rt; I::from_usize(0) == Some(I::default()));
     let last = I::from_usize(greatest);
-    assert!(rt; key_again::<I>(greatest) == Some(greatest));
+    check!(rt; key_again::<I>(greatest) == Some(greatest));
     if let Some(above) = greatest.checked_add(1) {
-        assert!(rt; I::from_usize(above) == None);
-        assert!(rt; last.is_some_and(|last| last.in_range(above)));
+        check!(rt; I::from_usize(above) == None);
+        check!(rt; last.is_some_and(|last| last.in_range(above)));
     }
-    assert!(rt; last.is_some_and(|last| !last.in_range(greatest)));
+    check!(rt; last.is_some_and(|last| !last.in_range(greatest)));
     let zero = I::default();
-    assert!(rt; zero.in_range(1) && !zero.in_range(0));
+    check!(rt; zero.in_range(1) && !zero.in_range(0));
 }
 
 #[test]
@@ -140,20 +141,20 @@ fn indices_keys_and_offsets(rt: HostRuntime) {
     check_index::<u32>(&rt, 4_294_967_295);
     check_index::<u64>(&rt, 18_446_744_073_709_551_615);
     for negative in [-1, i32::MIN] {
-        assert!(rt; !negative.in_range(usize::MAX));
+        check!(&rt; !negative.in_range(usize::MAX));
     }
-    assert!(rt; !(-1i8).in_range(1) && !i16::MIN.in_range(1) && !(-1i64).in_range(usize::MAX));
-    assert!(rt; index_again(7u16) == Some(7));
-    assert!(rt; i8::KEY_TYPE == IntegerType::Int8);
-    assert!(rt; u64::KEY_TYPE == IntegerType::UInt64);
-    assert!(rt; offset_again::<i32>(2_147_483_647) == Some(2_147_483_647));
-    assert!(rt; offset_again::<i32>(2_147_483_648) == None);
+    check!(&rt; !(-1i8).in_range(1) && !i16::MIN.in_range(1) && !(-1i64).in_range(usize::MAX));
+    check!(&rt; index_again(7u16) == Some(7));
+    check!(&rt; i8::KEY_TYPE == IntegerType::Int8);
+    check!(&rt; u64::KEY_TYPE == IntegerType::UInt64);
+    check!(&rt; offset_again::<i32>(2_147_483_647) == Some(2_147_483_647));
+    check!(&rt; offset_again::<i32>(2_147_483_648) == None);
     let greatest = 9_223_372_036_854_775_807;
-    assert!(rt; offset_again::<i64>(greatest) == Some(greatest));
-    assert!(rt; offset_again::<i64>(greatest + 1) == None);
-    assert!(rt; !i32::IS_LARGE && i64::IS_LARGE);
-    assert!(rt; 13i32.shifted(10, 4) == 7);
-    assert!(rt; 9_223_372_036_854_775_806i64.shifted(1, 2) == 9_223_372_036_854_775_807);
+    check!(&rt; offset_again::<i64>(greatest) == Some(greatest));
+    check!(&rt; offset_again::<i64>(greatest + 1) == None);
+    check!(&rt; !i32::IS_LARGE && i64::IS_LARGE);
+    check!(&rt; 13i32.shifted(10, 4) == 7);
+    check!(&rt; 9_223_372_036_854_775_806i64.shifted(1, 2) == 9_223_372_036_854_775_807);
 }
 
 #[test]
@@ -173,7 +174,7 @@ fn element_types(rt: HostRuntime) {
         (months_days_ns::PRIMITIVE, PrimitiveType::MonthDayNano),
     ];
     for (found, want) in types {
-        assert!(rt; found == want);
+        check!(&rt; found == want);
     }
-    assert!(rt; are_equal_rows(7u8, 7) && !are_equal_rows(i128::MIN, i128::MAX));
+    check!(&rt; are_equal_rows(7u8, 7) && !are_equal_rows(i128::MIN, i128::MAX));
 }

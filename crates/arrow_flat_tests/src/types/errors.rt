@@ -1,5 +1,6 @@
 //! The texts of errors, and refused memory.
 
+use arrow_fixture::check;
 use arrow_types::error::{ArgumentFault, Error, SpecPart, Unsupported};
 use std::alloc::{AllocError, AllocFailed};
 use std::fmt::InlineText;
@@ -78,10 +79,10 @@ const TEXTS: [(Error, &str); 20] = [
 
 #[test]
 fn texts_and_refused_memory(rt: HostRuntime) {
-    for (error, want) in TEXTS {
-        let text: InlineText<96> = InlineText::of(error);
-        assert!(rt; text.as_str() == want);
+    for (error, want) in &TEXTS {
+        let text: InlineText<96> = InlineText::of(*error);
+        check!(&rt; text.as_str() == *want);
     }
-    assert!(rt; Error::from(AllocError) == Error::OutOfMemory);
-    assert!(rt; Error::from(AllocFailed { value: 7 }) == Error::OutOfMemory);
+    check!(&rt; Error::from(AllocError) == Error::OutOfMemory);
+    check!(&rt; Error::from(AllocFailed { value: 7 }) == Error::OutOfMemory);
 }

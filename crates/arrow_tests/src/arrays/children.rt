@@ -5,6 +5,7 @@ use crate::fixture::arrays::{ListKind, Shape, array_of, from_row, lists_of, make
 use arrow_arrays::array::{
     AnyArray, AnyOffsetsBuffer, FixedSizeListArray, ListArray, MapArray, StructArray,
 };
+use arrow_fixture::check;
 use arrow_memory::bitmap::Bitmap;
 use arrow_types::datatypes::UnionMode;
 use arrow_types::error::Error;
@@ -15,7 +16,7 @@ use std::process::Abort;
 fn check_spans(rt: &impl Abort, offsets: &AnyOffsetsBuffer, spans: &[(usize, usize)]) {
     assert!(rt; offsets.len() == 4);
     for (i, span) in spans.iter().enumerate() {
-        assert!(rt; i < 3 && offsets.start_end(i) == *span);
+        check!(rt; i < 3 && offsets.start_end(i) == *span);
     }
 }
 
@@ -26,7 +27,7 @@ fn check_list(
     spans: &[(usize, usize)],
     items: &AnyArray,
 ) -> Result<(), Error> {
-    assert!(rt; array.clone()? == *array && array.values() == items);
+    check!(rt; array.clone()? == *array && array.values() == items);
     check_spans(rt, array.offsets(), spans);
     check_spans(rt, &array.offsets().clone()?, spans);
     Ok(())
@@ -39,24 +40,24 @@ fn check_map(
     spans: &[(usize, usize)],
     items: &AnyArray,
 ) -> Result<(), Error> {
-    assert!(rt; array.clone()? == *array && array.field() == items);
+    check!(rt; array.clone()? == *array && array.field() == items);
     for (i, span) in spans.iter().enumerate() {
-        assert!(rt; i < array.len() && array.offsets().start_end(i) == *span);
+        check!(rt; i < array.len() && array.offsets().start_end(i) == *span);
     }
     Ok(())
 }
 
 /// The same of lists of two items each.
 fn check_fixed(rt: &impl Abort, array: &FixedSizeListArray, items: &AnyArray) -> Result<(), Error> {
-    assert!(rt; array.clone()? == *array && array.values() == items && array.size() == 2);
+    check!(rt; array.clone()? == *array && array.values() == items && array.size() == 2);
     Ok(())
 }
 
 /// The fields of a struct, which are those of another, and the same of a clone.
 fn check_struct(rt: &impl Abort, array: &StructArray, items: &AnyArray) -> Result<(), Error> {
-    assert!(rt; array.clone()? == *array);
+    check!(rt; array.clone()? == *array);
     match items {
-        AnyArray::Struct(items) => assert!(rt; array.values() == items.values()),
+        AnyArray::Struct(items) => check!(rt; array.values() == items.values()),
         _ => panic!(rt; "no struct"),
     }
     Ok(())
@@ -138,17 +139,21 @@ const PARTS: [(Shape, &[u8], Shape, &[u8]); 6] = [
     (Shape::Pairs(None), b"abCd", Shape::Pairs(None), b"bcd"),
 ];
 
+fn check_under(rt: &(impl Abort + Alloc<A = Global>), shape: Shape) -> Result<(), Error> {
+    let validity = Bitmap::from_bools(rt.alloc(), &[false, true, false, true])?;
+    let array = under(rt, array_of(rt.alloc(), shape, b"abCd")?, validity);
+    check_rows(rt, &array, shape, b"AbCd")
+}
+
 /// The children of slices, those of a struct and of lists of a fixed size slices too, and other
 /// validities over the same children.
 pub fn check_parts(rt: &(impl Abort + Alloc<A = Global>)) -> Result<(), Error> {
     let alloc = rt.alloc();
-    for (shape, rows, item, items) in PARTS {
-        let array = from_row(rt, array_of(alloc, shape, rows)?, 1);
-        let items = array_of(alloc, item, items)?;
+    for (shape, rows, item, items) in &PARTS {
+        let array = from_row(rt, array_of(alloc, *shape, rows)?, 1);
+        let items = array_of(alloc, *item, items)?;
         check_items(rt, &array, &[(1, 1), (1, 3), (3, 6)], &items)?;
-        let validity = Bitmap::from_bools(alloc, &[false, true, false, true])?;
-        let array = under(rt, array_of(alloc, shape, b"abCd")?, validity);
-        check_rows(rt, &array, shape, b"AbCd")?;
+        check_under(rt, *shape)?;
     }
     Ok(())
 }
@@ -224,10 +229,10 @@ const DEEP: [(Ends, Rows, Rows, Rows, bool); 13] = [
 /// Slices at each level hold the same rows, and a row that differs below tells the lists apart.
 pub fn check_deep(rt: &(impl Abort + Alloc<A = Global>)) -> Result<(), Error> {
     let array = deep(rt, ENDS, STRUCTS, KEYS, VALUES)?;
-    for (ends, rows, keys, values, want) in DEEP {
-        let other = deep(rt, ends, rows, keys, values)?;
+    for (ends, rows, keys, values, want) in &DEEP {
+        let other = deep(rt, *ends, *rows, *keys, *values)?;
         let found = [array == other, other == array];
-        assert!(rt; found == [want; 2], "{ends:?} {rows:?} {keys:?} {values:?}");
+        check!(rt; found == [*want; 2], (*ends, *rows, *keys, *values));
     }
     Ok(())
 }

@@ -2,27 +2,20 @@
 
 use crate::fixture::arrays::{Shape, flat};
 use arrow_arrays::array::{AnyKeys, DictionaryArray};
+use arrow_fixture::arrays::marks_of;
+use arrow_fixture::check;
 use arrow_fixture::read::read;
 use arrow_fixture::types::refusal;
 use arrow_flat::array::PrimitiveArray;
-use arrow_memory::bitmap::Bitmap;
 use arrow_memory::buffer::Buffer;
 use arrow_types::datatypes::DataType;
 use arrow_types::error::{Error, SpecPart};
 use std::alloc::Global;
 use std::process::Abort;
 
-/// Keys of 8 bits, or of 64, where -1 stands for the greatest of them.
-fn keys_of(
-    alloc: Global,
-    are_wide: bool,
-    keys: &[i8],
-    validity: Option<&[bool]>,
-) -> Result<AnyKeys, Error> {
-    let validity = match validity {
-        None => None,
-        Some(bits) => Some(Bitmap::from_bools(alloc, bits)?),
-    };
+/// Keys of 8 bits, or of 64, where -1 stands for the greatest of them. The validity is by letters.
+fn keys_of(alloc: Global, are_wide: bool, keys: &[i8], validity: &str) -> Result<AnyKeys, Error> {
+    let validity = marks_of(alloc, validity)?;
     if are_wide {
         let mut wide = Vec::new(alloc);
         for key in keys {
@@ -42,13 +35,12 @@ fn dictionary_of(
     alloc: Global,
     words: &str,
     keys: &[i8],
-    validity: Option<&[bool]>,
+    validity: &str,
     letters: &[u8],
 ) -> Result<DictionaryArray, Error> {
-    let keys = keys_of(alloc, words.ends_with("u64"), keys, validity)?;
-    let data_type = read(alloc, words)?;
     let texts = Box::new(alloc, flat(alloc, Shape::Utf8, letters)?)?;
-    DictionaryArray::try_new(data_type, keys, texts)
+    let keys = keys_of(alloc, words.ends_with("u64"), keys, validity)?;
+    DictionaryArray::try_new(read(alloc, words)?, keys, texts)
 }
 
 const NARROW: &str = "utf8 dictionary:i8";
@@ -68,16 +60,20 @@ fn are_same(keys: &AnyKeys, others: &AnyKeys) -> bool {
     }
 }
 
-/// The key of each row.
-fn check_each(rt: &impl Abort, array: &DictionaryArray, want: &[Option<usize>]) {
-    assert!(rt; array.len() == want.len() && array.is_empty() == want.is_empty());
+/// The key of each row, as a digit, or `_` for a null.
+fn check_each(rt: &impl Abort, array: &DictionaryArray, want: &[u8]) {
+    check!(rt; array.len() == want.len() && array.is_empty() == want.is_empty());
     let keys = array.keys();
     let mut nulls = 0usize;
-    for (i, key) in want.iter().enumerate() {
-        assert!(rt; i < keys.len() && keys.key(i) == *key);
+    for (i, digit) in want.iter().enumerate() {
+        let key = match digit {
+            b'_' => None,
+            digit => Some(usize::from(digit.saturating_sub(b'0'))),
+        };
+        check!(rt; i < keys.len() && keys.key(i) == key);
         nulls = nulls.saturating_add(usize::from(key.is_none()));
     }
-    assert!(rt; array.null_count() == nulls);
+    check!(rt; array.null_count() == nulls);
 }
 
 /// The rows, over two values, and whether there is a validity. Clones are the same.
@@ -85,26 +81,23 @@ fn check_rows(
     rt: &impl Abort,
     array: &DictionaryArray,
     has_validity: bool,
-    want: &[Option<usize>],
+    want: &[u8],
 ) -> Result<(), Error> {
     check_each(rt, array, want);
     match array.validity() {
-        None => assert!(rt; !has_validity),
-        Some(bits) => assert!(rt; has_validity && bits.len() == want.len()),
+        None => check!(rt; !has_validity),
+        Some(bits) => check!(rt; has_validity && bits.len() == want.len()),
     }
-    assert!(rt; array.clone()? == *array && array.values().len() == 2);
-    assert!(rt; are_same(array.keys(), &array.keys().clone()?));
+    check!(rt; array.clone()? == *array && array.values().len() == 2);
+    check!(rt; are_same(array.keys(), &array.keys().clone()?));
     Ok(())
 }
-
-/// Slices, each of the one before: where it begins, its length, and the key of each row.
-type Slices = &'static [(usize, usize, &'static [Option<usize>])];
 
 /// Slices of an array, over the same values.
 fn check_slices(
     rt: &impl Abort,
     array: &mut DictionaryArray,
-    slices: &[(usize, usize, &[Option<usize>])],
+    slices: &[(usize, usize, &[u8])],
 ) -> Result<(), Error> {
     for (offset, len, rows) in slices {
         let (offset, len) = (*offset, *len);
@@ -116,43 +109,34 @@ fn check_slices(
     Ok(())
 }
 
-const MIXED: (&[i8], Option<&[bool]>) = (&[1, -7, 0, 1], Some(&[true, false, true, true]));
-
-const ROWS: &[Option<usize>] = &[Some(1), None, Some(0), Some(1)];
+/// Where each slice begins in the one before, its length, and the key of each row.
+type Slices = &'static [(usize, usize, &'static [u8])];
 
 /// Keys under a validity, the texts that they name, the key of each row, and slices.
-const KEYS: [((&[i8], Option<&[bool]>), &[u8], &[Option<usize>], Slices); 7] = [
+const KEYS: [(&[i8], &str, &[u8], &[u8], Slices); 7] = [
     (
-        MIXED,
+        &[1, -7, 0, 1],
+        "tftt",
         b"ab",
-        ROWS,
-        &[
-            (1, 3, &[None, Some(0), Some(1)]),
-            (2, 1, &[Some(1)]),
-            (1, 0, &[]),
-        ],
+        b"1_01",
+        &[(1, 3, b"_01"), (2, 1, b"1"), (1, 0, b"")],
     ),
-    (MIXED, b"ab", ROWS, &[(3, 1, &[Some(1)])]),
-    ((&[], None), b"ab", &[], &[]),
-    ((&[], Some(&[])), b"ab", &[], &[]),
-    ((&[2, -1], Some(&[false, false])), b"ab", &[None, None], &[]),
-    (
-        (&[1, 1], Some(&[true, true])),
-        b"ab",
-        &[Some(1), Some(1)],
-        &[],
-    ),
-    ((&[0, 1], None), b"aB", &[Some(0), Some(1)], &[]),
+    (&[1, -7, 0, 1], "tftt", b"ab", b"1_01", &[(3, 1, b"1")]),
+    (&[], "-", b"ab", b"", &[]),
+    (&[], "", b"ab", b"", &[]),
+    (&[2, -1], "ff", b"ab", b"__", &[]),
+    (&[1, 1], "tt", b"ab", b"11", &[]),
+    (&[0, 1], "-", b"aB", b"01", &[]),
 ];
 
-/// The keys of each row, and of slices. A key that names
-/// no value lies beneath a null, and one that names a null value is valid.
+/// The keys of each row, and of slices. A key that names no value lies beneath a null, and one that
+/// names a null value is valid.
 pub fn check_keys(rt: &(impl Abort + Alloc<A = Global>)) -> Result<(), Error> {
-    for ((keys, validity), letters, rows, slices) in KEYS {
+    for (keys, validity, letters, rows, slices) in &KEYS {
         let mut array = dictionary_of(rt.alloc(), NARROW, keys, validity, letters)?;
-        check_rows(rt, &array, validity.is_some(), rows)?;
-        let nulls = usize::from(letters == b"aB".as_slice());
-        assert!(rt; array.values().null_count() == nulls);
+        check_rows(rt, &array, *validity != "-", rows)?;
+        let nulls = usize::from(*letters == b"aB".as_slice());
+        check!(rt; array.values().null_count() == nulls);
         check_slices(rt, &mut array, slices)?;
     }
     Ok(())
@@ -163,58 +147,49 @@ const KIND: Option<SpecPart> = Some(SpecPart::Kind);
 const KEY: Option<SpecPart> = Some(SpecPart::Key);
 
 /// A data type, keys under a validity, and what they are refused for.
-const REFUSED: [(&str, &[i8], Option<&[bool]>, Option<SpecPart>); 11] = [
-    ("utf8", &[2], None, KIND),
-    ("utf8 dictionary:i16", &[2], None, KIND),
-    (
-        "large_utf8 dictionary:i8",
-        &[2],
-        None,
-        Some(SpecPart::Child),
-    ),
-    (NARROW, &[0, 1], None, None),
-    (NARROW, &[0, 2], None, KEY),
-    (NARROW, &[0, -1], None, KEY),
-    (NARROW, &[2, 0], Some(&[true, false]), KEY),
-    (NARROW, &[2, 0], Some(&[false, true]), None),
-    (NARROW, &[-1, 0], Some(&[false, true]), None),
-    (WIDE, &[0, 1], None, None),
-    (WIDE, &[0, -1], None, KEY),
+const REFUSED: [(&str, &[i8], &str, Option<SpecPart>); 11] = [
+    ("utf8", &[2], "-", KIND),
+    ("utf8 dictionary:i16", &[2], "-", KIND),
+    ("large_utf8 dictionary:i8", &[2], "-", Some(SpecPart::Child)),
+    (NARROW, &[0, 1], "-", None),
+    (NARROW, &[0, 2], "-", KEY),
+    (NARROW, &[0, -1], "-", KEY),
+    (NARROW, &[2, 0], "tf", KEY),
+    (NARROW, &[2, 0], "ft", None),
+    (NARROW, &[-1, 0], "ft", None),
+    (WIDE, &[0, 1], "-", None),
+    (WIDE, &[0, -1], "-", KEY),
 ];
 
 /// Types of another kind, keys of another width and values of another type. Keys below 0, the last one
 /// that names a value, and one past it. Keys of 64 bits, the greatest of which names no value.
 pub fn check_refused(rt: &(impl Abort + Alloc<A = Global>)) -> Result<(), Error> {
-    for (words, keys, validity, want) in REFUSED {
+    for (words, keys, validity, want) in &REFUSED {
         let made = dictionary_of(rt.alloc(), words, keys, validity, b"ab");
-        assert!(rt; refusal(made)? == want, "{keys:?} of {words}");
+        check!(rt; refusal(made)? == *want, (keys, words));
     }
     Ok(())
 }
 
-const BOTH: Option<&[bool]> = Some(&[true, true]);
-
-const FIRST: Option<&[bool]> = Some(&[true, false]);
-
 /// The validity of the keys 0 and 1 over a and b, other keys, and whether they say the same.
-const EQUAL: [(Option<&[bool]>, &str, &[i8], Option<&[bool]>, &[u8], bool); 8] = [
-    (BOTH, NARROW, &[1, 0], None, b"ba", true),
-    (BOTH, NARROW, &[0, 1], None, b"ab", true),
-    (BOTH, NARROW, &[0, 1], None, b"ba", false),
-    (BOTH, NARROW, &[1, 1], None, b"ab", false),
-    (BOTH, NARROW, &[0], None, b"ab", false),
-    (BOTH, NARROW, &[0, 1], FIRST, b"ab", false),
-    (FIRST, NARROW, &[1, 9], FIRST, b"ca", true),
-    (None, ORDERED, &[0, 1], None, b"ab", false),
+const EQUAL: [(&str, &str, &[i8], &str, &[u8], bool); 8] = [
+    ("tt", NARROW, &[1, 0], "-", b"ba", true),
+    ("tt", NARROW, &[0, 1], "-", b"ab", true),
+    ("tt", NARROW, &[0, 1], "-", b"ba", false),
+    ("tt", NARROW, &[1, 1], "-", b"ab", false),
+    ("tt", NARROW, &[0], "-", b"ab", false),
+    ("tt", NARROW, &[0, 1], "tf", b"ab", false),
+    ("tf", NARROW, &[1, 9], "tf", b"ca", true),
+    ("-", ORDERED, &[0, 1], "-", b"ab", false),
 ];
 
 /// Equal to the keys 0 and 1 over a and b are arrays whose keys name the same values, wherever these lie,
 /// whatever lies beneath nulls, but not under another type.
 pub fn check_equality(rt: &(impl Abort + Alloc<A = Global>)) -> Result<(), Error> {
-    for (marks, words, keys, validity, letters, want) in EQUAL {
+    for (marks, words, keys, validity, letters, want) in &EQUAL {
         let array = dictionary_of(rt.alloc(), NARROW, &[0, 1], marks, b"ab")?;
         let other = dictionary_of(rt.alloc(), words, keys, validity, letters)?;
-        assert!(rt; (array == other) == want, "{keys:?} over {letters:?}");
+        check!(rt; (array == other) == *want, (keys, letters));
     }
     Ok(())
 }

@@ -1,7 +1,8 @@
 //! Arrays of nulls and arrays without rows.
 
-use crate::fixture::arrays::{Shape, flat, make_union};
+use crate::fixture::arrays::{Shape, both, flat, make_union};
 use arrow_arrays::array::{AnyArray, new_empty_array, new_null_array};
+use arrow_fixture::check;
 use arrow_fixture::read::read;
 use arrow_fixture::types::refusal;
 use arrow_types::datatypes::DataType;
@@ -42,10 +43,10 @@ fn check_type(
 ) -> Result<(), Error> {
     assert!(rt; data_type.is_carried());
     let empty = new_empty_array(rt.alloc(), data_type.clone()?)?;
-    assert!(rt; empty.len() == 0 && empty.data_type() == data_type);
+    check!(rt; empty.len() == 0 && empty.data_type() == data_type);
     let nulls = new_null_array(rt.alloc(), data_type.clone()?, 2)?;
-    assert!(rt; nulls.len() == 2 && nulls.null_count() == null_count);
-    assert!(rt; nulls.data_type() == data_type);
+    check!(rt; nulls.len() == 2 && nulls.null_count() == null_count);
+    check!(rt; nulls.data_type() == data_type);
     Ok(())
 }
 
@@ -77,7 +78,7 @@ pub fn check_equal(rt: &(impl Abort + Alloc<A = Global>)) -> Result<(), Error> {
         ("fixed_binary:3", Shape::FixedSizeBinary),
     ] {
         let rows = flat(rt.alloc(), shape, b"AB")?;
-        assert!(rt; nulls(rt, text, 2)? == rows, "{text}");
+        check!(rt; nulls(rt, text, 2)? == rows, text);
     }
     Ok(())
 }
@@ -85,7 +86,7 @@ pub fn check_equal(rt: &(impl Abort + Alloc<A = Global>)) -> Result<(), Error> {
 /// Items that are not counted: at two rows, and not at one.
 pub fn check_overflow(rt: &(impl Abort + Alloc<A = Global>)) -> Result<(), Error> {
     let half = "null fixed_list:9223372036854775808";
-    assert!(rt; nulls(rt, half, 1)?.len() == 1);
+    check!(rt; nulls(rt, half, 1)?.len() == 1);
     for text in [half, "fixed_binary:9223372036854775808"] {
         match nulls(rt, text, 2) {
             Err(Error::Overflow) => {}
@@ -106,7 +107,7 @@ pub fn check_unions(rt: &(impl Abort + Alloc<A = Global>)) -> Result<(), Error> 
             rt.panic("no union");
         };
         assert!(rt; array.len() == 2);
-        assert!(rt; array.index(0) == (0, 0) && array.index(1) == (0, place));
+        check!(rt; array.index(0) == (0, 0) && array.index(1) == (0, place));
     }
     Ok(())
 }
@@ -116,14 +117,14 @@ fn union_of(alloc: Global, ids: &[i8], letters: &[u8]) -> Result<AnyArray, Error
     let data_type = read(alloc, "i32 utf8 union:sparse:5,7")?;
     let numbers = flat(alloc, Shape::Number, letters)?;
     let texts = flat(alloc, Shape::Utf8, &letters.to_ascii_lowercase(alloc)?)?;
-    make_union(alloc, data_type, ids, vec![in alloc; numbers, texts]?, None)
+    make_union(alloc, data_type, ids, both(alloc, numbers, texts)?, None)
 }
 
 /// The same rows, built from parts. A type id that no field has makes no union.
 pub fn check_built(rt: &(impl Abort + Alloc<A = Global>)) -> Result<(), Error> {
     let rows = union_of(rt.alloc(), &[5, 5], b"AB")?;
-    assert!(rt; nulls(rt, "i32 utf8 union:sparse:5,7", 2)? == rows);
+    check!(rt; nulls(rt, "i32 utf8 union:sparse:5,7", 2)? == rows);
     let unknown = refusal(union_of(rt.alloc(), &[6], b"A"))?;
-    assert!(rt; unknown == Some(SpecPart::TypeId));
+    check!(rt; unknown == Some(SpecPart::TypeId));
     Ok(())
 }

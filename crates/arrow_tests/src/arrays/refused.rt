@@ -1,12 +1,13 @@
 //! Parts that make no lists and no pairs, and which of them is named.
 
 use crate::fixture::arrays::{
-    ListKind, Shape, array_of, flat, list_type, make_lists, make_structs, make_union, pair_type,
+    ListKind, Shape, array_of, both, flat, list_type, make_lists, make_structs, make_union,
+    pair_type, struct_of,
 };
 use arrow_arrays::array::{AnyArray, StructArray};
 use arrow_fixture::arrays::validity_of;
+use arrow_fixture::check;
 use arrow_fixture::types::refusal;
-use arrow_memory::bitmap::Bitmap;
 use arrow_types::datatypes::{DataType, UnionMode};
 use arrow_types::error::{Error, SpecPart};
 use std::alloc::Global;
@@ -26,13 +27,12 @@ const TYPE_ID: Option<SpecPart> = Some(SpecPart::TypeId);
 type Wrong = [Option<SpecPart>; 2];
 
 /// Two rows, or three where the length is wrong.
-fn marks(alloc: Global, wrong: Wrong) -> Result<Option<Bitmap>, Error> {
-    let letters: &[u8] = if wrong.contains(&LENGTH) {
+fn rows(wrong: Wrong) -> &'static [u8] {
+    if wrong.contains(&LENGTH) {
         b"aBc"
     } else {
         b"aB"
-    };
-    validity_of(alloc, letters)
+    }
 }
 
 /// Two lists of two items, with parts that are wrong.
@@ -49,7 +49,6 @@ fn wrong_lists(alloc: Global, kind: ListKind, wrong: Wrong) -> Result<AnyArray, 
         Shape::Utf8
     };
     let last = if wrong.contains(&OFFSETS) { 5 } else { 4 };
-    let validity = marks(alloc, wrong)?;
     let item = if is_map {
         pair_type(alloc, None, DataType::Utf8, DataType::Int32)?
     } else {
@@ -57,7 +56,8 @@ fn wrong_lists(alloc: Global, kind: ListKind, wrong: Wrong) -> Result<AnyArray, 
     };
     let data_type = list_type(alloc, named, item)?;
     let values = array_of(alloc, shape, b"abcd")?;
-    make_lists(alloc, kind, data_type, &[0, 2, last], values, validity)
+    let validity = validity_of(alloc, rows(wrong))?;
+    make_lists(alloc, kind, &data_type, &[0, 2, last], values, validity)
 }
 
 /// Two texts and two numbers, or the other way around.
@@ -68,14 +68,7 @@ fn wrong_fields(alloc: Global, wrong: Wrong) -> Result<Vec<AnyArray>, Error> {
         (Shape::Utf8, Shape::Number)
     };
     let left = flat(alloc, left, b"ab")?;
-    Ok(vec![in alloc; left, flat(alloc, right, b"ab")?]?)
-}
-
-/// A struct of these fields.
-fn wrong_struct(alloc: Global, data_type: DataType, wrong: Wrong) -> Result<AnyArray, Error> {
-    let validity = marks(alloc, wrong)?;
-    let fields = wrong_fields(alloc, wrong)?;
-    Ok(AnyArray::Struct(StructArray::try_new(data_type, fields, validity)?))
+    both(alloc, left, flat(alloc, right, b"ab")?)
 }
 
 /// Two pairs, with parts that are wrong.
@@ -87,7 +80,7 @@ fn wrong_pairs(alloc: Global, mode: Option<UnionMode>, wrong: Wrong) -> Result<A
     };
     let data_type = pair_type(alloc, named, DataType::Utf8, DataType::Int32)?;
     let Some(mode) = mode else {
-        return wrong_struct(alloc, data_type, wrong);
+        return struct_of(alloc, data_type, rows(wrong), wrong_fields(alloc, wrong)?);
     };
     let id = if wrong.contains(&TYPE_ID) { 6 } else { 7 };
     let places = [if wrong.contains(&OFFSETS) { 2 } else { 1 }, 0];
@@ -120,16 +113,16 @@ const ORDERS: [(Shape, &[Option<SpecPart>]); 8] = [
 /// Of two parts that are wrong the first is named, and each where it alone is wrong; with none an array
 /// is made.
 pub fn check_order(rt: &(impl Abort + Alloc<A = Global>)) -> Result<(), Error> {
-    for (shape, parts) in ORDERS {
+    for (shape, parts) in &ORDERS {
         for (i, first) in parts.iter().enumerate() {
             for second in parts.iter().skip(i) {
                 let wrong = [*first, *second];
-                let made = match shape {
+                let made = match *shape {
                     Shape::Lists(kind) => wrong_lists(rt.alloc(), kind, wrong),
                     Shape::Pairs(mode) => wrong_pairs(rt.alloc(), mode, wrong),
                     shape => array_of(rt.alloc(), shape, b"aB"),
                 };
-                assert!(rt; refusal(made)? == *first, "{wrong:?} of {shape:?}");
+                check!(rt; refusal(made)? == *first, (wrong, *shape));
             }
         }
     }
@@ -141,14 +134,14 @@ pub fn check_lengths(rt: &(impl Abort + Alloc<A = Global>)) -> Result<(), Error>
     let alloc = rt.alloc();
     let data_type = list_type(alloc, ListKind::FixedSize, DataType::Utf8)?;
     let items = flat(alloc, Shape::Utf8, b"abc")?;
-    let made = make_lists(alloc, ListKind::FixedSize, data_type, &[], items, None);
-    assert!(rt; refusal(made)? == Some(SpecPart::Length));
+    let made = make_lists(alloc, ListKind::FixedSize, &data_type, &[], items, None);
+    check!(rt; refusal(made)? == Some(SpecPart::Length));
     let (left, right) = (
         flat(alloc, Shape::Utf8, b"ab")?,
         flat(alloc, Shape::Number, b"a")?,
     );
     let made = make_structs(alloc, b"ab", left, right);
-    assert!(rt; refusal(made)? == Some(SpecPart::Length));
+    check!(rt; refusal(made)? == Some(SpecPart::Length));
     Ok(())
 }
 
@@ -158,8 +151,8 @@ pub fn check_fields(rt: &(impl Abort + Alloc<A = Global>)) -> Result<(), Error> 
     let data_type = pair_type(alloc, None, DataType::Utf8, DataType::Utf8)?;
     let fields = vec![in alloc; flat(alloc, Shape::Utf8, b"ab")?]?;
     let made = StructArray::try_new(data_type, fields, None);
-    assert!(rt; refusal(made)? == Some(SpecPart::Child));
+    check!(rt; refusal(made)? == Some(SpecPart::Child));
     let made = StructArray::try_new(DataType::Struct(Vec::new(alloc)), Vec::new(alloc), None);
-    assert!(rt; refusal(made)? == Some(SpecPart::Kind));
+    check!(rt; refusal(made)? == Some(SpecPart::Kind));
     Ok(())
 }

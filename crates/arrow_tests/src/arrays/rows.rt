@@ -3,7 +3,8 @@
 use crate::fixture::arrays::{SHAPES, Shape, array_of, flat, from_row};
 use arrow_arrays::array::AnyArray;
 use arrow_fixture::arrays::EQUAL;
-use arrow_types::datatypes::DataType;
+use arrow_fixture::check;
+use arrow_types::datatypes::{DataType, PhysicalType};
 use arrow_types::error::Error;
 use std::alloc::Global;
 use std::process::Abort;
@@ -15,11 +16,8 @@ pub fn check_rows(
     shape: Shape,
     letters: &[u8],
 ) -> Result<(), Error> {
-    assert!(rt;
-        *array == array_of(rt.alloc(), shape, letters)?,
-        "{shape:?}"
-    );
-    assert!(rt; array.len() == letters.len() && array.is_empty() == letters.is_empty());
+    check!(rt; *array == array_of(rt.alloc(), shape, letters)?, shape);
+    check!(rt; array.len() == letters.len() && array.is_empty() == letters.is_empty());
     let is_union = matches!(&shape, Shape::Pairs(Some(_)));
     let mut nulls = 0usize;
     for (i, letter) in letters.iter().enumerate() {
@@ -27,10 +25,10 @@ pub fn check_rows(
             None => true,
             Some(bits) => i < bits.len() && bits.get_bit(i),
         };
-        assert!(rt; is_set == (is_union || letter.is_ascii_lowercase()));
+        check!(rt; is_set == (is_union || letter.is_ascii_lowercase()));
         nulls = nulls.saturating_add(usize::from(!is_set));
     }
-    assert!(rt; array.null_count() == nulls);
+    check!(rt; array.null_count() == nulls);
     Ok(())
 }
 
@@ -43,50 +41,89 @@ const SLICES: [(usize, usize, &[u8]); 5] = [
     (2, 0, b""),
 ];
 
-/// Slices, each of the one before, of the rows baCDabb: the same as one slice of all rows, and as an
-/// array of the rows alone.
+/// So many rows at the start.
+fn first_rows(rt: &impl Abort, array: AnyArray, len: usize) -> AnyArray {
+    assert!(rt; len <= array.len());
+    array.sliced(0, len)
+}
+
+fn slice(rt: &impl Abort, array: &mut AnyArray, offset: usize, len: usize) {
+    assert!(rt; offset <= array.len() && len <= array.len() - offset);
+    array.slice(offset, len);
+}
+
+/// Slices, each of the one before: the same as one slice of all rows, and as an array of the rows alone.
+fn check_parts(
+    rt: &(impl Abort + Alloc<A = Global>),
+    shape: Shape,
+    array: &AnyArray,
+    part: &mut AnyArray,
+) -> Result<(), Error> {
+    let mut start = 0usize;
+    for (offset, len, rows) in &SLICES {
+        start = start.saturating_add(*offset);
+        slice(rt, part, *offset, *len);
+        check_rows(rt, part, shape, rows)?;
+        let rest = from_row(rt, array.clone()?, start);
+        check!(rt; first_rows(rt, rest, *len) == *part);
+    }
+    Ok(())
+}
+
+/// Slices of the rows baCDabb.
 fn check_slices(rt: &(impl Abort + Alloc<A = Global>), shape: Shape) -> Result<(), Error> {
     let array = array_of(rt.alloc(), shape, b"baCDabb")?;
-    let mut part = array.clone()?;
-    let mut start = 0usize;
-    for (offset, len, rows) in SLICES {
-        start = start.saturating_add(offset);
-        assert!(rt; offset <= part.len() && len <= part.len() - offset);
-        part.slice(offset, len);
-        check_rows(rt, &part, shape, rows)?;
-        let rest = from_row(rt, array.clone()?, start);
-        assert!(rt; len <= rest.len());
-        assert!(rt; rest.sliced(0, len) == part);
-    }
+    check_parts(rt, shape, &array, &mut array.clone()?)?;
     check_rows(rt, &array, shape, b"baCDabb")
+}
+
+/// Whether rows are the same as others but their first letter.
+fn check_pair(
+    rt: &(impl Abort + Alloc<A = Global>),
+    shape: Shape,
+    left: &[u8],
+    right: &[u8],
+    want: bool,
+) -> Result<(), Error> {
+    let array = array_of(rt.alloc(), shape, left)?;
+    check_rows(rt, &array, shape, left)?;
+    let other = from_row(rt, array_of(rt.alloc(), shape, right)?, 1);
+    check!(rt; [array == other, other == array] == [want; 2], (left, right, shape));
+    Ok(())
 }
 
 /// Equal are the same rows, whatever is stored beneath nulls, wherever they begin, and under a validity
 /// or none. The first letter of the other rows is sliced off.
 fn check_equality(rt: &(impl Abort + Alloc<A = Global>), shape: Shape) -> Result<(), Error> {
-    for (left, right, want) in EQUAL {
-        let array = array_of(rt.alloc(), shape, left)?;
-        check_rows(rt, &array, shape, left)?;
-        let other = from_row(rt, array_of(rt.alloc(), shape, right)?, 1);
-        let found = [array == other, other == array];
-        assert!(rt; found == [want; 2], "{left:?} and {right:?} of {shape:?}");
+    for (left, right, want) in &EQUAL {
+        check_pair(rt, shape, left, right, *want)?;
+    }
+    Ok(())
+}
+
+/// An array, and arrays of the same rows of other types, from which the data type tells it apart.
+fn check_type(
+    rt: &(impl Abort + Alloc<A = Global>),
+    shape: Shape,
+    physical: PhysicalType,
+    rows: &[u8],
+) -> Result<(), Error> {
+    let array = array_of(rt.alloc(), shape, rows)?;
+    check!(rt; array.data_type().to_physical_type() == physical);
+    for (other, _) in &SHAPES {
+        let is_same = array == array_of(rt.alloc(), *other, rows)?;
+        check!(rt; is_same == (shape == *other), (shape, *other));
     }
     Ok(())
 }
 
 /// Arrays of every shape. The data type tells those of the same rows apart, and those of no row too.
 pub fn check_shapes(rt: &(impl Abort + Alloc<A = Global>)) -> Result<(), Error> {
-    for (shape, physical) in SHAPES {
-        check_slices(rt, shape)?;
-        check_equality(rt, shape)?;
-        for rows in [b"ab".as_slice(), b""] {
-            let array = array_of(rt.alloc(), shape, rows)?;
-            assert!(rt; array.data_type().to_physical_type() == physical);
-            for (other, _) in SHAPES {
-                let is_same = array == array_of(rt.alloc(), other, rows)?;
-                assert!(rt; is_same == (shape == other), "{shape:?} and {other:?}");
-            }
-        }
+    for (shape, physical) in &SHAPES {
+        check_slices(rt, *shape)?;
+        check_equality(rt, *shape)?;
+        check_type(rt, *shape, *physical, b"ab")?;
+        check_type(rt, *shape, *physical, b"")?;
     }
     Ok(())
 }
@@ -94,9 +131,9 @@ pub fn check_shapes(rt: &(impl Abort + Alloc<A = Global>)) -> Result<(), Error> 
 /// Rows that are all null.
 pub fn check_nulls(rt: &(impl Abort + Alloc<A = Global>)) -> Result<(), Error> {
     let nulls = flat(rt.alloc(), Shape::Null, b"abc")?;
-    assert!(rt; *nulls.data_type() == DataType::Null && nulls.validity().is_none());
+    check!(rt; *nulls.data_type() == DataType::Null && nulls.validity().is_none());
     let part = from_row(rt, nulls.clone()?, 1);
-    assert!(rt; part.len() == 2 && part.null_count() == 2 && !part.is_empty() && part != nulls);
-    assert!(rt; part == flat(rt.alloc(), Shape::Null, b"ab")?);
+    check!(rt; part.len() == 2 && part.null_count() == 2 && !part.is_empty() && part != nulls);
+    check!(rt; part == flat(rt.alloc(), Shape::Null, b"ab")?);
     Ok(())
 }

@@ -7,6 +7,7 @@ ghost use Rattle.arrow_select.specs.Arrays.{IsFlat};
 
 use crate::fixture::arrays::{FLATS, Shape, array_of, from_row, is_flat};
 use arrow_arrays::array::{AnyArray, new_null_array};
+use arrow_fixture::check;
 use arrow_growable::growable::{AnyGrowable, Growable, make_growable};
 use arrow_types::datatypes::{DataType, IntervalUnit};
 use arrow_types::error::Error;
@@ -138,12 +139,9 @@ fn check_next(
 ) -> Result<(), Error>
     ensures { (grown_of growable.new).sources ≡ (grown_of growable.old).sources }
 {
-    assert!(rt; growable.len() == letters.len());
+    check!(rt; growable.len() == letters.len());
     let array = growable.as_box()?;
-    assert!(rt;
-        growable.len() == 0 && array == array_with(rt, kind, letters)?,
-        "{kind:?}"
-    );
+    check!(rt; growable.len() == 0 && array == array_with(rt, kind, letters)?, kind);
     let mut nulls = 0usize;
     for letter in letters {
         nulls = nulls.saturating_add(usize::from(!letter.is_ascii_lowercase()));
@@ -151,7 +149,7 @@ fn check_next(
     if matches!(kind, Kind::Rows(Shape::Null)) {
         nulls = letters.len();
     }
-    assert!(rt; array.null_count() == nulls);
+    check!(rt; array.null_count() == nulls);
     Ok(())
 }
 
@@ -160,13 +158,13 @@ fn check_next(
 fn check_overflow(rt: &impl Abort, growable: &mut AnyGrowable, arrays: &[&AnyArray])
     requires { (grown_of growable.old).sources ≡ Some (map (λ a. layout_of a.now) arrays.now) }
 {
-    assert!(rt; append(rt, growable, arrays, Part::Nulls(usize::MAX)) == Ok(()));
-    assert!(rt; append(rt, growable, arrays, Part::Nulls(1)) == Err(Error::Overflow));
-    assert!(rt; growable.len() == usize::MAX);
-    assert!(rt; append(rt, growable, arrays, Part::Nulls(0)) == Err(Error::Failed));
-    assert!(rt; append(rt, growable, arrays, Part::Rows(0, 0, 1)) == Err(Error::Failed));
-    assert!(rt; growable.as_box().err() == Some(Error::Failed));
-    assert!(rt; growable.len() == usize::MAX);
+    check!(rt; append(rt, growable, arrays, Part::Nulls(usize::MAX)) == Ok(()));
+    check!(rt; append(rt, growable, arrays, Part::Nulls(1)) == Err(Error::Overflow));
+    check!(rt; growable.len() == usize::MAX);
+    check!(rt; append(rt, growable, arrays, Part::Nulls(0)) == Err(Error::Failed));
+    check!(rt; append(rt, growable, arrays, Part::Rows(0, 0, 1)) == Err(Error::Failed));
+    check!(rt; growable.as_box().err() == Some(Error::Failed));
+    check!(rt; growable.len() == usize::MAX);
 }
 
 fn check_rows(
@@ -191,6 +189,18 @@ fn check_rows(
     Ok(())
 }
 
+/// A growable over these arrays.
+fn check_over(
+    rt: &(impl Abort + Alloc<A = Global>),
+    arrays: &[&AnyArray],
+    kind: Kind,
+    case: Case,
+    use_validity: bool,
+) -> Result<(), Error> {
+    let mut growable = make(rt, arrays, use_validity)?;
+    check_rows(rt, &mut growable, arrays, kind, case)
+}
+
 fn check_case(
     rt: &(impl Abort + Alloc<A = Global>),
     kind: Kind,
@@ -200,9 +210,7 @@ fn check_case(
     let [left, right] = case.letters;
     let left = from_row(rt, array_with(rt, kind, left)?, case.from);
     let right = from_row(rt, array_with(rt, kind, right)?, case.from);
-    let arrays = [&left, &right];
-    let mut growable = make(rt, &arrays, use_validity)?;
-    check_rows(rt, &mut growable, &arrays, kind, case)
+    check_over(rt, &[&left, &right], kind, case, use_validity)
 }
 
 /// Letters of which three are valid and three null by turns.
@@ -228,10 +236,10 @@ pub fn check_shapes(rt: &(impl Abort + Alloc<A = Global>)) -> Result<(), Error> 
         parts: [Part::Rows(0, 0, 193), Part::Nulls(0), Part::Nulls(0)],
         want: [&letters[7..], b"h"],
     };
-    for shape in FLATS {
-        check_case(rt, Kind::Rows(shape), ROWS, true)?;
-        check_case(rt, Kind::Rows(shape), ROWS, false)?;
-        check_case(rt, Kind::Rows(shape), long, false)?;
+    for shape in &FLATS {
+        check_case(rt, Kind::Rows(*shape), ROWS, true)?;
+        check_case(rt, Kind::Rows(*shape), ROWS, false)?;
+        check_case(rt, Kind::Rows(*shape), long, false)?;
     }
     Ok(())
 }

@@ -5,6 +5,7 @@ ghost use Rattle.arrow_types.specs.Rows.{masked};
 
 use crate::fixture::arrays::{Shape, array_of, from_row};
 use arrow_arrays::array::AnyArray;
+use arrow_fixture::check;
 use arrow_flat::array::{AnyPrimitive, Binary, ByteKind, ByteRows, FlatArray, NullArray, Text};
 use arrow_growable::growable::{
     FlatGrowable, Growable, GrowableBits, GrowableBytes, GrowableFixedRows, GrowableNull,
@@ -18,14 +19,14 @@ use std::process::Abort;
 
 /// The letters of an array and its row from which on it is bound, a first row and a count, and what is
 /// grown of so many rows and of a null.
-const CASES: [(Shape, &[u8], usize, (usize, usize), &[u8]); 7] = [
-    (Shape::Boolean, b"baCd", 0, (1, 2), b"aCA"),
-    (Shape::Number, b"ab", 0, (0, 2), b"abA"),
-    (Shape::Utf8, b"xaBc", 1, (0, 3), b"aBcA"),
-    (Shape::LargeUtf8, b"xaBc", 1, (0, 3), b"aBcA"),
-    (Shape::Binary, b"xaBc", 1, (0, 3), b"aBcA"),
-    (Shape::LargeBinary, b"xaBc", 1, (0, 3), b"aBcA"),
-    (Shape::FixedSizeBinary, b"abCd", 0, (1, 3), b"bCdA"),
+const CASES: [(Shape, &[u8], usize, usize, usize, &[u8]); 7] = [
+    (Shape::Boolean, b"baCd", 0, 1, 2, b"aCA"),
+    (Shape::Number, b"ab", 0, 0, 2, b"abA"),
+    (Shape::Utf8, b"xaBc", 1, 0, 3, b"aBcA"),
+    (Shape::LargeUtf8, b"xaBc", 1, 0, 3, b"aBcA"),
+    (Shape::Binary, b"xaBc", 1, 0, 3, b"aBcA"),
+    (Shape::LargeBinary, b"xaBc", 1, 0, 3, b"aBcA"),
+    (Shape::FixedSizeBinary, b"abCd", 0, 1, 3, b"bCdA"),
 ];
 
 /// An array of `len` rows of an array from row `start` on, and of a null.
@@ -39,7 +40,7 @@ fn grow<G: GrowableValues>(
 {
     let mut growable = FlatGrowable::<G>::new(rt.alloc(), vec![in rt.alloc(); array]?, false, 0)?;
     growable.extend(0, start, len)?;
-    assert!(rt; growable.len() == len);
+    check!(rt; growable.len() == len);
     growable.extend_validity(1)?;
     G::into_any(growable.into_array()?)
 }
@@ -67,10 +68,10 @@ fn grow_any(
 
 /// A null row that is copied has no bytes, though some lie beneath it in the slice that it is copied from.
 fn check_bytes<O: Offset, K: ByteKind>(rt: &impl Abort, grown: &FlatArray<ByteRows<O, K>>) {
-    assert!(rt; grown.values().as_slice() == b"aaaccc".as_slice());
-    assert!(rt; grown.offsets().len() == 5);
+    check!(rt; grown.values().as_slice() == b"aaaccc".as_slice());
+    check!(rt; grown.offsets().len() == 5);
     for (offset, want) in grown.offsets().buffer().iter().zip([0usize, 3, 3, 6, 6]) {
-        assert!(rt; O::from_usize(want) == Some(*offset));
+        check!(rt; O::from_usize(want) == Some(*offset));
     }
 }
 
@@ -79,25 +80,25 @@ fn check_stored(rt: &impl Abort, grown: &AnyArray) {
     match grown {
         AnyArray::Boolean(grown) => {
             assert!(rt; grown.len() == 3);
-            assert!(rt; grown.is_valid(0) && grown.value(0) && !grown.is_valid(1));
+            check!(rt; grown.is_valid(0) && grown.value(0) && !grown.is_valid(1));
         }
         AnyArray::Primitive(AnyPrimitive::Int32(grown)) => {
-            assert!(rt; grown.values().as_slice() == [49, 50, 0].as_slice());
+            check!(rt; grown.values().as_slice() == [49, 50, 0].as_slice());
         }
         AnyArray::Utf8(grown) => check_bytes(rt, grown),
         AnyArray::LargeUtf8(grown) => check_bytes(rt, grown),
         AnyArray::Binary(grown) => check_bytes(rt, grown),
         AnyArray::LargeBinary(grown) => check_bytes(rt, grown),
-        AnyArray::FixedSizeBinary(grown) => assert!(rt; grown.size() == 3),
+        AnyArray::FixedSizeBinary(grown) => check!(rt; grown.size() == 3),
         _ => {}
     }
 }
 
 pub fn check_typed(rt: &(impl Abort + Alloc<A = Global>)) -> Result<(), Error> {
-    for (shape, letters, from, (start, len), want) in CASES {
-        let array = from_row(rt, array_of(rt.alloc(), shape, letters)?, from);
-        let grown = grow_any(rt, &array, start, len)?;
-        assert!(rt; grown == array_of(rt.alloc(), shape, want)?, "{shape:?}");
+    for (shape, letters, from, start, len, want) in &CASES {
+        let array = from_row(rt, array_of(rt.alloc(), *shape, letters)?, *from);
+        let grown = grow_any(rt, &array, *start, *len)?;
+        check!(rt; grown == array_of(rt.alloc(), *shape, want)?, *shape);
         check_stored(rt, &grown);
     }
     Ok(())
@@ -110,8 +111,8 @@ fn check_nulls(rt: &impl Abort, growable: &mut GrowableNull) -> Result<(), Error
 {
     growable.extend(0, 1, 2)?;
     growable.extend(1, 0, 1)?;
-    assert!(rt; growable.len() == 3);
-    assert!(rt; growable.as_box()? == AnyArray::Null(NullArray::try_new(DataType::Null, 3)?));
+    check!(rt; growable.len() == 3);
+    check!(rt; growable.as_box()? == AnyArray::Null(NullArray::try_new(DataType::Null, 3)?));
     Ok(())
 }
 
@@ -119,21 +120,21 @@ fn check_nulls(rt: &impl Abort, growable: &mut GrowableNull) -> Result<(), Error
 fn check_too_many(rt: &impl Abort, growable: &mut GrowableNull)
     requires { growable.old.sources ≡ None }
 {
-    assert!(rt; growable.extend(0, 0, usize::MAX) == Ok(()));
-    assert!(rt; growable.extend(0, 0, 1) == Err(Error::Overflow));
-    assert!(rt; growable.len() == usize::MAX);
-    assert!(rt; growable.extend(0, 0, 0) == Err(Error::Failed));
-    assert!(rt; growable.extend_validity(0) == Err(Error::Failed));
-    assert!(rt; growable.as_box().err() == Some(Error::Failed));
+    check!(rt; growable.extend(0, 0, usize::MAX) == Ok(()));
+    check!(rt; growable.extend(0, 0, 1) == Err(Error::Overflow));
+    check!(rt; growable.len() == usize::MAX);
+    check!(rt; growable.extend(0, 0, 0) == Err(Error::Failed));
+    check!(rt; growable.extend_validity(0) == Err(Error::Failed));
+    check!(rt; growable.as_box().err() == Some(Error::Failed));
 }
 
 pub fn check_null_arrays(rt: &(impl Abort + Alloc<A = Global>)) -> Result<(), Error> {
     let mut growable = GrowableNull::default();
     check_nulls(rt, &mut growable)?;
     check_too_many(rt, &mut growable);
-    assert!(rt; growable.into_array().err() == Some(Error::Failed));
+    check!(rt; growable.into_array().err() == Some(Error::Failed));
     let mut growable = GrowableNull::new(rt.alloc(), DataType::Null);
     growable.extend_validity(3)?;
-    assert!(rt; growable.into_array()? == NullArray::try_new(DataType::Null, 3)?);
+    check!(rt; growable.into_array()? == NullArray::try_new(DataType::Null, 3)?);
     Ok(())
 }

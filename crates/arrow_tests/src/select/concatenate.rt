@@ -45,14 +45,14 @@ fn check_rows(
 }
 
 pub fn check_concatenate(rt: &(impl Abort + Alloc<A = Global>)) -> Result<(), Error> {
-    for shape in FLATS {
-        for (start, letters, want) in CASES {
-            check_rows(rt, [shape, shape], letters, start, Ok(want))?;
+    for shape in &FLATS {
+        for (start, letters, want) in &CASES {
+            check_rows(rt, [*shape, *shape], *letters, *start, Ok(*want))?;
         }
     }
-    for shapes in PAIRS {
+    for shapes in &PAIRS {
         let want = Error::InvalidArgumentError(ArgumentFault::ConcatenateTypes);
-        check_rows(rt, shapes, [b"1", b"a"], 0, Err(want))?;
+        check_rows(rt, *shapes, [b"1", b"a"], 0, Err(want))?;
     }
     let want = Error::InvalidArgumentError(ArgumentFault::ConcatenateEmpty);
     check_answer(rt, concatenate(rt.alloc(), &[]), Shape::Null, Err(want))?;

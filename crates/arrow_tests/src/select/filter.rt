@@ -9,15 +9,15 @@ use std::alloc::Global;
 use std::process::Abort;
 
 /// Rows and a predicate, each from some row on, and the rows that it keeps. A T is a null over true.
-type Case<'a> = ((usize, &'a [u8]), (usize, &'a [u8]), &'a [u8]);
+type Case<'a> = (usize, &'a [u8], usize, &'a [u8], &'a [u8]);
 
 const CASES: [Case<'static>; 6] = [
-    ((0, b"56789"), (0, b"tfftf"), b"58"),
-    ((0, b"123"), (0, b"tTf"), b"1"),
-    ((0, b"1_3"), (0, b"fff"), b""),
-    ((0, b"1_3"), (0, b"ttt"), b"1_3"),
-    ((1, b"xabCde"), (0, b"tfttT"), b"aCd"),
-    ((0, b""), (0, b""), b""),
+    (0, b"56789", 0, b"tfftf", b"58"),
+    (0, b"123", 0, b"tTf", b"1"),
+    (0, b"1_3", 0, b"fff", b""),
+    (0, b"1_3", 0, b"ttt", b"1_3"),
+    (1, b"xabCde", 0, b"tfttT", b"aCd"),
+    (0, b"", 0, b"", b""),
 ];
 
 fn check_rows(
@@ -25,7 +25,7 @@ fn check_rows(
     shape: Shape,
     case: Case,
 ) -> Result<(), Error> {
-    let ((start, rows), (first, letters), want) = case;
+    let (start, rows, first, letters, want) = case;
     let array = from_row(rt, array_of(rt.alloc(), shape, rows)?, start);
     let predicate = truths(rt.alloc(), letters)?;
     let len = array.len();
@@ -35,9 +35,9 @@ fn check_rows(
 }
 
 pub fn check_filter(rt: &(impl Abort + Alloc<A = Global>)) -> Result<(), Error> {
-    for shape in FLATS {
-        for case in CASES {
-            check_rows(rt, shape, case)?;
+    for shape in &FLATS {
+        for case in &CASES {
+            check_rows(rt, *shape, *case)?;
         }
     }
     // A predicate whose bits begin within a word and end within the third, over numbers that differ.
@@ -49,5 +49,5 @@ pub fn check_filter(rt: &(impl Abort + Alloc<A = Global>)) -> Result<(), Error> 
         predicate.push(if is_true { b't' } else { b'f' })?;
     }
     let want = [b'`' + 63, b'`' + 64, b'`' + 129];
-    check_rows(rt, Shape::Number, ((0, &rows), (3, &predicate), &want))
+    check_rows(rt, Shape::Number, (0, &rows, 3, &predicate, &want))
 }

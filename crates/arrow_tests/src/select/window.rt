@@ -3,6 +3,7 @@
 use crate::fixture::arrays::{FLATS, Shape, array_of, from_row, is_flat};
 use crate::select::check_answer;
 use arrow_arrays::array::AnyArray;
+use arrow_fixture::check;
 use arrow_flat::array::NullArray;
 use arrow_select::window::shift;
 use arrow_types::datatypes::DataType;
@@ -36,21 +37,21 @@ fn shift_rows(
 }
 
 fn check_rows(rt: &(impl Abort + Alloc<A = Global>), shape: Shape) -> Result<(), Error> {
-    for (start, rows, offset, want) in CASES {
-        let array = from_row(rt, array_of(rt.alloc(), shape, rows)?, start);
+    for (start, rows, offset, want) in &CASES {
+        let array = from_row(rt, array_of(rt.alloc(), shape, rows)?, *start);
         let want = want.ok_or(Error::InvalidArgumentError(ArgumentFault::ShiftOffset));
-        check_answer(rt, shift_rows(rt, &array, offset), shape, want)?;
+        check_answer(rt, shift_rows(rt, &array, *offset), shape, want)?;
     }
     Ok(())
 }
 
 pub fn check_shift(rt: &(impl Abort + Alloc<A = Global>)) -> Result<(), Error> {
-    for shape in FLATS {
-        check_rows(rt, shape)?;
+    for shape in &FLATS {
+        check_rows(rt, *shape)?;
     }
     // As many rows as can be counted.
     let array = AnyArray::Null(NullArray::try_new(DataType::Null, usize::MAX)?);
-    assert!(rt; shift_rows(rt, &array, 1)?.len() == usize::MAX);
+    check!(rt; shift_rows(rt, &array, 1)?.len() == usize::MAX);
     let want = Err(Error::InvalidArgumentError(ArgumentFault::ShiftOffset));
     check_answer(rt, shift_rows(rt, &array, i64::MIN), Shape::Null, want)
 }
