@@ -1,6 +1,6 @@
 -- A dictionary as contracts see it ("Dictionary-encoded Layout").
-use Rattle.std.specs.Prelude.{◌≡◌, ℕ, ◌<◌, ℤ, pos, Option, Some, None, List, map, length, refl}
-use Rattle.std.specs.Coded.{Coded, code_by, coded×, coded_ℕ, coded_list, coded_option}
+use Rattle.std.specs.Prelude.{◌≡◌, ℕ, ◌<◌, ℤ, pos, Bool, Option, Some, None, List, map, length, refl}
+use Rattle.std.specs.Coded.{Coded, code_by, coded×, coded_ℕ, coded_list, coded_bool, coded_option}
 use Rattle.std.specs.List.{All}
 use Rattle.arrow_types.specs.declared.error.Error.{Error}
 use Rattle.arrow_types.specs.declared.datatypes.IntegerType.{IntegerType}
@@ -13,18 +13,20 @@ use Rattle.arrow_flat.specs.DictionaryScalar.{values_in}
 use Rattle.arrow_flat.specs.Faults.{IsCarriedAs}
 use Rattle.arrow_arrays.specs.Faults.{NamesFirst}
 use Rattle.arrow_arrays.specs.Layout.{Layout, keyed, rows, type_of_layout}
+use Rattle.arrow_arrays.specs.PartOf.{bits_of_part}
 use Rattle.arrow_arrays.specs.StoredLayout.{layout_code}
 
--- the type, a key a row, None where it is null, and the values
+-- the type, the validity of the keys, if there is one, a key a row, None where it is null, and the values
 pub record KeyedParts : Type 0 where
   pub arrow_type : ArrowType
+  pub validity : Option (List Bool)
   pub keys : List (Option ℕ)
   pub child : Layout
 
 -- the code that the logic asks for
 abbrev pub keyed_parts_code : Coded KeyedParts
 keyed_parts_code =
-    code_by (ArrowType × (List (Option ℕ) × Layout)) (coded× type_code (coded× (coded_list (coded_option coded_ℕ)) layout_code)) (λ p. (p.arrow_type, (p.keys, p.child))) (λ t. record { arrow_type = t.0; keys = t.1.0; child = t.1.1 }) (λ _. refl)
+    code_by (ArrowType × (Option (List Bool) × (List (Option ℕ) × Layout))) (coded× type_code (coded× (coded_option (coded_list coded_bool)) (coded× (coded_list (coded_option coded_ℕ)) layout_code))) (λ p. (p.arrow_type, (p.validity, (p.keys, p.child)))) (λ t. record { arrow_type = t.0; validity = t.1.0; keys = t.1.1.0; child = t.1.1.1 }) (λ _. refl)
 
 abbrev pub keyed_layout : KeyedParts → Layout
 keyed_layout p = keyed p.arrow_type p.keys p.child
@@ -37,9 +39,10 @@ keyed_rows p = rows (keyed_layout p)
 abbrev pub keyed_meaning : KeyedParts → ArrowType × List Slot
 keyed_meaning p = (p.arrow_type, keyed_rows p)
 
--- the parts of a slice: its keys, and all values
+-- the parts of a slice: its keys with their validity, and all values
 abbrev pub keyed_part : KeyedParts → ℕ → ℕ → KeyedParts
-keyed_part p offset len = record { arrow_type = p.arrow_type; keys = sliced p.keys offset len; child = p.child }
+keyed_part p offset len =
+    record { arrow_type = p.arrow_type; validity = bits_of_part p.validity offset len; keys = sliced p.keys offset len; child = p.child }
 
 -- the key that a row of an array of keys is
 abbrev pub key_in : Slot → Option ℕ

@@ -1,6 +1,7 @@
 //! Arrays with children, and arrays of any type.
 
 mod any;
+mod any_rows;
 mod dictionary;
 mod fixed_size_list;
 mod list;
@@ -11,6 +12,7 @@ mod types;
 mod union;
 
 pub use any::AnyArray;
+pub use any_rows::{AnyOffset, AnyRows};
 pub use dictionary::{AnyKeys, DictionaryArray};
 pub use fixed_size_list::FixedSizeListArray;
 pub use list::{AnyOffsetsBuffer, ListArray};

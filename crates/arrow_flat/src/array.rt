@@ -14,6 +14,7 @@ ghost use Rattle.arrow_memory.specs.Sliced.{sliced};
 ghost use Rattle.arrow_flat.specs.Faults.{IsCarriedAs};
 ghost use Rattle.arrow_flat.specs.Parts.{Parts, FitsRows, IsValue, MarksNulls, rows_by, meaning_by, meaning_code, part_by, with_bits};
 
+mod any_element;
 mod any_primitive;
 mod boolean;
 mod byte_rows;
@@ -22,6 +23,7 @@ mod null;
 mod primitive;
 pub mod validity;
 
+pub use any_element::AnyElement;
 pub use any_primitive::AnyPrimitive;
 use arrow_memory::bitmap::Bitmap;
 use arrow_types::datatypes::{DataType, PhysicalType};

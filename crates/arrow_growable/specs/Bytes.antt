@@ -9,8 +9,6 @@ use Rattle.arrow_types.specs.Slot.{Slot}
 use Rattle.arrow_memory.specs.Offsets.{last_of}
 use Rattle.arrow_memory.specs.Sliced.{sliced}
 use Rattle.arrow_flat.specs.ByteRows.{ByteParts, row_bytes}
-use Rattle.arrow_flat.specs.Parts.{Parts, rows_by}
-use Rattle.arrow_arrays.specs.Layout.{Layout, flat}
 use Rattle.arrow_growable.specs.Validity.{bits_of_part}
 
 -- each row where its bit is set, and a row of no bytes where it is not
@@ -43,7 +41,3 @@ IsBytesLayout false physical.Binary = Unit {0}
 IsBytesLayout true physical.LargeUtf8 = Unit {0}
 IsBytesLayout true physical.LargeBinary = Unit {0}
 IsBytesLayout _ _ = ⊥
-
--- an array of such rows as contracts of arrays of any type see it
-abbrev pub rows_layout : {V : Type 0} → (V → List Slot) → Parts V → Layout
-rows_layout slots p = flat p.arrow_type (rows_by slots p)

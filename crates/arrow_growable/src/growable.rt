@@ -18,12 +18,12 @@ pub use any::{AnyGrowable, AnyGrowablePrimitive};
 use arrow_arrays::array::AnyArray;
 use arrow_types::error::Error;
 pub use boolean::{GrowableBits, GrowableBoolean};
-pub use byte_rows::{AnyRows, GrowableBinary, GrowableBytes, GrowableKind, GrowableUtf8};
+pub use byte_rows::{GrowableBinary, GrowableBytes, GrowableKind, GrowableUtf8};
 pub use fixed_binary::{GrowableFixedRows, GrowableFixedSizeBinary};
 pub use flat::{FlatGrowable, GrowableValues};
 pub use make::make_growable;
 pub use null::{BoundNulls, GrowableNull};
-pub use primitive::{AnyElement, GrowablePrimitive};
+pub use primitive::GrowablePrimitive;
 
 /// An array under construction, to which rows of the arrays that are bound to it are appended, and null
 /// slots. After a call that refused it has failed: [`Growable::len`] answers the rows from before that

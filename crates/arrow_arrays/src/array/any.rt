@@ -9,7 +9,7 @@ ghost use Rattle.arrow_types.specs.SameTree.{same_by, same_by-equivalence};
 ghost use Rattle.arrow_types.specs.TypeOf.{type_of};
 ghost use Rattle.arrow_memory.specs.Sliced.{sliced};
 ghost use Rattle.arrow_flat.specs.Parts.{meaning_code};
-ghost use Rattle.arrow_arrays.specs.Any.{layout_of, any_array_type, any_array_rows, any_array_meaning, MarksArray, kind_of, kind_in};
+ghost use Rattle.arrow_arrays.specs.Any.{layout_of, any_array_type, any_array_rows, any_array_validity, any_array_meaning, MarksArray, kind_of, kind_in};
 ghost use Rattle.arrow_arrays.specs.PartOf.{part_of};
 ghost use Rattle.arrow_arrays.specs.Spans.{AreSameSpans};
 
@@ -92,9 +92,10 @@ impl AnyArray {
     }
 
     /// The validity: a bit for each row, set where the row is valid. Without it no row is null, but for
-    /// arrays of the null type. Of a dictionary it is that of the keys.
+    /// arrays of the null type. Of a dictionary it is that of the keys, and a union has none.
     pub fn validity(&self) -> Option<&Bitmap>
-        ensures { MarksArray self.now (option_copied result) }
+        ensures same { option_copied result ≡ any_array_validity self.now }
+        ensures marks { MarksArray self.now (option_copied result) }
     {
         of_any!(self, array => array.validity())
     }

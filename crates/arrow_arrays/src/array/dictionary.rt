@@ -13,7 +13,7 @@ ghost use Rattle.arrow_memory.specs.Sliced.{sliced};
 ghost use Rattle.arrow_flat.specs.DictionaryScalar.{values_in};
 ghost use Rattle.arrow_flat.specs.Parts.{MarksNulls, meaning_code};
 ghost use Rattle.arrow_arrays.specs.Any.{layout_of, kind_in, dictionary_kind};
-ghost use Rattle.arrow_arrays.specs.AnyKeys.{key_rows, key_type_of, keys_of};
+ghost use Rattle.arrow_arrays.specs.AnyKeys.{key_rows, key_type_of, keyed_of, keys_of};
 ghost use Rattle.arrow_arrays.specs.KeyedParts.{IsKeyed, IsKeyedFault, HoldsKeyed, AreKeys, keyed_rows, keyed_meaning, keyed_part};
 ghost use Rattle.arrow_arrays.specs.Layout.{rows, type_of_layout};
 ghost use Rattle.arrow_arrays.specs.Spans.{entry_row};
@@ -52,7 +52,7 @@ impl Drop for DictionaryArray {
 
 impl Model for DictionaryArray {
     ghost use Rattle.arrow_types.specs.TypeOf.{type_of};
-    ghost use Rattle.arrow_arrays.specs.AnyKeys.{key_rows, key_type_of, keys_of};
+    ghost use Rattle.arrow_arrays.specs.AnyKeys.{key_rows, key_type_of, keyed_of};
     ghost use Rattle.arrow_arrays.specs.Layout.{depth};
     ghost use Rattle.arrow_arrays.specs.KeyedParts.{KeyedParts, keyed_parts_code, keyed_layout, IsKeyed};
 
@@ -62,9 +62,9 @@ impl Model for DictionaryArray {
 
     ghost use Rattle.arrow_arrays.specs.Any.{layout_of};
 
-    ghost view = { λ a. record { arrow_type = type_of a.data_type; keys = keys_of a.keys; child = layout_of a.values.value } };
+    ghost view = { λ a. keyed_of (type_of a.data_type) a.keys (layout_of a.values.value) };
 
-    ghost invariant = { λ a. IsKeyed (key_rows a.keys) (key_type_of a.keys) (record { arrow_type = type_of a.data_type; keys = keys_of a.keys; child = layout_of a.values.value }) };
+    ghost invariant = { λ a. IsKeyed (key_rows a.keys) (key_type_of a.keys) (keyed_of (type_of a.data_type) a.keys (layout_of a.values.value)) };
 
     ghost size = { λ p. depth (keyed_layout p) };
 
@@ -86,8 +86,8 @@ impl DictionaryArray {
         keys: AnyKeys,
         values: Box<AnyArray>,
     ) -> Result<DictionaryArray, Error>
-        ensures ok { IfOk result (λ array. array ≡ record { arrow_type = type_of data_type; keys = keys_of keys; child = layout_of values.value }) }
-        ensures sound { OnOk result (IsKeyed (key_rows keys) (key_type_of keys) (record { arrow_type = type_of data_type; keys = keys_of keys; child = layout_of values.value })) }
+        ensures ok { IfOk result (λ array. array ≡ keyed_of (type_of data_type) keys (layout_of values.value)) }
+        ensures sound { OnOk result (IsKeyed (key_rows keys) (key_type_of keys) (keyed_of (type_of data_type) keys (layout_of values.value))) }
         ensures fault { IfErr result (IsKeyedFault (type_of data_type) (key_rows keys) (key_type_of keys) (layout_of values.value)) }
     {
         check_dictionary(&data_type, &keys, &values)?;
@@ -143,7 +143,8 @@ impl DictionaryArray {
 
     /// The validity: that of the keys. A key that names a null value is valid.
     pub fn validity(&self) -> Option<&Bitmap>
-        ensures { MarksNulls (option_copied result) (keyed_rows self.now) }
+        ensures same { option_copied result ≡ self.now.validity }
+        ensures marks { MarksNulls (option_copied result) (keyed_rows self.now) }
     {
         self.keys.validity()
     }

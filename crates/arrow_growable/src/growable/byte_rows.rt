@@ -10,12 +10,11 @@ ghost use Rattle.arrow_memory.specs.Offsets.{IsOffsets, last_of, with_rows};
 ghost use Rattle.arrow_memory.specs.Sliced.{sliced};
 ghost use Rattle.arrow_flat.specs.ByteRows.{byte_slots, row_bytes};
 ghost use Rattle.arrow_flat.specs.Pieces.{pieces};
-ghost use Rattle.arrow_arrays.specs.Any.{Kind, kind_of, layout_of, utf8_kind, large_utf8_kind, binary_kind, large_binary_kind};
-ghost use Rattle.arrow_growable.specs.Bytes.{IsBytesLayout, SparesBytes, filled, rows_layout, stored_rows, total};
+ghost use Rattle.arrow_growable.specs.Bytes.{IsBytesLayout, SparesBytes, filled, stored_rows, total};
 
 use crate::growable::flat::{FlatGrowable, GrowableValues};
-use arrow_arrays::array::AnyArray;
-use arrow_flat::array::{Binary, ByteKind, ByteRows, FlatArray, Text, Values};
+use arrow_arrays::array::{AnyArray, AnyOffset, AnyRows};
+use arrow_flat::array::{Binary, ByteKind, ByteRows, FlatArray, Text};
 use arrow_memory::bitmap::Bitmap;
 use arrow_memory::buffer::Buffer;
 use arrow_memory::offset::{Offsets, OffsetsBuffer};
@@ -32,7 +31,7 @@ pub type GrowableUtf8<'a, O> = FlatGrowable<'a, GrowableBytes<O, Text>>;
 pub type GrowableBinary<'a, O> = FlatGrowable<'a, GrowableBytes<O, Binary>>;
 
 /// Which rows of bytes can grow.
-pub trait GrowableKind: ByteKind {
+pub trait GrowableKind: AnyRows {
     // a row may be without bytes
     ghost allows_empty: { Self.Allows [] };
 
@@ -57,96 +56,6 @@ impl GrowableKind for Binary {
     ghost counts = { λ bytes. refl };
 
     ghost lies_as_bytes = { elim [ true ↦ tt | false ↦ tt ] };
-}
-
-/// Which arrays of any type have rows of a kind under offsets of a type.
-pub trait AnyRows<O> {
-    /// What these rows are stored in.
-    type Rows: Values;
-
-    // the kind of these arrays
-    ghost any_kind: { Kind };
-
-    /// An array of any type as one of such rows.
-    ///
-    /// # Requires
-    /// The array has such rows: texts or bytes, under offsets of this type.
-    fn of_any(array: &AnyArray) -> &FlatArray<Self::Rows>
-        requires { kind_of array.now ≡ any_kind }
-        ensures { rows_layout Self.Rows.slots result.now ≡ layout_of array.now };
-
-    /// The array as one of any type, which shares what is stored.
-    fn to_any(array: &FlatArray<Self::Rows>) -> Result<AnyArray, Error>
-        ensures ok { IfOk result (λ any. layout_of any ≡ rows_layout Self.Rows.slots array.now) }
-        ensures err { IsOkUnless result Error.OutOfMemory };
-}
-
-impl AnyRows<i32> for Text {
-    type Rows = ByteRows<i32, Text>;
-
-    ghost any_kind = { utf8_kind };
-
-    fn of_any(array: &AnyArray) -> &FlatArray<ByteRows<i32, Text>> {
-        match array {
-            AnyArray::Utf8(array) => array,
-            _ => unreachable!(),
-        }
-    }
-
-    fn to_any(array: &FlatArray<ByteRows<i32, Text>>) -> Result<AnyArray, Error> {
-        Ok(AnyArray::Utf8(array.clone()?))
-    }
-}
-
-impl AnyRows<i64> for Text {
-    type Rows = ByteRows<i64, Text>;
-
-    ghost any_kind = { large_utf8_kind };
-
-    fn of_any(array: &AnyArray) -> &FlatArray<ByteRows<i64, Text>> {
-        match array {
-            AnyArray::LargeUtf8(array) => array,
-            _ => unreachable!(),
-        }
-    }
-
-    fn to_any(array: &FlatArray<ByteRows<i64, Text>>) -> Result<AnyArray, Error> {
-        Ok(AnyArray::LargeUtf8(array.clone()?))
-    }
-}
-
-impl AnyRows<i32> for Binary {
-    type Rows = ByteRows<i32, Binary>;
-
-    ghost any_kind = { binary_kind };
-
-    fn of_any(array: &AnyArray) -> &FlatArray<ByteRows<i32, Binary>> {
-        match array {
-            AnyArray::Binary(array) => array,
-            _ => unreachable!(),
-        }
-    }
-
-    fn to_any(array: &FlatArray<ByteRows<i32, Binary>>) -> Result<AnyArray, Error> {
-        Ok(AnyArray::Binary(array.clone()?))
-    }
-}
-
-impl AnyRows<i64> for Binary {
-    type Rows = ByteRows<i64, Binary>;
-
-    ghost any_kind = { large_binary_kind };
-
-    fn of_any(array: &AnyArray) -> &FlatArray<ByteRows<i64, Binary>> {
-        match array {
-            AnyArray::LargeBinary(array) => array,
-            _ => unreachable!(),
-        }
-    }
-
-    fn to_any(array: &FlatArray<ByteRows<i64, Binary>>) -> Result<AnyArray, Error> {
-        Ok(AnyArray::LargeBinary(array.clone()?))
-    }
 }
 
 /// Rows of bytes that lie one behind the other, and that rows are appended to. A null row has no bytes.
@@ -359,8 +268,7 @@ fn run_at(bits: &Bitmap, start: usize, end: usize) -> (bool, usize)
     (is_set, end)
 }
 
-impl<O: Offset, K: GrowableKind + AnyRows<O, Rows = ByteRows<O, K>>> GrowableValues
-    for GrowableBytes<O, K> {
+impl<O: AnyOffset, K: GrowableKind> GrowableValues for GrowableBytes<O, K> {
     ghost use Rattle.std.proofs.lemmas.List.{length-replicate};
     ghost use Rattle.arrow_growable.specs.ByteLaws as laws;
 
@@ -376,7 +284,7 @@ impl<O: Offset, K: GrowableKind + AnyRows<O, Rows = ByteRows<O, K>>> GrowableVal
 
     ghost are_of = { λ rows t. physical_type_of t ≡ K.layout O.IS_LARGE };
 
-    ghost kind = { K.any_kind };
+    ghost kind = { K.any_kind O.IS_LARGE };
 
     ghost stored_part = { λ array start len. map K.slot (stored_rows array.validity array.values start len) };
 

@@ -5,8 +5,9 @@ ghost use Rattle.arrow_types.specs.Relation.{is_null};
 ghost use Rattle.arrow_types.specs.Slot.{Null};
 ghost use Rattle.arrow_memory.specs.Sliced.{sliced};
 ghost use Rattle.arrow_flat.specs.Parts.{MarksNulls, rows_by};
-ghost use Rattle.arrow_arrays.specs.AnyKeys.{key_rows, key_type_of, keys_of};
+ghost use Rattle.arrow_arrays.specs.AnyKeys.{key_rows, key_type_of, key_validity, keys_of};
 ghost use Rattle.arrow_arrays.specs.KeyedParts.{AreKeys, IsKey, IsKeyIn, key_in};
+ghost use Rattle.arrow_arrays.specs.PartOf.{bits_of_part};
 
 use arrow_flat::array::PrimitiveArray;
 use arrow_memory::bitmap::Bitmap;
@@ -83,7 +84,8 @@ impl AnyKeys {
 
     /// The validity of the keys.
     pub(crate) fn validity(&self) -> Option<&Bitmap>
-        ensures { MarksNulls (option_copied result) (key_rows self.now) }
+        ensures same { option_copied result ≡ key_validity self.now }
+        ensures marks { MarksNulls (option_copied result) (key_rows self.now) }
     {
         of_keys!(self, keys => keys.validity())
     }
@@ -106,6 +108,7 @@ impl AnyKeys {
     pub(crate) fn slice(&mut self, offset: usize, len: usize)
         requires { offset + len ≤ length (key_rows self.old) }
         ensures same { key_type_of self.new ≡ key_type_of self.old }
+        ensures validity { key_validity self.new ≡ bits_of_part (key_validity self.old) offset len }
         ensures rows { key_rows self.new ≡ sliced (key_rows self.old) offset len }
     {
         of_keys!(self, keys => keys.slice(offset, len))
