@@ -1,5 +1,5 @@
 -- Arrays that are given together: the type of each, and the rows of all.
-use Rattle.std.proofs.Common.{arith, ◌≡◌, ℕ, ◌+◌, ◌<◌, List, [], ◌∷◌, ◌++◌, Some, length, get_or, map, take, drop, refl, ap, sym, ◌∙◌, append_assoc}
+use Rattle.std.proofs.Common.{arith, ◌≡◌, ℕ, ◌+◌, ◌<◌, List, [], ◌∷◌, ◌++◌, Some, length, get_or, map, take, drop, refl, ap, sym, subst, ◌∙◌, append_assoc}
 use Rattle.std.specs.Prelude.{slice_get, option_map, Contains}
 use Rattle.std.specs.List.{All}
 use Rattle.std.proofs.lemmas.List.{append-nil, get_or-map, length-map, take-append-drop}
@@ -45,3 +45,9 @@ of_one_type f (x ∷ arrays) t same k d within =
     let there = get_or-map (λ y. type_of_layout (f y)) (x ∷ arrays) k x t bound in
     let long = length-map (x ∷ arrays) (λ y. type_of_layout (f y)) in
     ap type_of_layout here ∙ (sym there ∙ (same k t (omega (arith, bound, long)) ∙ sym (same 0 t (omega arith))))
+
+-- what holds of the first type holds of all, where each is the same
+pub all_as_first : {A : Type 0} (f : A → Layout) (arrays : List A) (t : ArrowType) (P : ArrowType → Type 0) → All (λ u. u ≡ t) (map (λ x. type_of_layout (f x)) arrays) → P (first_type (map f arrays)) → All P (map (λ x. type_of_layout (f x)) arrays)
+all_as_first f [] t P same held k d within = absurd (omega (arith, within))
+all_as_first f (x ∷ arrays) t P same held k d within =
+    subst P (same 0 t (omega arith) ∙ sym (same k d within)) held

@@ -43,7 +43,24 @@ pub fn concatenate(alloc: Global, arrays: &[&AnyArray]) -> Result<AnyArray, Erro
     if !have_one_type(arrays, first) {
         return Err(Error::InvalidArgumentError(ArgumentFault::ConcatenateTypes));
     }
-    let mut growable = make_growable(alloc, arrays, false, count_rows(arrays))?;
+    let growable = make_growable(alloc, arrays, false, count_rows(arrays))?;
+    all_rows(growable, arrays)
+}
+
+/// All rows of each array, by a growable over them that has none yet.
+fn all_rows<'a, G: Growable<'a> + Drop>(
+    growable: G,
+    arrays: &[&AnyArray],
+) -> Result<AnyArray, Error>
+    requires flat { All (λ array. IsFlat array.now) arrays.now }
+    requires bound { G.state growable ≡ bound_to (layouts_in arrays.now) }
+    ensures array_type { IfOk result (λ all. any_array_type all ≡ first_type (layouts_in arrays.now)) }
+    ensures rows { IfOk result (λ all. any_array_rows all ≡ joined (rows_in arrays.now)) }
+    ensures fits { IfOk result (λ all. Fits (any_array_type all) (any_array_rows all)) }
+    ensures overflow { result ≡ Err Error.Overflow → Fits (first_type (layouts_in arrays.now)) (joined (rows_in arrays.now)) → ⊥ }
+    ensures others { IfErr result IsOverflowOrMemory }
+{
+    let mut growable = growable;
     append_all(&mut growable, arrays)?;
     growable.as_box()
 }

@@ -36,7 +36,25 @@ pub fn filter(alloc: Global, array: &AnyArray, filter: &BooleanArray) -> Result<
     ensures overflow { result ≡ Err Error.Overflow → Fits (any_array_type array.now) (select (mask_of (boolean_rows filter.now)) (any_array_rows array.now)) → ⊥ }
     ensures others { IfErr result IsOverflowOrMemory }
 {
-    let mut growable = make_growable(alloc, &[array], false, 0)?;
+    selected(make_growable(alloc, &[array], false, 0)?, array, filter)
+}
+
+/// The rows at which the predicate is true, by a growable over the array that has none yet.
+fn selected<'a, G: Growable<'a> + Drop>(
+    growable: G,
+    array: &AnyArray,
+    filter: &BooleanArray,
+) -> Result<AnyArray, Error>
+    requires flat { IsFlat array.now }
+    requires bound { G.state growable ≡ bound_to (layout_of array.now ∷ []) }
+    requires lengths { length (boolean_rows filter.now) ≡ length (any_array_rows array.now) }
+    ensures array_type { IfOk result (λ kept. any_array_type kept ≡ any_array_type array.now) }
+    ensures rows { IfOk result (λ kept. any_array_rows kept ≡ select (mask_of (boolean_rows filter.now)) (any_array_rows array.now)) }
+    ensures fits { IfOk result (λ kept. Fits (any_array_type kept) (any_array_rows kept)) }
+    ensures overflow { result ≡ Err Error.Overflow → Fits (any_array_type array.now) (select (mask_of (boolean_rows filter.now)) (any_array_rows array.now)) → ⊥ }
+    ensures others { IfErr result IsOverflowOrMemory }
+{
+    let mut growable = growable;
     append_selected(&mut growable, array, filter)?;
     growable.as_box()
 }

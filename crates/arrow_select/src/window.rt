@@ -44,8 +44,28 @@ pub fn shift(alloc: Global, array: &AnyArray, offset: i64) -> Result<AnyArray, E
         return Err(Error::InvalidArgumentError(ArgumentFault::ShiftOffset));
     }
     let front = if offset > 0 { places } else { 0 };
-    let mut growable = make_growable(alloc, &[array], places > 0, len)?;
-    append_between(&mut growable, array, front, places - front)?;
+    let growable = make_growable(alloc, &[array], places > 0, len)?;
+    rows_between(growable, array, front, places - front)
+}
+
+/// What [`append_between`] appends, by a growable over the array that has no row yet.
+fn rows_between<'a, G: Growable<'a> + Drop>(
+    growable: G,
+    array: &AnyArray,
+    front: usize,
+    behind: usize,
+) -> Result<AnyArray, Error>
+    requires flat { IsFlat array.now }
+    requires bound { G.state growable ≡ bound_to (layout_of array.now ∷ []) }
+    requires within { front + behind ≤ length (any_array_rows array.now) }
+    ensures array_type { IfOk result (λ moved. any_array_type moved ≡ any_array_type array.now) }
+    ensures rows { IfOk result (λ moved. any_array_rows moved ≡ between (any_array_rows array.now) front behind (any_array_type array.now)) }
+    ensures fits { IfOk result (λ moved. Fits (any_array_type moved) (any_array_rows moved)) }
+    ensures overflow { result ≡ Err Error.Overflow → Fits (any_array_type array.now) (between (any_array_rows array.now) front behind (any_array_type array.now)) → ⊥ }
+    ensures others { IfErr result IsOverflowOrMemory }
+{
+    let mut growable = growable;
+    append_between(&mut growable, array, front, behind)?;
     growable.as_box()
 }
 

@@ -11,7 +11,6 @@ use arrow_types::error::Error;
 use arrow_types::types::{days_ms, i256, months_days_ns};
 
 /// An array of numbers or intervals under construction, of any element type.
-#[derive(Drop)]
 pub enum AnyGrowablePrimitive<'a> {
     Int8(GrowablePrimitive<'a, i8>),
     Int16(GrowablePrimitive<'a, i16>),
@@ -28,7 +27,6 @@ pub enum AnyGrowablePrimitive<'a> {
 }
 
 /// An array under construction, of any type.
-#[derive(Drop)]
 pub enum AnyGrowable<'a> {
     Null(BoundNulls<'a>),
     Boolean(GrowableBoolean<'a>),
@@ -74,6 +72,19 @@ macro_rules! of_any {
             AnyGrowable::FixedSizeBinary($growable) => $result,
         }
     };
+}
+
+// by hand, so that a drop is a call, and is not written out wherever a value is dropped
+impl Drop for AnyGrowablePrimitive<'_> {
+    fn drop(self) {
+        of_primitive!(self, _growable => {})
+    }
+}
+
+impl Drop for AnyGrowable<'_> {
+    fn drop(self) {
+        of_any!(self, _growable => {})
+    }
 }
 
 impl<'a> Growable<'a> for AnyGrowablePrimitive<'a> {

@@ -12,9 +12,8 @@ use Rattle.arrow_select.proofs.ShiftLemmas.{shifted_back, shifted_forth}
 use Rattle.arrow_select.proofs.window.shift.Goals as goal
 use Rattle.arrow_select.proofs.window.shift.Goals.{then-offset-gt0, else-offset-gt0}
 
-pub returns-in_err-append_between-clause-overflow :
-    goal.returns-in_err-append_between-clause-overflow
-returns-in_err-append_between-clause-overflow c overflows fits =
+pub returns-clause-overflow : goal.returns-clause-overflow
+returns-clause-overflow c overflows fits =
     let xs = any_array_rows c.args.array.now in
     let t = any_array_type c.args.array.now in
     let fits_64 : SFits w64 c.args.offset = search rules in
@@ -23,7 +22,7 @@ returns-in_err-append_between-clause-overflow c overflows fits =
       | then-offset-gt0 w ↦ shifted_back xs c.args.offset t _ _ places (search rules) w.front-is
       | else-offset-gt0 w ↦ shifted_forth xs c.args.offset t _ _ places (search rules) w.front-is
     ] in
-    c.in_err-append_between.ensures.overflow (ap Err (passed_on c.from_residual-in_err-append_between.result _ _ c.from_residual-in_err-append_between.ensures.1 overflows)) (subst (Fits t) moved fits)
+    c.rows_between.ensures.overflow overflows (subst (Fits t) moved fits)
 
 pub returns-clause-rows : goal.returns-clause-rows
 returns-clause-rows c =
@@ -35,4 +34,4 @@ returns-clause-rows c =
       | then-offset-gt0 w ↦ shifted_back xs c.args.offset t _ _ places (search rules) w.front-is
       | else-offset-gt0 w ↦ shifted_forth xs c.args.offset t _ _ places (search rules) w.front-is
     ] in
-    IfOk-weaker c.as_box.result _ _ (λ array held. held.1 ∙ (ap (λ (g : Grown). g.rows) c.in_ok-append_between.ensures.ok.0 ∙ sym moved)) c.as_box.ensures.ok
+    IfOk-weaker c.rows_between.result _ _ (λ array same. same ∙ sym moved) c.rows_between.ensures.rows
