@@ -1,9 +1,10 @@
 //! The commands, and the kernel that each calls.
 
-use crate::answers::{Answer, Refusal};
-use crate::grammar::Argument;
+use crate::answer::{Answer, Refusal};
+use crate::literals::Literal;
 use arrow_arrays::array::AnyArray;
 use arrow_select::{concatenate, filter, window};
+use arrow_types::error::Error;
 use std::alloc::{AllocError, Global};
 
 /// A command that a line may name.
@@ -28,7 +29,7 @@ impl Command {
     pub(crate) fn call(
         self,
         alloc: Global,
-        arguments: &[Argument<'_>],
+        arguments: &[Literal<'_>],
     ) -> Result<Answer, AllocError> {
         match self {
             Command::Concatenate => concatenate(alloc, arguments),
@@ -38,42 +39,65 @@ impl Command {
     }
 }
 
-fn concatenate(alloc: Global, arguments: &[Argument<'_>]) -> Result<Answer, AllocError> {
+/// The answer where a text is too long for an array of its type.
+const TOO_LONG: Refusal = Refusal::Kernel(Error::Overflow);
+
+fn concatenate(alloc: Global, arguments: &[Literal<'_>]) -> Result<Answer, AllocError> {
     let mut arrays = Vec::new(alloc);
     for argument in arguments {
         match argument {
-            Argument::Array(array) => arrays.push(array.as_array())?,
-            Argument::Number(_) => return Ok(Answer::Refused(Refusal::Usage)),
+            Literal::Array(array) => arrays.push(array.as_array())?,
+            Literal::TooLong(_) => return Ok(Answer::Refused(beside_too_long(arguments))),
+            Literal::Number(_) => return Ok(Answer::Refused(Refusal::Usage)),
         }
     }
     Ok(Answer::of_kernel(concatenate::concatenate(alloc, &arrays)))
 }
 
-fn filter(alloc: Global, arguments: &[Argument<'_>]) -> Answer {
+/// The refusal of arguments one of which is too long, where all are to be arrays.
+fn beside_too_long(arguments: &[Literal<'_>]) -> Refusal {
+    for argument in arguments {
+        if matches!(argument, Literal::Number(_)) {
+            return Refusal::Usage;
+        }
+    }
+    TOO_LONG
+}
+
+fn filter(alloc: Global, arguments: &[Literal<'_>]) -> Answer {
     let [array, predicate] = arguments else {
         return Answer::Refused(Refusal::Usage);
     };
-    let (Argument::Array(array), Argument::Array(predicate)) = (array, predicate) else {
+    let Literal::Array(predicate) = predicate else {
         return Answer::Refused(Refusal::Usage);
     };
-    let array = array.as_array();
-    match predicate.as_array() {
-        AnyArray::Boolean(predicate) if predicate.len() == array.len() => {
-            Answer::of_kernel(filter::filter(alloc, array, predicate))
+    let AnyArray::Boolean(predicate) = predicate.as_array() else {
+        return Answer::Refused(Refusal::Usage);
+    };
+    match array {
+        Literal::Array(array) if array.as_array().len() == predicate.len() => {
+            Answer::of_kernel(filter::filter(alloc, array.as_array(), predicate))
         }
+        Literal::TooLong(len) if *len == predicate.len() => Answer::Refused(TOO_LONG),
         _ => Answer::Refused(Refusal::Usage),
     }
 }
 
-fn shift(alloc: Global, arguments: &[Argument<'_>]) -> Answer {
+fn shift(alloc: Global, arguments: &[Literal<'_>]) -> Answer {
     let [array, offset] = arguments else {
         return Answer::Refused(Refusal::Usage);
     };
-    let (Argument::Array(array), Argument::Number(offset)) = (array, offset) else {
+    let Literal::Number(offset) = offset else {
         return Answer::Refused(Refusal::Usage);
     };
-    match offset.parse() {
-        Ok(offset) => Answer::of_kernel(window::shift(alloc, array.as_array(), offset)),
-        Err(_) => Answer::Refused(Refusal::Usage),
+    let Ok(offset) = offset.parse() else {
+        return Answer::Refused(Refusal::Usage);
+    };
+    match array {
+        Literal::Array(array) => {
+            Answer::of_kernel(window::shift(alloc, array.as_array(), offset))
+        }
+        Literal::TooLong(_) => Answer::Refused(TOO_LONG),
+        Literal::Number(_) => Answer::Refused(Refusal::Usage),
     }
 }

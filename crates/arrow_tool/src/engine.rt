@@ -7,7 +7,7 @@ ghost use Rattle.std.specs.Io.KnownBytes.{Appends};
 ghost use Rattle.arrow_tool.specs.Input.{ReadsToEnd};
 ghost use Rattle.arrow_tool.specs.Status.{status_of};
 
-use crate::answers::answer_to;
+use crate::line::answer_to;
 use crate::stream::{Sink, Source};
 use std::alloc::{AllocError, Global};
 

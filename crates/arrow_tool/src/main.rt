@@ -5,12 +5,13 @@
 use std::process::ExitCode;
 use stream::Guarded;
 
-mod answers;
-mod arrays;
+mod answer;
 mod commands;
 pub mod engine;
-mod grammar;
+mod line;
+mod literals;
 pub mod stream;
+mod text;
 
 fn main(rt: HostRuntime) -> ExitCode {
     let mut reader = Guarded::new(rt.stdin());

@@ -406,9 +406,9 @@ const BY_BYTES: Manner = Manner {
 
 #[test]
 fn lines(rt: HostRuntime) {
-    for (name, input, is_refused, output) in LINES {
-        check(&rt, name, input, AT_ONCE, (Ok(is_refused), output));
-        check(&rt, name, input, BY_BYTES, (Ok(is_refused), output));
+    for (name, input, is_refused, output) in &LINES {
+        check(&rt, name, input, AT_ONCE, (Ok(*is_refused), output));
+        check(&rt, name, input, BY_BYTES, (Ok(*is_refused), output));
     }
 }
 
@@ -459,11 +459,11 @@ const STATUSES: [(Outcome, u8); 5] = [
 
 #[test]
 fn faults(rt: HostRuntime) {
-    for (name, input, manner, want) in FAULTS {
-        check(&rt, name, input, manner, want);
+    for (name, input, manner, want) in &FAULTS {
+        check(&rt, name, input, *manner, *want);
     }
-    for (outcome, want) in STATUSES {
-        assert!(rt; status(&outcome) == want);
+    for (outcome, want) in &STATUSES {
+        assert!(rt; status(outcome) == *want);
     }
 }
 
@@ -518,8 +518,8 @@ const LONG: [(&str, Pieces, Pieces, usize, bool); 2] = [
 
 #[test]
 fn long_input(rt: HostRuntime) {
-    for (name, input, output, times, is_refused) in LONG {
-        let (input, output) = (text_of(&rt, input, times), text_of(&rt, output, times));
-        check(&rt, name, &input, AT_ONCE, (Ok(is_refused), &output));
+    for (name, input, output, times, is_refused) in &LONG {
+        let (input, output) = (text_of(&rt, input, *times), text_of(&rt, output, *times));
+        check(&rt, name, &input, AT_ONCE, (Ok(*is_refused), &output));
     }
 }

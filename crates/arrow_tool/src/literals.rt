@@ -1,4 +1,4 @@
-//! Arrays as lines write them: `i32[..]`, `bool[..]` and `utf8[..]`.
+//! Arrays and numbers as lines write them: `i32[..]`, `bool[..]`, `utf8[..]` and `-7`.
 
 ghost use Rattle.std.specs.Prelude.{◌≡◌, ◌<◌, length};
 ghost use Rattle.arrow_types.specs.Rows.{valid_at};
@@ -7,14 +7,15 @@ ghost use Rattle.arrow_arrays.specs.Any.{any_array_type, layout_of};
 ghost use Rattle.arrow_arrays.specs.Layout.{rows, type_of_layout};
 ghost use Rattle.arrow_tool.specs.Written.{IsWritten};
 
-use crate::grammar::{ReadError, split_outside_quotes};
+use crate::text::split_outside_quotes;
 use arrow_arrays::array::AnyArray;
 use arrow_flat::array::{AnyPrimitive, BooleanArray, FlatArray, PrimitiveArray, Utf8Array, Values};
 use arrow_memory::bitmap::Bitmap;
 use arrow_memory::buffer::Buffer;
 use arrow_memory::offset::Offsets;
 use arrow_types::datatypes::DataType;
-use std::alloc::Global;
+use arrow_types::error::Error;
+use std::alloc::{AllocError, Global};
 use std::fmt;
 use std::marker::Model;
 
@@ -57,18 +58,61 @@ impl WrittenArray {
     }
 }
 
-/// Reads an array, if the word has the form of one.
-pub(crate) fn read(alloc: Global, word: &str) -> Result<Option<WrittenArray>, ReadError> {
-    if let Some(elements) = elements_of(word, "i32[") {
-        return Ok(Some(read_numbers(alloc, elements)?));
+/// Why a line was not read.
+#[derive(Debug, Clone, Copy, PartialEq, Eq, thiserror::Error)]
+pub(crate) enum ReadError {
+    /// It has not the form of a line.
+    #[error("not a line")]
+    Syntax,
+    /// No array has the parts that were read.
+    #[error("not an array")]
+    Refused(Error),
+    #[error("out of memory")]
+    OutOfMemory(#[from(alloc)] AllocError),
+}
+
+impl From<Error> for ReadError {
+    fn from(error: Error) -> ReadError {
+        match error {
+            Error::OutOfMemory => ReadError::OutOfMemory(AllocError),
+            error => ReadError::Refused(error),
+        }
     }
-    if let Some(elements) = elements_of(word, "bool[") {
-        return Ok(Some(read_truths(alloc, elements)?));
+}
+
+/// An argument, as it stands on the line.
+#[derive(Drop)]
+pub(crate) enum Literal<'a> {
+    Array(WrittenArray),
+    /// So many texts that no array holds, since their bytes pass the greatest offset.
+    TooLong(usize),
+    /// A number, of any size: the command that takes it knows its range.
+    Number(&'a str),
+}
+
+impl Literal<'_> {
+    /// Reads an array or a number.
+    pub(crate) fn read<'a>(alloc: Global, word: &'a str) -> Result<Literal<'a>, ReadError> {
+        if let Some(elements) = elements_of(word, "i32[") {
+            return Ok(Literal::Array(read_numbers(alloc, elements)?));
+        }
+        if let Some(elements) = elements_of(word, "bool[") {
+            return Ok(Literal::Array(read_truths(alloc, elements)?));
+        }
+        if let Some(elements) = elements_of(word, "utf8[") {
+            return read_texts(alloc, elements);
+        }
+        if is_number(word) {
+            return Ok(Literal::Number(word));
+        }
+        Err(ReadError::Syntax)
     }
-    if let Some(elements) = elements_of(word, "utf8[") {
-        return Ok(Some(read_texts(alloc, elements)?));
-    }
-    Ok(None)
+}
+
+/// Whether this is an optional minus sign and digits.
+fn is_number(word: &str) -> bool {
+    let digits = word.strip_prefix('-').unwrap_or(word);
+    !digits.is_empty() && digits.bytes().all(|byte| byte.is_ascii_digit())
 }
 
 /// What stands between an array's opening and its closing bracket.
@@ -153,25 +197,33 @@ fn validity_of(alloc: Global, bits: &[bool]) -> Result<Option<Bitmap>, ReadError
 }
 
 /// An array of Utf8: its texts stand in quotes, and a null names none beneath it.
-fn read_texts(alloc: Global, elements: &str) -> Result<WrittenArray, ReadError> {
+fn read_texts<'a>(alloc: Global, elements: &str) -> Result<Literal<'a>, ReadError> {
     let mut offsets = Offsets::<i32>::with_capacity(alloc, 0)?;
     let mut texts = String::new(alloc);
     let mut validity = Vec::new(alloc);
+    let mut is_too_long = false;
     if !elements.is_empty() {
         for element in &split_outside_quotes(alloc, elements, ',')? {
             let start = texts.len();
             if *element != "_" {
                 push_text(&mut texts, element)?;
             }
-            offsets.try_push_usize(texts.len().saturating_sub(start))?;
+            match offsets.try_push_usize(texts.len().saturating_sub(start)) {
+                Err(Error::Overflow) => is_too_long = true,
+                outcome => outcome?,
+            }
             validity.push(*element != "_")?;
         }
+    }
+    if is_too_long {
+        return Ok(Literal::TooLong(validity.len()));
     }
     let values = Buffer::from_vec(alloc, texts.into_bytes())?;
     let validity = validity_of(alloc, &validity)?;
     let offsets = offsets.into_buffer()?;
     let array = Utf8Array::<i32>::try_new(DataType::Utf8, offsets, values, validity)?;
-    Ok(WrittenArray::new(AnyArray::Utf8(array)))
+    let array = WrittenArray::new(AnyArray::Utf8(array));
+    Ok(Literal::Array(array))
 }
 
 /// Appends the text that an element in quotes stands for.

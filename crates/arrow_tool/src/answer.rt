@@ -4,12 +4,9 @@ ghost use Rattle.std.specs.Prelude.{IfOk};
 ghost use Rattle.arrow_arrays.specs.Any.{any_array_type};
 ghost use Rattle.arrow_tool.specs.Written.{IsWritten};
 
-use crate::arrays::WrittenArray;
-use crate::commands::Command;
-use crate::grammar::{Line, ReadError};
+use crate::literals::WrittenArray;
 use arrow_arrays::array::AnyArray;
 use arrow_types::error::Error;
-use std::alloc::{AllocError, Global};
 use std::fmt;
 
 /// Why a line was refused.
@@ -45,21 +42,6 @@ impl Answer {
 
     pub(crate) fn is_refusal(&self) -> bool {
         matches!(self, Answer::Refused(_))
-    }
-}
-
-/// The answer to a line without its end, or none to a blank line.
-pub(crate) fn answer_to(alloc: Global, line: &[u8]) -> Result<Option<Answer>, AllocError> {
-    let line = match Line::read(alloc, line) {
-        Ok(Some(line)) => line,
-        Ok(None) => return Ok(None),
-        Err(ReadError::Syntax) => return Ok(Some(Answer::Refused(Refusal::Syntax))),
-        Err(ReadError::Refused(error)) => return Ok(Some(Answer::Refused(Refusal::Kernel(error)))),
-        Err(ReadError::OutOfMemory(error)) => return Err(error),
-    };
-    match Command::from_name(line.name) {
-        Some(command) => Ok(Some(command.call(alloc, &line.arguments)?)),
-        None => Ok(Some(Answer::Refused(Refusal::Command))),
     }
 }
 
