@@ -1,10 +1,10 @@
 //! Arrays of nulls and arrays without rows.
 
-use crate::fixture::arrays::{Shape, both, flat, make_union};
+use crate::arrays::refused::check_refused;
+use crate::fixture::arrays::{Shape, both, check_same, flat, make_union};
 use arrow_arrays::array::{AnyArray, new_empty_array, new_null_array};
 use arrow_fixture::check;
 use arrow_fixture::read::read;
-use arrow_fixture::types::refusal;
 use arrow_types::datatypes::DataType;
 use arrow_types::error::{Error, SpecPart};
 use std::alloc::Global;
@@ -78,7 +78,7 @@ pub fn check_equal(rt: &(impl Abort + Alloc<A = Global>)) -> Result<(), Error> {
         ("fixed_binary:3", Shape::FixedSizeBinary),
     ] {
         let rows = flat(rt.alloc(), shape, b"AB")?;
-        check!(rt; nulls(rt, text, 2)? == rows, text);
+        check_same(rt, &nulls(rt, text, 2)?, &rows);
     }
     Ok(())
 }
@@ -123,8 +123,6 @@ fn union_of(alloc: Global, ids: &[i8], letters: &[u8]) -> Result<AnyArray, Error
 /// The same rows, built from parts. A type id that no field has makes no union.
 pub fn check_built(rt: &(impl Abort + Alloc<A = Global>)) -> Result<(), Error> {
     let rows = union_of(rt.alloc(), &[5, 5], b"AB")?;
-    check!(rt; nulls(rt, "i32 utf8 union:sparse:5,7", 2)? == rows);
-    let unknown = refusal(union_of(rt.alloc(), &[6], b"A"))?;
-    check!(rt; unknown == Some(SpecPart::TypeId));
-    Ok(())
+    check_same(rt, &nulls(rt, "i32 utf8 union:sparse:5,7", 2)?, &rows);
+    check_refused(rt, union_of(rt.alloc(), &[6], b"A"), SpecPart::TypeId)
 }

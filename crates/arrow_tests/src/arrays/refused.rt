@@ -35,28 +35,37 @@ fn rows(wrong: Wrong) -> &'static [u8] {
     }
 }
 
-/// Two lists of two items, with parts that are wrong.
-fn wrong_lists(alloc: Global, kind: ListKind, wrong: Wrong) -> Result<AnyArray, Error> {
+/// The type of lists of texts or of pairs, or of other lists.
+fn wrong_list_type(alloc: Global, kind: ListKind, wrong: Wrong) -> Result<DataType, Error> {
     let named = match (kind, wrong.contains(&KIND)) {
         (kind, false) => kind,
         (ListKind::Large, true) => ListKind::Small,
         (_, true) => ListKind::Large,
     };
-    let is_map = kind == ListKind::Map;
-    let shape = if is_map != wrong.contains(&CHILD) {
-        Shape::Pairs(None)
-    } else {
-        Shape::Utf8
-    };
-    let last = if wrong.contains(&OFFSETS) { 5 } else { 4 };
-    let item = if is_map {
+    let item = if kind == ListKind::Map {
         pair_type(alloc, None, DataType::Utf8, DataType::Int32)?
     } else {
         DataType::Utf8
     };
-    let data_type = list_type(alloc, named, item)?;
-    let values = array_of(alloc, shape, b"abcd")?;
+    list_type(alloc, named, item)
+}
+
+/// The items of such lists, or those of others.
+fn wrong_items(alloc: Global, kind: ListKind, wrong: Wrong) -> Result<AnyArray, Error> {
+    let shape = if (kind == ListKind::Map) != wrong.contains(&CHILD) {
+        Shape::Pairs(None)
+    } else {
+        Shape::Utf8
+    };
+    array_of(alloc, shape, b"abcd")
+}
+
+/// Two lists of two items, with parts that are wrong.
+fn wrong_lists(alloc: Global, kind: ListKind, wrong: Wrong) -> Result<AnyArray, Error> {
+    let data_type = wrong_list_type(alloc, kind, wrong)?;
     let validity = validity_of(alloc, rows(wrong))?;
+    let last = if wrong.contains(&OFFSETS) { 5 } else { 4 };
+    let values = wrong_items(alloc, kind, wrong)?;
     make_lists(alloc, kind, &data_type, &[0, 2, last], values, validity)
 }
 
@@ -129,20 +138,31 @@ pub fn check_order(rt: &(impl Abort + Alloc<A = Global>)) -> Result<(), Error> {
     Ok(())
 }
 
+/// That the parts of an array were refused, and for which.
+pub fn check_refused(
+    rt: &impl Abort,
+    made: Result<AnyArray, Error>,
+    part: SpecPart,
+) -> Result<(), Error> {
+    let refused = refusal(made)?;
+    check!(rt; refused == Some(part));
+    Ok(())
+}
+
+/// Two texts and a number, as the fields of a struct.
+fn uneven_pairs(alloc: Global) -> Result<AnyArray, Error> {
+    let left = flat(alloc, Shape::Utf8, b"ab")?;
+    make_structs(alloc, b"ab", left, flat(alloc, Shape::Number, b"a")?)
+}
+
 /// Children that are no whole rows, and of unequal lengths.
 pub fn check_lengths(rt: &(impl Abort + Alloc<A = Global>)) -> Result<(), Error> {
     let alloc = rt.alloc();
     let data_type = list_type(alloc, ListKind::FixedSize, DataType::Utf8)?;
     let items = flat(alloc, Shape::Utf8, b"abc")?;
     let made = make_lists(alloc, ListKind::FixedSize, &data_type, &[], items, None);
-    check!(rt; refusal(made)? == Some(SpecPart::Length));
-    let (left, right) = (
-        flat(alloc, Shape::Utf8, b"ab")?,
-        flat(alloc, Shape::Number, b"a")?,
-    );
-    let made = make_structs(alloc, b"ab", left, right);
-    check!(rt; refusal(made)? == Some(SpecPart::Length));
-    Ok(())
+    check_refused(rt, made, SpecPart::Length)?;
+    check_refused(rt, uneven_pairs(alloc), SpecPart::Length)
 }
 
 /// A struct of too few children, and one of no field.
@@ -150,9 +170,19 @@ pub fn check_fields(rt: &(impl Abort + Alloc<A = Global>)) -> Result<(), Error> 
     let alloc = rt.alloc();
     let data_type = pair_type(alloc, None, DataType::Utf8, DataType::Utf8)?;
     let fields = vec![in alloc; flat(alloc, Shape::Utf8, b"ab")?]?;
-    let made = StructArray::try_new(data_type, fields, None);
-    check!(rt; refusal(made)? == Some(SpecPart::Child));
-    let made = StructArray::try_new(DataType::Struct(Vec::new(alloc)), Vec::new(alloc), None);
-    check!(rt; refusal(made)? == Some(SpecPart::Kind));
+    check_struct(rt, data_type, fields, SpecPart::Child)?;
+    let data_type = DataType::Struct(Vec::new(alloc));
+    check_struct(rt, data_type, Vec::new(alloc), SpecPart::Kind)
+}
+
+/// The same of a struct of these fields.
+fn check_struct(
+    rt: &impl Abort,
+    data_type: DataType,
+    fields: Vec<AnyArray>,
+    part: SpecPart,
+) -> Result<(), Error> {
+    let refused = refusal(StructArray::try_new(data_type, fields, None))?;
+    check!(rt; refused == Some(part));
     Ok(())
 }

@@ -131,9 +131,18 @@ pub fn check_shapes(rt: &(impl Abort + Alloc<A = Global>)) -> Result<(), Error> 
 /// Rows that are all null.
 pub fn check_nulls(rt: &(impl Abort + Alloc<A = Global>)) -> Result<(), Error> {
     let nulls = flat(rt.alloc(), Shape::Null, b"abc")?;
-    check!(rt; *nulls.data_type() == DataType::Null && nulls.validity().is_none());
     let part = from_row(rt, nulls.clone()?, 1);
-    check!(rt; part.len() == 2 && part.null_count() == 2 && !part.is_empty() && part != nulls);
-    check!(rt; part == flat(rt.alloc(), Shape::Null, b"ab")?);
+    check_all_null(rt, &nulls, &part, &flat(rt.alloc(), Shape::Null, b"ab")?);
     Ok(())
+}
+
+/// Rows of the null type, and a part of them.
+fn check_all_null(rt: &impl Abort, nulls: &AnyArray, part: &AnyArray, want: &AnyArray) {
+    check!(rt; matches!(nulls.data_type(), DataType::Null));
+    check!(rt; nulls.validity().is_none());
+    check!(rt; part.len() == 2);
+    check!(rt; part.null_count() == 2);
+    check!(rt; !part.is_empty());
+    check!(rt; part != nulls);
+    check!(rt; part == want);
 }

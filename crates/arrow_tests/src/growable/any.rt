@@ -141,7 +141,18 @@ fn check_next(
 {
     check!(rt; growable.len() == letters.len());
     let array = growable.as_box()?;
-    check!(rt; growable.len() == 0 && array == array_with(rt, kind, letters)?, kind);
+    check!(rt; growable.len() == 0);
+    check_array(rt, &array, kind, letters)
+}
+
+/// An array of these rows, of which so many are null.
+fn check_array(
+    rt: &(impl Abort + Alloc<A = Global>),
+    array: &AnyArray,
+    kind: Kind,
+    letters: &[u8],
+) -> Result<(), Error> {
+    check!(rt; *array == array_with(rt, kind, letters)?, kind);
     let mut nulls = 0usize;
     for letter in letters {
         nulls = nulls.saturating_add(usize::from(!letter.is_ascii_lowercase()));

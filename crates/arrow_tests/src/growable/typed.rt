@@ -1,15 +1,19 @@
 //! Growables of one type each, and the arrays that they become.
 
-ghost use Rattle.std.specs.Prelude.{◌≡◌, ◌+◌, ◌≤◌, length, None};
+ghost use Rattle.std.specs.Prelude.{◌≡◌, ◌+◌, ◌≤◌, length, map, None};
 ghost use Rattle.arrow_types.specs.Rows.{masked};
+ghost use Rattle.arrow_flat.specs.ByteRows.{byte_slots};
+ghost use Rattle.arrow_flat.specs.Parts.{rows_by};
 
-use crate::fixture::arrays::{Shape, array_of, from_row};
-use arrow_arrays::array::AnyArray;
+use crate::fixture::arrays::{Shape, array_of, check_same, from_row};
+use arrow_arrays::array::{AnyArray, AnyOffset};
 use arrow_fixture::check;
-use arrow_flat::array::{AnyPrimitive, Binary, ByteKind, ByteRows, FlatArray, NullArray, Text};
+use arrow_flat::array::{
+    AnyElement, AnyPrimitive, ByteKind, ByteRows, FlatArray, NullArray, PrimitiveArray,
+};
 use arrow_growable::growable::{
-    FlatGrowable, Growable, GrowableBits, GrowableBytes, GrowableFixedRows, GrowableNull,
-    GrowableValues,
+    FlatGrowable, Growable, GrowableBits, GrowableBytes, GrowableFixedRows, GrowableKind,
+    GrowableNull, GrowableValues,
 };
 use arrow_types::datatypes::DataType;
 use arrow_types::error::Error;
@@ -45,6 +49,30 @@ fn grow<G: GrowableValues>(
     G::into_any(growable.into_array()?)
 }
 
+/// The same of numbers of any element type.
+fn grow_numbers<T: AnyElement>(
+    rt: &(impl Abort + Alloc<A = Global>),
+    array: &PrimitiveArray<T>,
+    start: usize,
+    len: usize,
+) -> Result<AnyArray, Error>
+    requires { start + len ≤ length (rows_by (map T.slot) array.now) }
+{
+    grow::<Vec<T>>(rt, array, start, len)
+}
+
+/// The same of texts or bytes under offsets of either width.
+fn grow_bytes<O: AnyOffset, K: GrowableKind>(
+    rt: &(impl Abort + Alloc<A = Global>),
+    array: &FlatArray<ByteRows<O, K>>,
+    start: usize,
+    len: usize,
+) -> Result<AnyArray, Error>
+    requires { start + len ≤ length (rows_by (byte_slots K.slot) array.now) }
+{
+    grow::<GrowableBytes<O, K>>(rt, array, start, len)
+}
+
 /// The same of an array of any type, if there is a growable for it here.
 fn grow_any(
     rt: &(impl Abort + Alloc<A = Global>),
@@ -56,11 +84,11 @@ fn grow_any(
     assert!(rt; start <= rows && len <= rows - start);
     match array {
         AnyArray::Boolean(array) => grow::<GrowableBits>(rt, array, start, len),
-        AnyArray::Primitive(AnyPrimitive::Int32(array)) => grow::<Vec<i32>>(rt, array, start, len),
-        AnyArray::Utf8(array) => grow::<GrowableBytes<i32, Text>>(rt, array, start, len),
-        AnyArray::LargeUtf8(array) => grow::<GrowableBytes<i64, Text>>(rt, array, start, len),
-        AnyArray::Binary(array) => grow::<GrowableBytes<i32, Binary>>(rt, array, start, len),
-        AnyArray::LargeBinary(array) => grow::<GrowableBytes<i64, Binary>>(rt, array, start, len),
+        AnyArray::Primitive(AnyPrimitive::Int32(array)) => grow_numbers(rt, array, start, len),
+        AnyArray::Utf8(array) => grow_bytes(rt, array, start, len),
+        AnyArray::LargeUtf8(array) => grow_bytes(rt, array, start, len),
+        AnyArray::Binary(array) => grow_bytes(rt, array, start, len),
+        AnyArray::LargeBinary(array) => grow_bytes(rt, array, start, len),
         AnyArray::FixedSizeBinary(array) => grow::<GrowableFixedRows>(rt, array, start, len),
         _ => Err(Error::Failed),
     }
@@ -97,10 +125,20 @@ fn check_stored(rt: &impl Abort, grown: &AnyArray) {
 pub fn check_typed(rt: &(impl Abort + Alloc<A = Global>)) -> Result<(), Error> {
     for (shape, letters, from, start, len, want) in &CASES {
         let array = from_row(rt, array_of(rt.alloc(), *shape, letters)?, *from);
-        let grown = grow_any(rt, &array, *start, *len)?;
-        check!(rt; grown == array_of(rt.alloc(), *shape, want)?, *shape);
-        check_stored(rt, &grown);
+        check_grown(rt, &grow_any(rt, &array, *start, *len)?, *shape, want)?;
     }
+    Ok(())
+}
+
+/// An array that was grown: its rows, and what is stored of them.
+fn check_grown(
+    rt: &(impl Abort + Alloc<A = Global>),
+    grown: &AnyArray,
+    shape: Shape,
+    letters: &[u8],
+) -> Result<(), Error> {
+    check_stored(rt, grown);
+    check_same(rt, grown, &array_of(rt.alloc(), shape, letters)?);
     Ok(())
 }
 

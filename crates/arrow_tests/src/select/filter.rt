@@ -2,7 +2,9 @@
 
 use crate::fixture::arrays::{FLATS, Shape, array_of, from_row, is_flat};
 use crate::select::check_answer;
+use arrow_arrays::array::AnyArray;
 use arrow_fixture::arrays::truths;
+use arrow_flat::array::BooleanArray;
 use arrow_select::filter::filter;
 use arrow_types::error::Error;
 use std::alloc::Global;
@@ -27,11 +29,28 @@ fn check_rows(
 ) -> Result<(), Error> {
     let (start, rows, first, letters, want) = case;
     let array = from_row(rt, array_of(rt.alloc(), shape, rows)?, start);
-    let predicate = truths(rt.alloc(), letters)?;
-    let len = array.len();
-    assert!(rt; is_flat(&array) && first <= predicate.len() && predicate.len() - first == len);
-    let predicate = predicate.sliced(first, len);
-    check_answer(rt, filter(rt.alloc(), &array, &predicate), shape, Ok(want))
+    let predicate = from_bit(rt, truths(rt.alloc(), letters)?, first);
+    check_kept(rt, &array, &predicate, shape, want)
+}
+
+/// The bits from one on.
+fn from_bit(rt: &impl Abort, predicate: BooleanArray, start: usize) -> BooleanArray {
+    let len = predicate.len();
+    assert!(rt; start <= len);
+    predicate.sliced(start, len - start)
+}
+
+/// The rows that a predicate keeps.
+fn check_kept(
+    rt: &(impl Abort + Alloc<A = Global>),
+    array: &AnyArray,
+    predicate: &BooleanArray,
+    shape: Shape,
+    want: &[u8],
+) -> Result<(), Error> {
+    assert!(rt; is_flat(array));
+    assert!(rt; predicate.len() == array.len());
+    check_answer(rt, filter(rt.alloc(), array, predicate), shape, Ok(want))
 }
 
 pub fn check_filter(rt: &(impl Abort + Alloc<A = Global>)) -> Result<(), Error> {
