@@ -14,7 +14,7 @@ use crate::types::PrimitiveType;
 pub use physical_type::PhysicalType;
 
 /// The unit of a time, a timestamp or a duration.
-#[derive(Clone, Copy, Debug, PartialEq, Eq)]
+#[derive(Clone, Copy, Debug, PartialEq, Eq, Hash)]
 pub enum TimeUnit {
     Second,
     Millisecond,
@@ -23,7 +23,7 @@ pub enum TimeUnit {
 }
 
 /// What an interval counts: months, days and milliseconds, or months, days and nanoseconds.
-#[derive(Clone, Copy, Debug, PartialEq, Eq)]
+#[derive(Clone, Copy, Debug, PartialEq, Eq, Hash)]
 pub enum IntervalUnit {
     YearMonth,
     DayTime,
@@ -31,14 +31,14 @@ pub enum IntervalUnit {
 }
 
 /// Whether a union finds a row by an offset of its own, or at the same place in each child.
-#[derive(Clone, Copy, Debug, PartialEq, Eq)]
+#[derive(Clone, Copy, Debug, PartialEq, Eq, Hash)]
 pub enum UnionMode {
     Dense,
     Sparse,
 }
 
 /// The integer types, which are also those of dictionary keys.
-#[derive(Clone, Copy, Debug, PartialEq, Eq)]
+#[derive(Clone, Copy, Debug, PartialEq, Eq, Hash)]
 pub enum IntegerType {
     Int8,
     Int16,

@@ -4,6 +4,7 @@
 
 pub mod datatypes;
 pub mod error;
+pub mod laws;
 pub mod types;
 
 pub use error::{ArgumentFault, Error, SpecPart, Unsupported};

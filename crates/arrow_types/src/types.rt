@@ -17,7 +17,7 @@ pub use order::NativeOrd;
 pub use wide::i256;
 
 /// The element of a primitive array. No array has a float's.
-#[derive(Clone, Copy, Debug, PartialEq, Eq)]
+#[derive(Clone, Copy, Debug, PartialEq, Eq, Hash)]
 pub enum PrimitiveType {
     Int8,
     Int16,

@@ -4,7 +4,7 @@ use crate::datatypes::IntegerType;
 use crate::types::PrimitiveType;
 
 /// The layouts of Arrow's columnar format ("Physical Memory Layout"): which array holds a data type.
-#[derive(Clone, Copy, Debug, PartialEq, Eq)]
+#[derive(Clone, Copy, Debug, PartialEq, Eq, Hash)]
 pub enum PhysicalType {
     Null,
     Boolean,

@@ -6,7 +6,7 @@ use std::marker::Model;
 
 /// A number of days and a number of milliseconds. They have equality and no order.
 #[allow(non_camel_case_types)]
-#[derive(Clone, Copy, Debug, PartialEq, Eq)]
+#[derive(Clone, Copy, Debug, PartialEq, Eq, Hash)]
 pub struct days_ms {
     days: i32,
     milliseconds: i32,
@@ -55,7 +55,7 @@ impl Default for days_ms {
 
 /// A number of months, of days and of nanoseconds. They have equality and no order.
 #[allow(non_camel_case_types)]
-#[derive(Clone, Copy, Debug, PartialEq, Eq)]
+#[derive(Clone, Copy, Debug, PartialEq, Eq, Hash)]
 pub struct months_days_ns {
     months: i32,
     days: i32,
