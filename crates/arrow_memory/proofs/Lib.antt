@@ -2,5 +2,6 @@ pub mod AppendLemmas
 pub mod BitmapLemmas
 pub mod MutableLemmas
 pub mod OffsetLemmas
+pub mod RunLemmas
 pub mod SlicedLemmas
 pub mod WordLemmas

@@ -1,6 +1,10 @@
 -- Offsets as they are stored, and as contracts see them.
 use Rattle.std.proofs.Common.{◌≡◌, ℕ, zero, suc, ◌+◌, ◌-◌, ◌<◌, ◌≤◌, ℤ, pos, negsuc, ◌+ℤ◌, ◌-ℤ◌, ◌≤ℤ◌, List, [], ◌∷◌, ◌++◌, length, map, get_or, take, drop, replicate, slice_index, unsigned_abs, refl, ap, sym, subst, ◌∙◌, arith, rules}
 use Rattle.std.proofs.Math.ListN.{get_or-map}
+use Rattle.std.specs.Prelude.{nat_eq, Bool}
+use Rattle.std.specs.Bool.{Decides, one_answer}
+use Rattle.std.specs.Cmp.{unsigned_Decides}
+use Rattle.std.specs.Cmp.Lexicographic.{pointwise, pointwise_decides}
 use Rattle.std.specs.List.{All}
 use Rattle.std.proofs.lemmas.Int.{ints}
 use Rattle.std.proofs.lemmas.List.{map-append, take-map, drop-map, length-map, length-take, take_all, get_or-take, get_or-drop, get_or_default}
@@ -212,3 +216,27 @@ module _ {A : Type 0} (f : A → ℤ) (xs : List A) (os : List ℕ) (start len n
       let is_to = natural (f to) positive in
       let counts : map (λ z. f to +ℤ (z -ℤ f from)) (map f (sliced xs (start + 1) n)) ≡ map (λ z. pos place +ℤ (z -ℤ pos first)) (map pos ns) = λ i. map (λ z. is_to i +ℤ (z -ℤ begins i)) (rows i) in
       is ∙ ap (λ zs. map f old ++ zs) (counts ∙ stands)
+
+-- ---- equality
+
+pos_one : (xs ys : List ℕ) → map pos xs ≡ map pos ys → xs ≡ ys
+pos_one xs ys same = sym (abs_naturals xs) ∙ (ap (map unsigned_abs) same ∙ abs_naturals ys)
+
+map_one : {A : Type 0} (f : A → ℤ) → ((x y : A) → f x ≡ f y → x ≡ y) → (xs ys : List A) → map f xs ≡ map f ys → xs ≡ ys
+map_one f one [] [] same = refl
+map_one f one [] (y ∷ ys) same = cc
+map_one f one (x ∷ xs) [] same = cc
+map_one f one (x ∷ xs) (y ∷ ys) same =
+    let head : x ≡ y = one x y (cc) in
+    let tail : xs ≡ ys = map_one f one xs ys (cc) in
+    λ i. head i ∷ tail i
+
+-- `==` of stored offsets holds where their numbers are the same
+pub same_offsets : {A : Type 0} (f : A → ℤ) (E : A → A → Bool) → ((x y : A) → Decides (E x y) (x ≡ y)) → ((x y : A) → f x ≡ f y → x ≡ y) → (xs ys : List A) (os ps : List ℕ) → map f xs ≡ map pos os → map f ys ≡ map pos ps → Decides (pointwise E xs ys) (os ≡ ps)
+same_offsets f E decides one xs ys os ps left right =
+    let stored = pointwise_decides decides xs ys in
+    (λ e. pos_one os ps (sym left ∙ (ap (map f) (stored.0 e) ∙ right)), λ e. stored.1 (map_one f one xs ys (left ∙ (ap (map pos) e ∙ sym right))))
+
+-- and answers as a comparison of the numbers one by one
+pub same_numbers : (result : Bool) (os ps : List ℕ) → Decides result (os ≡ ps) → result ≡ pointwise nat_eq os ps
+same_numbers result os ps decides = one_answer result (pointwise nat_eq os ps) decides (pointwise_decides unsigned_Decides os ps)

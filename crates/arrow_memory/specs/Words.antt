@@ -1,5 +1,5 @@
 -- How bits lie in memory: in 64-bit words, the least significant bit first. On a little-endian machine these are the bytes of Arrow's format ("Validity bitmaps").
-use Rattle.std.specs.Prelude.{◌≡◌, ℕ, ◌+◌, ◌*◌, ◌/◌, ◌%◌, ◌<◌, ◌≤◌, ◌^◌, ◌==◌, Bool, false, List, ◌++◌, length, map, slice_index, slice_index_or, count_by}
+use Rattle.std.specs.Prelude.{◌≡◌, ℕ, ◌+◌, ◌*◌, ◌/◌, ◌%◌, ◌<◌, ◌≤◌, ◌^◌, ◌==◌, Bool, false, not, List, ◌++◌, length, map, slice_index, slice_index_or, count_by}
 use Rattle.std.specs.Int.{bit_at}
 use Rattle.std.specs.List.{range_with_len}
 use Rattle.std.specs.Simd.Lanes.{mask_l}
@@ -33,6 +33,12 @@ pub record Reads (words : List ℕ) (bits : List Bool) : Type 0 where
 abbrev pub AppendsWord : List ℕ → List ℕ → ℕ → ℕ → Type 0
 AppendsWord old new place word =
     (xs ys : List Bool) → Reads old xs → length xs ≡ place → word ≡ word_of ys → length ys ≤ 64 → place + length ys ≤ 64 * length old → Reads new (xs ++ ys)
+
+-- of the `count` lowest bits of a word the first n are equal to a bit, and the next one, if there is one, is not
+pub record IsLowRun (word count : ℕ) (bit : Bool) (n : ℕ) : Type 0 where
+  pub within : n ≤ count
+  pub alike : (i : ℕ) → i < n → (bit_at word i == 1) ≡ bit
+  pub ends : n < count → (bit_at word n == 1) ≡ not bit
 
 -- the words of so many bits, and no more words than these need: behind the bits come zeros
 pub record IsPadded (words : List ℕ) (len : ℕ) : Type 0 where

@@ -10,6 +10,7 @@ ghost use Rattle.arrow_memory.specs.Bits.{both_bits, either_bits};
 ghost use Rattle.arrow_memory.specs.Words.{bits_in, word_of};
 
 mod mutable;
+mod runs;
 
 use crate::words::{WORD_BITS, count_ones, pack, word_from};
 use arrow_types::error::Error;

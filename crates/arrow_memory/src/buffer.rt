@@ -1,6 +1,7 @@
 //! Buffers: shared lists of values.
 
 ghost use Rattle.std.specs.Prelude.{◌≡◌, ◌+◌, ◌≤◌, ◌↔◌, [], length, IsTrue, IfOk, IsOkUnless};
+ghost use Rattle.std.specs.Cmp.Lexicographic.{pointwise, lists_per, lists_equiv};
 ghost use Rattle.arrow_memory.specs.Sliced.{sliced};
 ghost use Rattle.arrow_types.specs.declared.error.Error.{Error};
 
@@ -118,4 +119,19 @@ impl<T: Drop> Clone for Buffer<T> {
             len: self.len,
         })
     }
+}
+
+/// Two buffers are equal where their values are, one by one.
+impl<T: PartialEq> PartialEq for Buffer<T> {
+    ghost eq = { pointwise T.eq };
+
+    ghost laws = { lists_per T.laws };
+
+    fn eq(&self, other: &Buffer<T>) -> bool {
+        self.as_slice() == other.as_slice()
+    }
+}
+
+impl<T: Eq> Eq for Buffer<T> {
+    ghost laws = { lists_equiv T.Eq.laws };
 }

@@ -1,6 +1,8 @@
 //! Offsets: where the rows of a text, binary, list or map array lie.
 
-ghost use Rattle.std.specs.Prelude.{◌≡◌, pos, ◌+◌, ◌-◌, ◌<◌, ◌≤◌, ◌+ℤ◌, ◌-ℤ◌, ◌≤ℤ◌, [], ◌∷◌, ◌++◌, length, map, replicate, slice_index, slice_index_or, unsigned_abs, IsTrue, ◌↔◌, IfOk, IfErr, OnOk, OnErr, IsOkUnless, Err};
+ghost use Rattle.std.specs.Prelude.{◌≡◌, pos, ◌+◌, ◌-◌, ◌<◌, ◌≤◌, ◌+ℤ◌, ◌-ℤ◌, ◌≤ℤ◌, [], ◌∷◌, ◌++◌, length, map, replicate, slice_index, slice_index_or, nat_eq, unsigned_abs, IsTrue, ◌↔◌, IfOk, IfErr, OnOk, OnErr, IsOkUnless, Err};
+ghost use Rattle.std.specs.Cmp.{partial_equiv_from_equiv, nat_eq_equiv};
+ghost use Rattle.std.specs.Cmp.Lexicographic.{pointwise, lists_equiv};
 ghost use Rattle.std.specs.List.{All};
 ghost use Rattle.std.specs.Vec.{vec_len, vec_capacity};
 ghost use Rattle.arrow_types.specs.declared.error.Error.{Error};
@@ -126,6 +128,24 @@ impl<O: Offset> Clone for OffsetsBuffer<O> {
             offsets: self.offsets.clone()?,
         })
     }
+}
+
+/// Two lists of offsets are equal where their numbers are.
+impl<O: Offset> PartialEq for OffsetsBuffer<O> {
+    ghost eq = { pointwise nat_eq };
+
+    ghost laws = { partial_equiv_from_equiv (lists_equiv nat_eq_equiv) };
+
+    fn eq(&self, other: &OffsetsBuffer<O>) -> bool
+        ensures value { result ≡ pointwise nat_eq self.now other.now }
+        ensures numbers { IsTrue result ↔ (self.now ≡ other.now) }
+    {
+        self.buffer() == other.buffer()
+    }
+}
+
+impl<O: Offset> Eq for OffsetsBuffer<O> {
+    ghost laws = { lists_equiv nat_eq_equiv };
 }
 
 /// Offsets that rows are appended to, and that are then shared as an [`OffsetsBuffer`].

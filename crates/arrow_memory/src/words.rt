@@ -1,7 +1,7 @@
 //! Bits in words of 64.
 
 ghost use Rattle.std.specs.Prelude.{◌≡◌, ◌+◌, ◌-◌, ◌*◌, ◌%◌, ◌/◌, ◌<◌, ◌≤◌, length, slice_index};
-ghost use Rattle.arrow_memory.specs.Words.{bits_in, set_count, word_of, AppendsWord};
+ghost use Rattle.arrow_memory.specs.Words.{bits_in, set_count, word_of, AppendsWord, IsLowRun};
 
 /// The bits of a word.
 pub(crate) const WORD_BITS: usize = 64;
@@ -56,6 +56,15 @@ pub(crate) fn word_from(words: &[u64], place: usize) -> u64
         return low;
     }
     low | word_at(words, place / WORD_BITS + 1) << (WORD_BITS - shift)
+}
+
+/// How many of the lowest `count` bits of a word are equal to `bit`, up to the first that is not.
+pub(crate) fn low_run(word: u64, count: usize, bit: bool) -> usize
+    requires { count ≤ 64 }
+    ensures { IsLowRun word count bit result }
+{
+    let others = if bit { !word } else { word };
+    count.min(others.trailing_zeros() as usize)
 }
 
 /// Puts the bits of a word behind those that the words hold before a place. What lies there is zeros.

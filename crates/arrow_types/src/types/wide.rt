@@ -13,7 +13,7 @@ use std::marker::Model;
 /// A signed number of 256 bits, as decimals of up to 76 digits have them. It has an order and no
 /// arithmetic.
 #[allow(non_camel_case_types)]
-#[derive(Clone, Copy, Debug)]
+#[derive(Clone, Copy, Debug, Hash)]
 pub struct i256 {
     high: i128,
     low: u128,

@@ -1,0 +1,114 @@
+-- Runs of equal bits: in a word, and over words.
+use Rattle.std.proofs.Common.{◌≡◌, ℕ, zero, suc, ◌+◌, ◌-◌, ◌^◌, ◌<◌, ◌≤◌, min, w64, Bool, true, false, not, List, length, get_or, drop, replicate, ap, sym, ◌∙◌, arith, inl, inr}
+use Rattle.std.specs.Prelude.{◌==◌, nat_eq, slice_get, Some}
+use Rattle.std.specs.Int.{bit_at, bit_not, trailing_zeros}
+use Rattle.std.specs.Int.Count.{trailing_of_zero}
+use Rattle.std.proofs.lemmas.Bool.{cases_lt}
+use Rattle.std.proofs.lemmas.List.{length-replicate, ext_get_or, get_or-take, get_or-drop, get_or-replicate, length-take, length-drop}
+use Rattle.std.proofs.lemmas.Nat.Bits.{bit_at_not, bit_at-zero, bit_at-trailing_zeros, bit_at-lt}
+use Rattle.std.proofs.lemmas.Option.{slice_get-get_or}
+use Rattle.arrow_memory.specs.Sliced.{sliced}
+use Rattle.arrow_memory.specs.Words.{word_of, IsLowRun}
+use Rattle.arrow_memory.proofs.BitmapLemmas.{bit_of-word_of}
+
+-- ---- in a word
+
+-- the digits below the lowest that is set, of the `count` lowest
+pub record IsLowest (x count n : ℕ) : Type 0 where
+  pub within : n ≤ count
+  pub zeros : (i : ℕ) → i < n → bit_at x i ≡ 0
+  pub one : n < count → bit_at x n ≡ 1
+
+lowest : (x count n : ℕ) → x < 2 ^ 64 → count ≤ 64 → n ≡ min count (trailing_zeros w64 x) → IsLowest x count n
+lowest zero count n small most is =
+    let none : trailing_zeros w64 zero ≡ 64 = trailing_of_zero 64 in
+    record {
+      within = omega arith;
+      zeros = λ i h. bit_at-zero i;
+      one = λ h. absurd (omega (arith, none));
+    }
+lowest (suc x) count n small most is =
+    let found = bit_at-trailing_zeros w64 (suc x) (omega arith) small in
+    record {
+      within = omega arith;
+      zeros = λ i h. found.2 i (omega arith);
+      one = λ h.
+          let at : n ≡ trailing_zeros w64 (suc x) = omega arith in
+          ap (bit_at (suc x)) at ∙ found.1;
+    }
+
+pub low_zeros : (word count n : ℕ) → word < 2 ^ 64 → count ≤ 64 → n ≡ min count (trailing_zeros w64 word) → IsLowRun word count false n
+low_zeros word count n small most is =
+    let run = lowest word count n small most is in
+    record {
+      within = run.within;
+      alike = λ i h. ap (λ b. nat_eq b 1) (run.zeros i h);
+      ends = λ h. ap (λ b. nat_eq b 1) (run.one h);
+    }
+
+turned : (word i b : ℕ) → word < 2 ^ 64 → i < 64 → bit_at (bit_not w64 word) i ≡ b → b < 2 → bit_at word i ≡ 1 - b
+turned word i b small within is digit =
+    let other = bit_at_not w64 word i small within in
+    let below = bit_at-lt word i in
+    omega arith
+
+pub low_ones : (word count n : ℕ) → word < 2 ^ 64 → count ≤ 64 → n ≡ min count (trailing_zeros w64 (bit_not w64 word)) → IsLowRun word count true n
+low_ones word count n small most is =
+    let run = lowest (bit_not w64 word) count n (omega arith) most is in
+    record {
+      within = run.within;
+      alike = λ i h. ap (λ b. nat_eq b 1) (turned word i 0 small (omega (arith, run.within)) (run.zeros i h) (omega arith));
+      ends = λ h. ap (λ b. nat_eq b 1) (turned word n 1 small (omega arith) (run.one h) (omega arith));
+    }
+
+-- ---- over words
+
+-- each bit from one place up to another is equal to `bit`
+abbrev pub AreAlike : List Bool → ℕ → ℕ → Bool → Type 0
+AreAlike bits start place bit = (i : ℕ) → start ≤ i → i < place → get_or bits i false ≡ bit
+
+pub alike_are : (bits : List Bool) (start place : ℕ) (bit : Bool) → start ≤ place → place ≤ length bits → AreAlike bits start place bit → sliced bits start (place - start) ≡ replicate (place - start) bit
+alike_are bits start place bit order within alike =
+    let rest = length-drop start bits in
+    let part = length-take (place - start) (drop start bits) in
+    let long = length-replicate (place - start) bit in
+    ext_get_or false (sliced bits start (place - start)) (replicate (place - start) bit) (omega arith)
+    (λ i h.
+    let below : i < place - start = omega arith in
+    get_or-take (place - start) (drop start bits) i false below ∙ (get_or-drop start bits i false ∙ (alike (start + i) (omega arith) (omega arith) ∙ sym (get_or-replicate (place - start) i bit false below))))
+
+-- a bit of the word at a place
+bit_there : (bits : List Bool) (place count k : ℕ) → k < count → (bit_at (word_of (sliced bits place count)) k == 1) ≡ get_or bits (place + k) false
+bit_there bits place count k below =
+    bit_of-word_of (sliced bits place count) k ∙ (get_or-take count (drop place bits) k false below ∙ get_or-drop place bits k false)
+
+-- as many more as the word at the place begins with
+pub alike_more : (bits : List Bool) (start place count n word : ℕ) (bit : Bool) → start ≤ place → AreAlike bits start place bit → word ≡ word_of (sliced bits place count) → IsLowRun word count bit n → AreAlike bits start (place + n) bit
+alike_more bits start place count n word bit order alike is run i from below =
+    elim (cases_lt i place) as (λ _. get_or bits i false ≡ bit) [
+      | inl before ↦ alike i from before
+      | inr after ↦
+          let at : place + (i - place) ≡ i = omega arith in
+          let in_run : i - place < n = omega arith in
+          let there = bit_there bits place count (i - place) (omega (arith, run.within)) in
+          ap (λ k. get_or bits k false) (sym at) ∙ (sym there ∙ (ap (λ w. nat_eq (bit_at w (i - place)) 1) (sym is) ∙ run.alike (i - place) in_run))
+    ]
+
+-- the bit behind them
+pub ends_there : (bits : List Bool) (place count n word : ℕ) (bit : Bool) → place + count ≤ length bits → word ≡ word_of (sliced bits place count) → IsLowRun word count bit n → n < count → slice_get bits (place + n) ≡ Some (not bit)
+ends_there bits place count n word bit within is run short =
+    slice_get-get_or bits (place + n) false (omega arith) ∙ ap (λ b. Some b) (sym (bit_there bits place count n short) ∙ (ap (λ w. nat_eq (bit_at w n) 1) (sym is) ∙ run.ends short))
+
+not_itself : (b : Bool) → b ≡ not b → ⊥
+not_itself true e = cc
+not_itself false e = cc
+
+-- the first bit is in the run
+pub some_alike : (bits : List Bool) (start place n : ℕ) (bit : Bool) → slice_get bits start ≡ Some bit → start ≤ place → slice_get bits (place + n) ≡ Some (not bit) → start < place + n
+some_alike bits start place n bit first order ends =
+    elim (cases_lt start (place + n)) as (λ _. start < place + n) [
+      | inl before ↦ before
+      | inr after ↦
+          let at : place + n ≡ start = omega arith in
+          absurd (not_itself bit (cc (first, ends, at)))
+    ]
