@@ -1,5 +1,5 @@
 -- Rows that are the same: of lists by the spans that they name, of structs by their columns, of unions by field and row.
-use Rattle.std.proofs.Common.{◌≡◌, ℕ, zero, suc, ◌+◌, ◌<◌, ◌≤◌, ℤ, Bool, true, false, Option, Some, None, List, [], ◌∷◌, length, map, take, drop, get_or, refl, ap, sym, subst, ◌∙◌, arith, inl, inr}
+use Rattle.std.proofs.Common.{◌≡◌, ℕ, zero, suc, ◌+◌, ◌<◌, ◌≤◌, ℤ, Bool, Option, Some, None, List, [], ◌∷◌, length, map, take, get_or, refl, ap, sym, subst, ◌∙◌, arith, inl, inr}
 use Rattle.std.specs.Prelude.{pos, replicate, IfSome, ◌⊎◌, ◌↔◌}
 use Rattle.std.specs.Bool.{Decides}
 use Rattle.std.specs.List.{All}
@@ -15,7 +15,7 @@ use Rattle.arrow_flat.proofs.PartsLemmas.{nulls-sliced}
 use Rattle.arrow_arrays.specs.Any.{layout_of, any_array_type, any_array_rows}
 use Rattle.arrow_arrays.specs.declared.array.any.AnyArray.{AnyArray}
 use Rattle.arrow_arrays.specs.declared.array.any.AnyArray.TheVariants.{Null as Nulls}
-use Rattle.arrow_arrays.specs.Layout.{Layout, items_row, rows, type_of_layout}
+use Rattle.arrow_arrays.specs.Layout.{Layout, items_row, rows}
 use Rattle.arrow_arrays.specs.Spans.{span_row, AreSameSpans}
 use Rattle.arrow_arrays.specs.StructParts.{row_of}
 use Rattle.arrow_arrays.specs.UnionParts.{FindsField, rows_of_field}

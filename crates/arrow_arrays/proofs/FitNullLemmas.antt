@@ -14,10 +14,10 @@ use Rattle.arrow_types.specs.declared.types.PrimitiveType.{PrimitiveType}
 use Rattle.arrow_types.specs.declared.types.PrimitiveType.TheVariants as element
 use Rattle.arrow_types.specs.declared.datatypes.IntegerType.TheVariants as key
 use Rattle.arrow_types.specs.declared.datatypes.IntervalUnit.TheVariants as interval_unit
-use Rattle.arrow_types.specs.ArrowType.{ArrowType, ArrowFields, PlainType, plain, list, struct, union, dictionary, extension, null, integer, float16, float32, float64, interval, fixed_size_binary, small, large, fixed_size, mapped, field, no_fields, more_fields, type_in, from_fields}
+use Rattle.arrow_types.specs.ArrowType.{ArrowType, ArrowFields, PlainType, plain, list, struct, union, dictionary, extension, integer, float16, float32, float64, interval, fixed_size_binary, small, large, fixed_size, mapped, field, no_fields, more_fields, type_in, from_fields}
 use Rattle.arrow_types.specs.Carried.{AreTypeIds, IsCarried, IsCarriedPlain}
 use Rattle.arrow_types.specs.Fits.{Fits, FitsParts, FitsSparse, fixed_items_in, part_in, sparse_part, dense_part}
-use Rattle.arrow_types.specs.Physical.{physical_type_of, plain_layout}
+use Rattle.arrow_types.specs.Physical.{physical_type_of, plain_physical_type}
 use Rattle.arrow_types.specs.Slot.{Slot, Null, Variant, id_at, null_slot}
 use Rattle.arrow_types.proofs.FitsLemmas.{Fits-nil, Fits-beginning}
 use Rattle.arrow_flat.specs.FixedRows.{fixed_size_in, FitsBytes}
@@ -186,7 +186,7 @@ is_float (physical.Primitive element.Float32) = true
 is_float (physical.Primitive element.Float64) = true
 is_float _ = false
 
-plain_no_float : (p : PlainType) → IsCarriedPlain p → is_float (plain_layout p) ≡ false
+plain_no_float : (p : PlainType) → IsCarriedPlain p → is_float (plain_physical_type p) ≡ false
 plain_no_float float16 carried = absurd carried
 plain_no_float float32 carried = absurd carried
 plain_no_float float64 carried = absurd carried

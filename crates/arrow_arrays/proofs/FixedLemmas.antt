@@ -1,7 +1,7 @@
 -- Fixed-size lists: their rows, and what a slice keeps.
-use Rattle.std.proofs.Common.{◌≡◌, ℕ, suc, ◌+◌, ◌-◌, ◌*◌, ◌/◌, ◌<◌, ◌≤◌, Bool, true, false, List, length, map, take, drop, get_or, refl, ap, sym, subst, ◌∙◌, arith}
-use Rattle.std.specs.Prelude.{IfSome, ◌%◌, count_by, if◌then◌else◌}
-use Rattle.std.proofs.Math.Nat.{mul-div_cancel, le-div_iff_mul-le, mul-mod_left}
+use Rattle.std.proofs.Common.{◌≡◌, ℕ, ◌+◌, ◌*◌, ◌/◌, ◌<◌, ◌≤◌, true, false, length, get_or, ap, sym, subst, ◌∙◌, arith}
+use Rattle.std.specs.Prelude.{IfSome, count_by, if◌then◌else◌}
+use Rattle.std.proofs.Math.Nat.{mul-div_cancel, mul-mod_left}
 use Rattle.arrow_types.specs.Relation.{is_null}
 use Rattle.arrow_types.specs.Rows.{valid_at}
 use Rattle.arrow_types.specs.Slot.{Slot, Null}
@@ -13,11 +13,11 @@ use Rattle.arrow_flat.proofs.FixedLemmas.{chunk_at, whole_rows}
 use Rattle.arrow_flat.proofs.PartsLemmas.{length-masked, null_count-masked, marks-masked, row_at, fits_part, fits_within, bit_within}
 use Rattle.arrow_flat.proofs.PieceLemmas.{slot_of_row}
 use Rattle.arrow_arrays.specs.Layout.{type_of_layout, items_row, fixed_items, rows}
-use Rattle.arrow_arrays.specs.FixedListParts.{FixedListParts, IsFixedList, fixed_list_layout, fixed_list_rows, fixed_list_part}
-use Rattle.arrow_arrays.specs.PartOf.{part_of}
+use Rattle.arrow_arrays.specs.FixedListParts.{FixedListParts, IsFixedList, fixed_list_layout, fixed_list_rows, fixed_list_slice}
+use Rattle.arrow_arrays.specs.SliceOf.{slice_of}
 use Rattle.arrow_arrays.proofs.ListLemmas.{rows_of_items}
 use Rattle.arrow_arrays.specs.TypeParts.{item_type}
-use Rattle.arrow_arrays.proofs.PartLemmas.{rows_of_part, type_of_part, length-fixed_items, items_within}
+use Rattle.arrow_arrays.proofs.PartLemmas.{rows_of_slice, type_of_part, length-fixed_items, items_within}
 
 -- as many bits as rows
 fits_fixed : (p : FixedListParts) → IsFixedList p → FitsRows p.validity (length (fixed_items p.size (rows p.child)))
@@ -90,11 +90,11 @@ fixed_bits_within p q offset len fixed seen within =
     fits_within p.validity (length (rows p.child) / p.size) (offset + len) fixed.fits.1 (fixed_part_within p q offset len fixed seen within)
 
 -- a slice
-pub fixed_list_part_is : (p q : FixedListParts) (offset len : ℕ) → IsFixedList p → p ≡ q → offset + len ≤ length (fixed_list_rows q) → IsFixedList (fixed_list_part p offset len)
+pub fixed_list_part_is : (p q : FixedListParts) (offset len : ℕ) → IsFixedList p → p ≡ q → offset + len ≤ length (fixed_list_rows q) → IsFixedList (fixed_list_slice p offset len)
 fixed_list_part_is p q offset len fixed seen within =
     let among = fixed_part_within p q offset len fixed seen within in
     let items = fixed_items_within p q offset len fixed seen within in
-    let count : length (rows (part_of p.child (offset * p.size) (len * p.size))) ≡ len * p.size = ap length (rows_of_part p.child (offset * p.size) (len * p.size) items) ∙ length-sliced (rows p.child) (offset * p.size) (len * p.size) items in
+    let count : length (rows (slice_of p.child (offset * p.size) (len * p.size))) ≡ len * p.size = ap length (rows_of_slice p.child (offset * p.size) (len * p.size) items) ∙ length-sliced (rows p.child) (offset * p.size) (len * p.size) items in
     let whole : len * p.size / p.size ≡ len = mul-div_cancel len fixed.some in
     record {
       kind = fixed.kind;
@@ -105,9 +105,9 @@ fixed_list_part_is p q offset len fixed seen within =
       counted = omega (arith, fixed.counted, count, items);
     }
 
-pub fixed_list_part_rows : (p q : FixedListParts) (offset len : ℕ) → p ≡ q → offset + len ≤ length (fixed_list_rows q) → fixed_list_rows (fixed_list_part p offset len) ≡ sliced (fixed_list_rows p) offset len
+pub fixed_list_part_rows : (p q : FixedListParts) (offset len : ℕ) → p ≡ q → offset + len ≤ length (fixed_list_rows q) → fixed_list_rows (fixed_list_slice p offset len) ≡ sliced (fixed_list_rows p) offset len
 fixed_list_part_rows p q offset len seen within =
-    rows_of_part (fixed_list_layout p) offset len (subst (λ r. offset + len ≤ length (fixed_list_rows r)) (sym seen) within)
+    rows_of_slice (fixed_list_layout p) offset len (subst (λ r. offset + len ≤ length (fixed_list_rows r)) (sym seen) within)
 
 -- the child of parts that are seen so
 pub fixed_child : (p q : FixedListParts) → p ≡ q → p.child ≡ q.child

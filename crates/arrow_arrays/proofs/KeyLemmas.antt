@@ -8,7 +8,7 @@ use Rattle.std.proofs.lemmas.List.Sums.{sum_by-cons}
 use Rattle.arrow_types.specs.ArrowType.{plain, null}
 use Rattle.arrow_types.specs.Relation.{is_null}
 use Rattle.arrow_types.specs.Rows.{masked, valid_at}
-use Rattle.arrow_types.specs.Slot.{Slot, Null, Boolean, Number, DayTime, MonthDayNano, Bytes, Text, Items, Parts as fields, Entry, Variant}
+use Rattle.arrow_types.specs.Slot.{Slot, Null, Boolean, Number, DayTime, MonthDayNano, Bytes, Text, Items, Parts as fields, Dict, Variant}
 use Rattle.arrow_flat.specs.Parts.{Parts, FitsRows, IsArray, IsValue, MarksNulls}
 use Rattle.arrow_flat.proofs.PartsLemmas.{length-masked, row_valid, row_null}
 use Rattle.arrow_flat.proofs.PieceLemmas.{slot_of_row}
@@ -25,22 +25,22 @@ pub key_within : {K : Type 0} (slot : K → Slot) (v : Option (List Bool)) (keys
 key_within slot v keys i fits within =
     omega (arith, stored_within v (map slot keys) i fits within, length-map keys slot)
 
-abbrev parts_of : Option (List Bool) → List Slot → Parts (List Slot)
-parts_of v xs = record { arrow_type = plain null; values = xs; validity = v }
+abbrev slices_of : Option (List Bool) → List Slot → Parts (List Slot)
+slices_of v xs = record { arrow_type = plain null; values = xs; validity = v }
 
-array_of : (v : Option (List Bool)) (xs : List Slot) → FitsRows v (length xs) → IsArray (λ slots. slots) (λ slots t. Unit {0}) (parts_of v xs)
+array_of : (v : Option (List Bool)) (xs : List Slot) → FitsRows v (length xs) → IsArray (λ slots. slots) (λ slots t. Unit {0}) (slices_of v xs)
 array_of v xs fits = record { carried = tt; kind = tt; fits = fits }
 
 -- the row of a key that is null
 pub null_row : (v : Option (List Bool)) (xs : List Slot) (i : ℕ) → FitsRows v (length xs) → i < length (masked v xs) → false ≡ valid_at v i → get_or (masked v xs) i Null ≡ Null
 null_row v xs i fits within told =
-    row_null (parts_of v xs) i (array_of v xs fits) (stored_within v xs i fits within) told
+    row_null (slices_of v xs) i (array_of v xs fits) (stored_within v xs i fits within) told
 
 -- the row of a key that is not
 pub number_row : {K : Type 0} (slot : K → Slot) (number : K → ℤ) → ((x : K) → slot x ≡ Number (number x)) → (v : Option (List Bool)) (keys : List K) (i : ℕ) (x : K) → FitsRows v (length (map slot keys)) → i < length (masked v (map slot keys)) → true ≡ valid_at v i → slice_get keys i ≡ Some x → get_or (masked v (map slot keys)) i Null ≡ Number (number x)
 number_row slot number is v keys i x fits within told read =
     let xs = map slot keys in
-    row_valid (parts_of v xs) i (array_of v xs fits) (stored_within v xs i fits within) told ∙ (slot_of_row slot keys i x read ∙ is x)
+    row_valid (slices_of v xs) i (array_of v xs fits) (stored_within v xs i fits within) told ∙ (slot_of_row slot keys i x read ∙ is x)
 
 -- a number that is a key is not negative
 pub not_negative : (s : Slot) (z : ℤ) → IsKeyIn s → s ≡ Number z → pos 0 ≤ℤ z
@@ -85,7 +85,7 @@ null_with_key count xs (Bytes bytes) key = absurd key
 null_with_key count xs (Text bytes) key = absurd key
 null_with_key count xs (Items slots) key = absurd key
 null_with_key count xs (fields slots) key = absurd key
-null_with_key count xs (Entry slot) key = absurd key
+null_with_key count xs (Dict slot) key = absurd key
 null_with_key count xs (Variant id slot) key = absurd key
 
 -- as many rows are null as keys are
@@ -131,7 +131,7 @@ named count (Bytes bytes) k key is = absurd key
 named count (Text bytes) k key is = absurd key
 named count (Items slots) k key is = absurd key
 named count (fields slots) k key is = absurd key
-named count (Entry slot) k key is = absurd key
+named count (Dict slot) k key is = absurd key
 named count (Variant id slot) k key is = absurd key
 
 pub key_below : (count : ℕ) (keys : List Slot) (i k : ℕ) → AreKeys count keys → slice_get (keys_in keys) i ≡ Some (Some k) → k + 1 ≤ count

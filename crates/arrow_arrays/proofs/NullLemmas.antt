@@ -12,14 +12,14 @@ use Rattle.arrow_types.specs.ArrowType.{ArrowType}
 use Rattle.arrow_types.specs.Slot.{Slot, Null, null_slot}
 use Rattle.arrow_memory.specs.Offsets.{last_of}
 use Rattle.arrow_memory.specs.Sliced.{sliced}
-use Rattle.arrow_flat.specs.Faults.{NamesFirst as FlatNamesFirst}
+use Rattle.arrow_flat.specs.Faults.{NamesFirst}
 use Rattle.arrow_flat.specs.Parts.{FitsRows}
 use Rattle.arrow_flat.specs.Pieces.{pieces, pieces_from}
-use Rattle.arrow_arrays.specs.Faults.{NamesFirst}
+use Rattle.arrow_arrays.specs.Faults.{NamesFirstNested}
 use Rattle.arrow_arrays.proofs.ShapeLemmas.{Shape, flat_shape, union_shape, shape_in, null_slot-shape}
 
 -- an error names a part that does not hold, so there is none where all hold
-pub no_flat_fault : (kind length offsets text : Type 0) (e : Error) → kind → length → offsets → text → FlatNamesFirst kind length offsets text e → ⊥
+pub no_flat_fault : (kind length offsets text : Type 0) (e : Error) → kind → length → offsets → text → NamesFirst kind length offsets text e → ⊥
 no_flat_fault kind length offsets text (OutOfSpec Kind) k l o t fault = fault k
 no_flat_fault kind length offsets text (OutOfSpec Length) k l o t fault = fault.1 l
 no_flat_fault kind length offsets text (OutOfSpec Offsets) k l o t fault = fault.2 o
@@ -27,7 +27,7 @@ no_flat_fault kind length offsets text (OutOfSpec Utf8) k l o t fault = fault.3 
 no_flat_fault kind length offsets text (OutOfSpec _) k l o t fault = fault
 no_flat_fault kind length offsets text _ k l o t fault = fault
 
-pub no_fault : (kind child length offsets ids keys : Type 0) (e : Error) → kind → child → length → offsets → ids → keys → NamesFirst kind child length offsets ids keys e → ⊥
+pub no_fault : (kind child length offsets ids keys : Type 0) (e : Error) → kind → child → length → offsets → ids → keys → NamesFirstNested kind child length offsets ids keys e → ⊥
 no_fault kind child length offsets ids keys (OutOfSpec Kind) k c l o i y fault = fault k
 no_fault kind child length offsets ids keys (OutOfSpec Child) k c l o i y fault = fault.1 c
 no_fault kind child length offsets ids keys (OutOfSpec Length) k c l o i y fault = fault.2 l

@@ -8,13 +8,12 @@ use Rattle.std.proofs.lemmas.List.Elements.{All-cons}
 use Rattle.std.proofs.lemmas.List.FromFn.{length-range_with_len, get_or-range_with_len}
 use Rattle.arrow_types.specs.declared.datatypes.UnionMode.{UnionMode}
 use Rattle.arrow_types.specs.declared.datatypes.UnionMode.TheVariants.{Dense, Sparse}
-use Rattle.arrow_arrays.proofs.TypeLemmas.{types_of_layouts}
 use Rattle.arrow_arrays.specs.declared.array.list.AnyOffsetsBuffer.{AnyOffsetsBuffer}
 use Rattle.arrow_arrays.specs.declared.array.list.AnyOffsetsBuffer.TheVariants.{Small, Large}
 use Rattle.arrow_arrays.specs.AnyOffsetsBuffer.{lists_of}
 use Rattle.arrow_types.specs.ArrowType.{ArrowType, plain, list, struct, union, dictionary, extension, field, no_fields, more_fields}
 use Rattle.arrow_types.specs.Rows.{masked}
-use Rattle.arrow_types.specs.Slot.{Slot, Slots, Null, Parts, Variant, no_slots, id_at, null_slot}
+use Rattle.arrow_types.specs.Slot.{Slot, Null, Parts, Variant, id_at, null_slot}
 use Rattle.arrow_memory.specs.Offsets.{last_of}
 use Rattle.arrow_flat.specs.Pieces.{pieces, chunks}
 use Rattle.arrow_flat.specs.PieceLaws.{length-chunks}
@@ -24,7 +23,7 @@ use Rattle.arrow_arrays.specs.Any.{layout_of, any_array_type, any_array_rows}
 use Rattle.arrow_arrays.specs.FixedListParts.{FitsItems}
 use Rattle.arrow_arrays.specs.KeyedParts.{keys_in, key_in, IsKey, AreKeys}
 use Rattle.arrow_arrays.proofs.StructLemmas.{length-across}
-use Rattle.arrow_arrays.specs.Layout.{Layout, rows, type_of_layout, items_row, list_items, fixed_items, keyed_item, stacked, across, struct_items, columns_of, to_layouts, field_ids, column_of_id, variant_at, union_items}
+use Rattle.arrow_arrays.specs.Layout.{Layout, rows, items_row, list_items, fixed_items, keyed_item, across, struct_items, columns_of, to_layouts, field_ids, column_of_id, variant_at, union_items}
 use Rattle.arrow_arrays.specs.Nulls.{nulls_of, null_columns_of}
 use Rattle.arrow_arrays.specs.StructParts.{HaveRows, row_count, FitsColumns}
 use Rattle.arrow_arrays.specs.TypeParts.{field_types}

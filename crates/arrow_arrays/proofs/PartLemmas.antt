@@ -1,11 +1,10 @@
 -- The rows of a slice are that part of the rows, for arrays of any layout.
-use Rattle.std.proofs.Common.{◌≡◌, ℕ, zero, suc, ◌+◌, ◌-◌, ◌*◌, ◌/◌, ◌<◌, ◌≤◌, ℤ, Bool, Option, Some, None, List, [], ◌∷◌, length, map, take, drop, replicate, refl, ap, sym, subst, ◌∙◌, arith}
+use Rattle.std.proofs.Common.{◌≡◌, ℕ, zero, suc, ◌+◌, ◌-◌, ◌*◌, ◌/◌, ◌<◌, ◌≤◌, ℤ, Bool, Option, Some, None, List, [], ◌∷◌, length, map, take, drop, refl, ap, sym, subst, ◌∙◌, arith}
 use Rattle.std.specs.List.{range_with_len, zip}
 use Rattle.std.proofs.Math.Nat.{mul-div_cancel, le-div_iff_mul-le, div-zero}
 use Rattle.std.proofs.lemmas.List.{length-map, length-replicate, drop-replicate, take-replicate}
 use Rattle.std.proofs.lemmas.List.FromFn.{length-range_with_len}
 use Rattle.std.proofs.lemmas.Slice.Zip.{length-zip}
-use Rattle.arrow_types.specs.ArrowType.{ArrowType}
 use Rattle.arrow_types.specs.Rows.{mask, masked}
 use Rattle.arrow_types.specs.Slot.{Slot, Slots, Parts, no_slots, more_slots}
 use Rattle.arrow_memory.specs.Sliced.{sliced}
@@ -14,11 +13,11 @@ use Rattle.arrow_memory.proofs.SlicedLemmas.{length-sliced}
 use Rattle.arrow_flat.specs.Pieces.{chunks}
 use Rattle.arrow_flat.specs.PieceLaws.{pieces-sliced, chunks-sliced, length-chunks}
 use Rattle.arrow_flat.proofs.PartsLemmas.{masked-sliced}
-use Rattle.arrow_arrays.specs.Layout.{Layout, Layouts, flat, listed, fixed, fielded, sparse, dense, keyed, no_layouts, more_layouts, rows, columns_of, type_of_layout, field_ids, items_row, list_items, fixed_items, rows_in, stacked, across, struct_items, variant_at, union_items, keyed_item}
-use Rattle.arrow_arrays.specs.PartOf.{part_of, parts_of, bits_of_part}
+use Rattle.arrow_arrays.specs.Layout.{Layout, Layouts, flat, listed, fixed, fielded, sparse, dense, keyed, no_layouts, more_layouts, rows, columns_of, type_of_layout, field_ids, items_row, list_items, fixed_items, column_length, stacked, across, struct_items, variant_at, union_items, keyed_item}
+use Rattle.arrow_arrays.specs.SliceOf.{slice_of, slices_of, validity_of_slice}
 
 -- a slice is of the same type
-pub type_of_part : (l : Layout) (offset len : ℕ) → type_of_layout (part_of l offset len) ≡ type_of_layout l
+pub type_of_part : (l : Layout) (offset len : ℕ) → type_of_layout (slice_of l offset len) ≡ type_of_layout l
 type_of_part (flat t xs) offset len = refl
 type_of_part (listed t v offsets c) offset len = refl
 type_of_part (fixed t v s c) offset len = refl
@@ -166,36 +165,36 @@ union_items-sliced ids columns types places offset len =
 
 -- a part of an array has that part of the rows
 mutual
-  pub rows_of_part : (l : Layout) (offset len : ℕ) → offset + len ≤ length (rows l) → rows (part_of l offset len) ≡ sliced (rows l) offset len
-  rows_of_part (flat t xs) offset len within = refl
-  rows_of_part (listed t v offsets c) offset len within =
-      ap (masked (bits_of_part v offset len)) (list_items-sliced offsets (rows c) offset len) ∙ masked-sliced v (list_items offsets (rows c)) offset len
-  rows_of_part (fixed t v zero c) offset len within =
+  pub rows_of_slice : (l : Layout) (offset len : ℕ) → offset + len ≤ length (rows l) → rows (slice_of l offset len) ≡ sliced (rows l) offset len
+  rows_of_slice (flat t xs) offset len within = refl
+  rows_of_slice (listed t v offsets c) offset len within =
+      ap (masked (validity_of_slice v offset len)) (list_items-sliced offsets (rows c) offset len) ∙ masked-sliced v (list_items offsets (rows c)) offset len
+  rows_of_slice (fixed t v zero c) offset len within =
       let none : length (fixed_items zero (rows c)) ≡ 0 = length-fixed_items zero (rows c) ∙ div-zero (length (rows c)) in
       let fewer = length-masked_le v (fixed_items zero (rows c)) in
       let last : len ≡ 0 = omega (arith, within, none, fewer) in
-      ap (masked (bits_of_part v offset len)) (no_items (rows (part_of c (offset * zero) (len * zero)))) ∙ (masked_none (bits_of_part v offset len) ∙ sym (ap (λ n. sliced (masked v (fixed_items zero (rows c))) offset n) last))
-  rows_of_part (fixed t v (suc s) c) offset len within =
+      ap (masked (validity_of_slice v offset len)) (no_items (rows (slice_of c (offset * zero) (len * zero)))) ∙ (masked_none (validity_of_slice v offset len) ∙ sym (ap (λ n. sliced (masked v (fixed_items zero (rows c))) offset n) last))
+  rows_of_slice (fixed t v (suc s) c) offset len within =
       let fewer = length-masked_le v (fixed_items (suc s) (rows c)) in
       let among : offset + len ≤ length (rows c) / suc s = omega (arith, within, fewer, length-fixed_items (suc s) (rows c)) in
-      let items = rows_of_part c (offset * suc s) (len * suc s) (items_within (suc s) (length (rows c)) offset len (omega arith) among) in
-      ap (λ xs. masked (bits_of_part v offset len) (fixed_items (suc s) xs)) items ∙ (ap (masked (bits_of_part v offset len)) (fixed_items-sliced (suc s) (rows c) offset len (omega arith) among) ∙ masked-sliced v (fixed_items (suc s) (rows c)) offset len)
-  rows_of_part (fielded t v cs) offset len within =
+      let items = rows_of_slice c (offset * suc s) (len * suc s) (items_within (suc s) (length (rows c)) offset len (omega arith) among) in
+      ap (λ xs. masked (validity_of_slice v offset len) (fixed_items (suc s) xs)) items ∙ (ap (masked (validity_of_slice v offset len)) (fixed_items-sliced (suc s) (rows c) offset len (omega arith) among) ∙ masked-sliced v (fixed_items (suc s) (rows c)) offset len)
+  rows_of_slice (fielded t v cs) offset len within =
       let among : offset + len ≤ length (struct_items (columns_of cs)) = omega (arith, within, length-masked_le v (struct_items (columns_of cs))) in
-      let all : offset + len ≤ length (across (rows_in (columns_of cs)) (columns_of cs)) = omega (arith, among, length-map (across (rows_in (columns_of cs)) (columns_of cs)) Parts) in
-      ap (λ columns. masked (bits_of_part v offset len) (struct_items columns)) (columns_of_parts cs (rows_in (columns_of cs)) offset len all) ∙ (ap (masked (bits_of_part v offset len)) (struct_items-sliced (columns_of cs) offset len among) ∙ masked-sliced v (struct_items (columns_of cs)) offset len)
-  rows_of_part (sparse t ids start cs) offset len within =
+      let all : offset + len ≤ length (across (column_length (columns_of cs)) (columns_of cs)) = omega (arith, among, length-map (across (column_length (columns_of cs)) (columns_of cs)) Parts) in
+      ap (λ columns. masked (validity_of_slice v offset len) (struct_items columns)) (columns_of_parts cs (column_length (columns_of cs)) offset len all) ∙ (ap (masked (validity_of_slice v offset len)) (struct_items-sliced (columns_of cs) offset len among) ∙ masked-sliced v (struct_items (columns_of cs)) offset len)
+  rows_of_slice (sparse t ids start cs) offset len within =
       let places = range_with_len start (length ids) in
       let pairs = length-zip ids places in
       let among : offset + len ≤ length ids = omega (arith, within, length-map (zip ids places) (λ row. variant_at (field_ids t) (columns_of cs) row.0 row.1), pairs, length-range_with_len start (length ids)) in
       rw (length-sliced ids offset len among, ← range-sliced start (length ids) offset len among) (union_items-sliced (field_ids t) (columns_of cs) ids places offset len)
-  rows_of_part (dense t ids places cs) offset len within = union_items-sliced (field_ids t) (columns_of cs) ids places offset len
-  rows_of_part (keyed t keys c) offset len within = map_sliced (keyed_item (rows c)) keys offset len
+  rows_of_slice (dense t ids places cs) offset len within = union_items-sliced (field_ids t) (columns_of cs) ids places offset len
+  rows_of_slice (keyed t keys c) offset len within = map_sliced (keyed_item (rows c)) keys offset len
 
-  columns_of_parts : (ls : Layouts) (n offset len : ℕ) → offset + len ≤ length (across n (columns_of ls)) → columns_of (parts_of ls offset len) ≡ cut offset len (columns_of ls)
+  columns_of_parts : (ls : Layouts) (n offset len : ℕ) → offset + len ≤ length (across n (columns_of ls)) → columns_of (slices_of ls offset len) ≡ cut offset len (columns_of ls)
   columns_of_parts no_layouts n offset len within = refl
   columns_of_parts (more_layouts l ls) n offset len within =
       let shorter = shorter_stack (rows l) (across n (columns_of ls)) in
-      let first = rows_of_part l offset len (omega (arith, within, shorter.0)) in
+      let first = rows_of_slice l offset len (omega (arith, within, shorter.0)) in
       let rest = columns_of_parts ls n offset len (omega (arith, within, shorter.1)) in
       λ i. first i ∷ rest i

@@ -1,12 +1,12 @@
 -- What types of one shape say of their children, through the extensions around them.
-use Rattle.std.proofs.Common.{◌≡◌, suc, ◌<◌, ◌≤◌, max, List, length, map, refl, ap, sym, ◌∙◌, arith}
+use Rattle.std.proofs.Common.{◌≡◌, suc, ◌<◌, ◌≤◌, max, length, map, refl, ap, sym, ◌∙◌, arith}
 use Rattle.std.specs.List.{All}
 use Rattle.std.proofs.lemmas.List.Elements.{All-cons}
 use Rattle.arrow_types.specs.declared.datatypes.physical_type.PhysicalType.{PhysicalType}
 use Rattle.arrow_types.specs.declared.datatypes.physical_type.PhysicalType.TheVariants as physical
 use Rattle.arrow_types.specs.ArrowType.{ArrowType, ArrowFields, PlainType, ListForm, plain, list, struct, union, dictionary, extension, null, boolean, integer, float16, float32, float64, timestamp, date32, date64, time32, time64, duration, interval, binary, large_binary, utf8, large_utf8, fixed_size_binary, decimal, decimal256, small, large, fixed_size, mapped, field, no_fields, more_fields, type_in, from_fields}
 use Rattle.arrow_types.specs.Carried.{HasField, IsCarried, AreCarried}
-use Rattle.arrow_types.specs.Physical.{physical_type_of, plain_layout, list_layout}
+use Rattle.arrow_types.specs.Physical.{physical_type_of, plain_physical_type, list_physical_type}
 use Rattle.arrow_types.specs.Slot.{Null, null_slot}
 use Rattle.arrow_types.proofs.SlotLemmas.{null_slot-no_union}
 use Rattle.arrow_flat.specs.DictionaryScalar.{values_in}
@@ -33,7 +33,7 @@ shape_of _ = flat_shape
 abbrev pub shape_in : ArrowType → Shape
 shape_in t = shape_of (physical_type_of t)
 
-pub plain_shape : (p : PlainType) → shape_of (plain_layout p) ≡ flat_shape
+pub plain_shape : (p : PlainType) → shape_of (plain_physical_type p) ≡ flat_shape
 plain_shape null = refl
 plain_shape boolean = refl
 plain_shape float16 = refl
@@ -55,7 +55,7 @@ plain_shape (fixed_size_binary size) = refl
 plain_shape (decimal precision scale) = refl
 plain_shape (decimal256 precision scale) = refl
 
-pub list_shaped : (form : ListForm) → shape_of (list_layout form) ≡ list_shape
+pub list_shaped : (form : ListForm) → shape_of (list_physical_type form) ≡ list_shape
 list_shaped small = refl
 list_shaped large = refl
 list_shaped (fixed_size size) = refl

@@ -5,7 +5,6 @@ use Rattle.std.specs.List.{All}
 use Rattle.std.proofs.Math.Nat.{eq-or-lt_of_le}
 use Rattle.std.proofs.lemmas.List.{length-map, length-replicate, get_or-replicate, get_or_default}
 use Rattle.std.proofs.lemmas.List.Elements.{All-map}
-use Rattle.arrow_types.specs.ArrowType.{ArrowType}
 use Rattle.arrow_types.specs.Relation.{is_null}
 use Rattle.arrow_types.specs.Rows.{valid_at}
 use Rattle.arrow_types.specs.Slot.{Slot, Slots, Null, Parts, no_slots, more_slots, to_slots}
@@ -13,20 +12,20 @@ use Rattle.arrow_memory.specs.Sliced.{sliced}
 use Rattle.arrow_memory.proofs.SlicedLemmas.{length-sliced}
 use Rattle.arrow_flat.specs.Parts.{FitsRows, IsValue, MarksNulls, unset_in}
 use Rattle.arrow_flat.proofs.PartsLemmas.{length-masked, null_count-masked, marks-masked, row_at, fits_part, fits_within}
-use Rattle.arrow_arrays.specs.Layout.{Layout, Layouts, no_layouts, more_layouts, to_layouts, rows, columns_of, rows_in, stacked, across, struct_items, type_of_layout}
-use Rattle.arrow_arrays.specs.PartOf.{part_of, parts_of}
-use Rattle.arrow_arrays.specs.StructParts.{StructParts, IsStruct, HaveRows, FitsColumns, row_count, row_of, struct_layout, struct_rows, struct_part}
+use Rattle.arrow_arrays.specs.Layout.{Layout, more_layouts, to_layouts, rows, columns_of, column_length, stacked, across, struct_items, type_of_layout}
+use Rattle.arrow_arrays.specs.SliceOf.{slice_of, slices_of}
+use Rattle.arrow_arrays.specs.StructParts.{StructParts, IsStruct, HaveRows, FitsColumns, row_count, row_of, struct_layout, struct_rows, struct_slice}
 use Rattle.arrow_arrays.specs.TypeParts.{field_types}
-use Rattle.arrow_arrays.proofs.PartLemmas.{rows_of_part, type_of_part}
+use Rattle.arrow_arrays.proofs.PartLemmas.{rows_of_slice, type_of_part}
 
 -- the columns of layouts of a list
 pub columns_of-to_layouts : (ls : List Layout) → columns_of (to_layouts ls) ≡ map rows ls
 columns_of-to_layouts [] = refl
 columns_of-to_layouts (l ∷ ls) = ap (λ cs. rows l ∷ cs) (columns_of-to_layouts ls)
 
-pub parts_of-to_layouts : (ls : List Layout) (offset len : ℕ) → parts_of (to_layouts ls) offset len ≡ to_layouts (map (λ l. part_of l offset len) ls)
+pub parts_of-to_layouts : (ls : List Layout) (offset len : ℕ) → slices_of (to_layouts ls) offset len ≡ to_layouts (map (λ l. slice_of l offset len) ls)
 parts_of-to_layouts [] offset len = refl
-parts_of-to_layouts (l ∷ ls) offset len = ap (λ cs. more_layouts (part_of l offset len) cs) (parts_of-to_layouts ls offset len)
+parts_of-to_layouts (l ∷ ls) offset len = ap (λ cs. more_layouts (slice_of l offset len) cs) (parts_of-to_layouts ls offset len)
 
 -- as many rows as each column has
 length-stacked : (xs : List Slot) (rs : List Slots) (n : ℕ) → length xs ≡ n → length rs ≡ n → length (stacked xs rs) ≡ n
@@ -60,11 +59,11 @@ length-struct_rows p held =
 -- the null rows are those that the validity marks
 pub null_count-struct : (p : StructParts) → IsStruct p → count_by is_null (struct_rows p) ≡ unset_in p.validity
 null_count-struct p held =
-    null_count-masked p.validity _ (rows_of_structs (across (rows_in (columns_of (to_layouts p.children))) (columns_of (to_layouts p.children)))) (fits_struct p held)
+    null_count-masked p.validity _ (rows_of_structs (across (column_length (columns_of (to_layouts p.children))) (columns_of (to_layouts p.children)))) (fits_struct p held)
 
 pub marks-struct : (p : StructParts) → IsStruct p → MarksNulls p.validity (struct_rows p)
 marks-struct p held =
-    marks-masked p.validity _ (rows_of_structs (across (rows_in (columns_of (to_layouts p.children))) (columns_of (to_layouts p.children)))) (fits_struct p held)
+    marks-masked p.validity _ (rows_of_structs (across (column_length (columns_of (to_layouts p.children))) (columns_of (to_layouts p.children)))) (fits_struct p held)
 
 -- one row
 stacked_at : (xs : List Slot) (rs : List Slots) (n k : ℕ) → length xs ≡ n → length rs ≡ n → k < n → get_or (stacked xs rs) k no_slots ≡ more_slots (get_or xs k Null) (get_or rs k no_slots)
@@ -114,26 +113,26 @@ struct_bits_within p q offset len held seen within =
     fits_within p.validity (row_count p.children) (offset + len) held.fits.1 (struct_part_within p q offset len held seen within)
 
 -- a slice
-have_part : (n offset len : ℕ) (ls : List Layout) → HaveRows n ls → offset + len ≤ n → HaveRows len (map (λ l. part_of l offset len) ls)
+have_part : (n offset len : ℕ) (ls : List Layout) → HaveRows n ls → offset + len ≤ n → HaveRows len (map (λ l. slice_of l offset len) ls)
 have_part n offset len ls have within =
-    All-map (λ l. length (rows l) ≡ len) (λ l. part_of l offset len) ls (λ k d among.
+    All-map (λ l. length (rows l) ≡ len) (λ l. slice_of l offset len) ls (λ k d among.
     let there : offset + len ≤ length (rows (get_or ls k d)) = omega (arith, have k d among, within) in
-    ap length (rows_of_part (get_or ls k d) offset len there) ∙ length-sliced (rows (get_or ls k d)) offset len there)
+    ap length (rows_of_slice (get_or ls k d) offset len there) ∙ length-sliced (rows (get_or ls k d)) offset len there)
 
 count_of_part : (n : ℕ) (ls : List Layout) → 0 < length ls → HaveRows n ls → row_count ls ≡ n
 count_of_part n [] some have = absurd (omega (arith, some))
 count_of_part n (l ∷ ls) some have = have 0 l (omega arith)
 
-types_of_part : (ls : List Layout) (offset len : ℕ) → map type_of_layout (map (λ l. part_of l offset len) ls) ≡ map type_of_layout ls
+types_of_part : (ls : List Layout) (offset len : ℕ) → map type_of_layout (map (λ l. slice_of l offset len) ls) ≡ map type_of_layout ls
 types_of_part [] offset len = refl
 types_of_part (l ∷ ls) offset len = λ i. type_of_part l offset len i ∷ types_of_part ls offset len i
 
-pub struct_part_is : (p q : StructParts) (offset len : ℕ) → IsStruct p → p ≡ q → offset + len ≤ length (struct_rows q) → IsStruct (struct_part p offset len)
+pub struct_part_is : (p q : StructParts) (offset len : ℕ) → IsStruct p → p ≡ q → offset + len ≤ length (struct_rows q) → IsStruct (struct_slice p offset len)
 struct_part_is p q offset len held seen within =
     let among = struct_part_within p q offset len held seen within in
-    let some : 0 < length (map (λ l. part_of l offset len) p.children) = omega (arith, held.some, length-map p.children (λ l. part_of l offset len)) in
+    let some : 0 < length (map (λ l. slice_of l offset len) p.children) = omega (arith, held.some, length-map p.children (λ l. slice_of l offset len)) in
     let have = have_part (row_count p.children) offset len p.children held.fits.0 among in
-    let count = count_of_part len (map (λ l. part_of l offset len) p.children) some have in
+    let count = count_of_part len (map (λ l. slice_of l offset len) p.children) some have in
     record {
       kind = held.kind;
       children = types_of_part p.children offset len ∙ held.children;
@@ -141,9 +140,9 @@ struct_part_is p q offset len held seen within =
       fits = rw count (have, fits_part p.validity (row_count p.children) offset len held.fits.1 among);
     }
 
-pub struct_part_rows : (p q : StructParts) (offset len : ℕ) → p ≡ q → offset + len ≤ length (struct_rows q) → struct_rows (struct_part p offset len) ≡ sliced (struct_rows p) offset len
+pub struct_part_rows : (p q : StructParts) (offset len : ℕ) → p ≡ q → offset + len ≤ length (struct_rows q) → struct_rows (struct_slice p offset len) ≡ sliced (struct_rows p) offset len
 struct_part_rows p q offset len seen within =
-    rw (← parts_of-to_layouts p.children offset len) (rows_of_part (struct_layout p) offset len (subst (λ r. offset + len ≤ length (struct_rows r)) (sym seen) within))
+    rw (← parts_of-to_layouts p.children offset len) (rows_of_slice (struct_layout p) offset len (subst (λ r. offset + len ≤ length (struct_rows r)) (sym seen) within))
 
 -- as many rows as the first child has
 pub first_rows : {A : Type 0} (layout_of : A → Layout) (xs : List A) (x : A) → 0 < length (map layout_of xs) → x ≡ get_or xs 0 x → length (rows (layout_of x)) ≡ row_count (map layout_of xs)

@@ -2,9 +2,6 @@
 use Rattle.std.proofs.Common.{◌≡◌, ℕ, zero, suc, ◌+◌, ◌<◌, ◌≤◌, ℤ, pos, Bool, true, false, not, true≢false, ◌↔◌, IsTrue, Option, Some, None, List, [], ◌∷◌, length, map, take, get_or, refl, ap, sym, ◌∙◌, subst, arith, ◌⊎◌, inl, inr, Vec, Global, w32, of_z, to_z}
 use borrow.Author.Count.{below_more}
 use mir.Val.{SFits}
-use lib.Dec.{leb}
-use Rattle.std.proofs.Math.Nat.{eq-or-lt_of_le}
-use Rattle.std.proofs.lemmas.Bool.Decides.{leb_tells}
 use Rattle.std.proofs.lemmas.Int.{to_z-of_z}
 use Rattle.std.proofs.lemmas.List.{length-map, get_or-map, take_all, take_more_same}
 use Rattle.arrow_types.specs.declared.datatypes.DataType.{DataType, Struct, Union}
@@ -13,8 +10,8 @@ use Rattle.arrow_types.specs.declared.datatypes.UnionMode.{UnionMode}
 use Rattle.arrow_types.specs.declared.datatypes.physical_type.PhysicalType.{PhysicalType}
 use Rattle.arrow_types.specs.declared.datatypes.physical_type.PhysicalType.TheVariants as physical
 use Rattle.arrow_types.specs.ArrowType.{ArrowType, ArrowFields, PlainType, plain, field, list, struct, union, dictionary, extension, null, boolean, integer, float16, float32, float64, timestamp, date32, date64, time32, time64, duration, interval, binary, large_binary, utf8, large_utf8, fixed_size_binary, decimal, decimal256, small, large, fixed_size, mapped, no_fields, more_fields, type_in, from_fields}
-use Rattle.arrow_types.specs.Carried.{AreTypeIds, AreDistinctIds, HasField, IsCarried}
-use Rattle.arrow_types.specs.Physical.{physical_type_of, plain_layout}
+use Rattle.arrow_types.specs.Carried.{AreTypeIds, HasField, IsCarried}
+use Rattle.arrow_types.specs.Physical.{physical_type_of, plain_physical_type}
 use Rattle.arrow_types.specs.Slot.{id_at}
 use Rattle.arrow_types.specs.SameTree.{same_by}
 use Rattle.arrow_types.specs.StoredType.{type_code}
@@ -65,7 +62,7 @@ is_nested physical.Union = true
 is_nested physical.Map = true
 is_nested _ = false
 
-not_nested : (p : PlainType) → is_nested (plain_layout p) ≡ false
+not_nested : (p : PlainType) → is_nested (plain_physical_type p) ≡ false
 not_nested null = refl
 not_nested boolean = refl
 not_nested float16 = refl
@@ -87,8 +84,8 @@ not_nested (fixed_size_binary size) = refl
 not_nested (decimal precision scale) = refl
 not_nested (decimal256 precision scale) = refl
 
-no_plain : (p : PlainType) (layout : PhysicalType) → is_nested layout ≡ true → plain_layout p ≡ layout → ⊥
-no_plain p layout nested is = true≢false (sym nested ∙ (ap is_nested (sym is) ∙ not_nested p))
+no_plain : (p : PlainType) (physical_type : PhysicalType) → is_nested physical_type ≡ true → plain_physical_type p ≡ physical_type → ⊥
+no_plain p physical_type nested is = true≢false (sym nested ∙ (ap is_nested (sym is) ∙ not_nested p))
 
 -- a carried fixed-size list has an item a row at least
 pub some_items : (t : ArrowType) → IsCarried t → physical_type_of t ≡ physical.FixedSizeList → 0 < list_size t

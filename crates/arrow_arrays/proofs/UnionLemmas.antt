@@ -1,5 +1,5 @@
 -- Unions: their rows, which field each lies in, and what a slice keeps.
-use Rattle.std.proofs.Common.{◌≡◌, ℕ, zero, suc, ◌+◌, ◌^◌, ◌<◌, ◌≤◌, ◌≤ℤ◌, ◌<ℤ◌, ◌↔◌, IsTrue, ℤ, pos, negsuc, Bool, true, false, Option, Some, None, List, [], ◌∷◌, length, map, take, drop, get_or, refl, ap, sym, subst, ◌∙◌, arith, w8, w32, of_z, to_z}
+use Rattle.std.proofs.Common.{◌≡◌, ℕ, zero, suc, ◌+◌, ◌^◌, ◌<◌, ◌≤◌, ◌≤ℤ◌, ◌<ℤ◌, ◌↔◌, IsTrue, ℤ, pos, negsuc, Bool, true, false, Option, Some, None, List, [], ◌∷◌, length, map, take, get_or, refl, ap, sym, subst, ◌∙◌, arith, w8, w32, of_z, to_z}
 use mir.Val.{SFits}
 use Rattle.std.specs.Prelude.{count_by, if◌then◌else◌, option_map, slice_get, slice_index_or}
 use Rattle.std.specs.Ordering.{int_eq}
@@ -14,7 +14,6 @@ use Rattle.std.proofs.lemmas.Slice.Zip.{length-zip, get_or-zip}
 use Rattle.arrow_types.specs.ArrowType.{ArrowType, plain, null}
 use Rattle.arrow_types.specs.declared.datatypes.UnionMode.{UnionMode}
 use Rattle.arrow_types.specs.declared.datatypes.UnionMode.TheVariants.{Dense, Sparse}
-use Rattle.arrow_types.specs.Carried.{AreTypeIds}
 use Rattle.arrow_types.specs.Relation.{is_null}
 use Rattle.arrow_types.specs.Slot.{Slot, Null, Variant, id_at}
 use Rattle.arrow_memory.specs.Sliced.{sliced}
@@ -24,10 +23,10 @@ use Rattle.arrow_flat.specs.Parts.{IsValue}
 use Rattle.arrow_flat.proofs.PartsLemmas.{null_count-masked}
 use Rattle.arrow_arrays.specs.Any.{layout_of, any_array_type, any_array_rows}
 use Rattle.arrow_arrays.specs.declared.array.any.AnyArray.{AnyArray}
-use Rattle.arrow_arrays.specs.Layout.{Layout, flat, rows, columns_of, to_layouts, type_of_layout, field_ids, column_of_id, variant_at, union_items}
+use Rattle.arrow_arrays.specs.Layout.{Layout, flat, rows, type_of_layout, field_ids, column_of_id, variant_at, union_items}
 use Rattle.arrow_arrays.specs.TypeParts.{field_types, mode_in}
 use Rattle.arrow_arrays.specs.StructParts.{HaveRows}
-use Rattle.arrow_arrays.specs.UnionParts.{HoldsUnion, FitsMode, FitsOffsets, UnionParts, IsUnion, IsKnown, IsInside, ArePlaced, SpansRows, FindsField, place_of, places_of, places_by, mode_by, rows_of_field, rows_of_id, row_in, start_of_part, union_layout_by, union_rows, union_part}
+use Rattle.arrow_arrays.specs.UnionParts.{HoldsUnion, FitsMode, FitsOffsets, UnionParts, IsUnion, IsKnown, IsInside, ArePlaced, SpansRows, FindsField, place_of, places_of, places_by, mode_by, rows_of_field, rows_of_id, row_in, start_of_part, union_layout_by, union_rows, union_slice}
 use Rattle.arrow_arrays.proofs.StructLemmas.{columns_of-to_layouts}
 use Rattle.arrow_arrays.proofs.TypeLemmas.{union_has_field}
 use Rattle.arrow_arrays.proofs.PartLemmas.{zip-sliced, range-sliced, union_items-sliced}
@@ -120,14 +119,14 @@ places_of_part (Some places) start count offset len within = refl
 part_within : {offsets : Option (List ℤ)} (p : UnionParts) (offset len : ℕ) → IsUnion offsets p → offset + len ≤ length (union_rows p) → offset + len ≤ length p.types
 part_within p offset len union within = omega (arith, within, length-union_rows p union)
 
-pub union_part_rows : {offsets : Option (List ℤ)} (p : UnionParts) (offset len : ℕ) → IsUnion offsets p → offset + len ≤ length (union_rows p) → union_rows (union_part p offset len) ≡ sliced (union_rows p) offset len
+pub union_part_rows : {offsets : Option (List ℤ)} (p : UnionParts) (offset len : ℕ) → IsUnion offsets p → offset + len ≤ length (union_rows p) → union_rows (union_slice p offset len) ≡ sliced (union_rows p) offset len
 union_part_rows p offset len union within =
     let among = part_within p offset len union within in
     let ids = field_ids p.arrow_type in
     let columns = map rows p.children in
     let count = length-sliced p.types offset len among in
     let places = places_of_part p.places p.start (length p.types) offset len among in
-    union_rows_are (union_part p offset len) ∙ (ap (λ n. union_items ids columns (sliced p.types offset len) (places_by (option_map (λ ns. sliced ns offset len) p.places) (start_of_part p.places p.start offset) n)) count ∙ (ap (union_items ids columns (sliced p.types offset len)) places ∙ (union_items-sliced ids columns p.types _ offset len ∙ ap (λ xs. sliced xs offset len) (sym (union_rows_are p)))))
+    union_rows_are (union_slice p offset len) ∙ (ap (λ n. union_items ids columns (sliced p.types offset len) (places_by (option_map (λ ns. sliced ns offset len) p.places) (start_of_part p.places p.start offset) n)) count ∙ (ap (union_items ids columns (sliced p.types offset len)) places ∙ (union_items-sliced ids columns p.types _ offset len ∙ ap (λ xs. sliced xs offset len) (sym (union_rows_are p)))))
 
 mode_of_part : (places : Option (List ℕ)) (offset len : ℕ) → mode_by (option_map (λ ns. sliced ns offset len) places) ≡ mode_by places
 mode_of_part None offset len = refl
@@ -146,7 +145,7 @@ start_below None start count offset len n fits within = omega (arith, fits, with
 start_below (Some places) start count offset len n fits within = omega (arith, fits, within)
 
 -- and it is a union again
-pub union_part_is : {offsets : Option (List ℤ)} (p : UnionParts) (offset len : ℕ) → IsUnion offsets p → offset + len ≤ length (union_rows p) → IsUnion (option_map (λ zs. sliced zs offset len) offsets) (union_part p offset len)
+pub union_part_is : {offsets : Option (List ℤ)} (p : UnionParts) (offset len : ℕ) → IsUnion offsets p → offset + len ≤ length (union_rows p) → IsUnion (option_map (λ zs. sliced zs offset len) offsets) (union_slice p offset len)
 union_part_is p offset len union within =
     let among = part_within p offset len union within in
     let count = length-sliced p.types offset len among in
@@ -177,7 +176,7 @@ places_of-sliced (Some zs) offset len = ap Some (map_sliced place_of zs offset l
 
 -- what is stored is a part of an array, has that part of its rows, and is an array
 pub record KeepsPart (p : UnionParts) (offset len : ℕ) (offsets : Option (List ℤ)) (q : UnionParts) : Type 0 where
-  pub part : q ≡ union_part p offset len
+  pub part : q ≡ union_slice p offset len
   pub rows : union_rows q ≡ sliced (union_rows p) offset len
   pub union : IsUnion offsets q
 
@@ -189,8 +188,8 @@ keeps_part : (t : ArrowType) (types : List ℤ) (offsets : Option (List ℤ)) (s
 keeps_part t types offsets start children p offset len seen union within new_types new_offsets new_start types_are offsets_are start_is =
     let union_p : IsUnion offsets p = subst (IsUnion offsets) seen union in
     let places_are : places_of new_offsets ≡ option_map (λ ns. sliced ns offset len) (places_of offsets) = ap places_of offsets_are ∙ places_of-sliced offsets offset len in
-    let same : stored t new_types new_offsets new_start children ≡ union_part (stored t types offsets start children) offset len = λ j. record { arrow_type = t; types = types_are j; places = places_are j; start = start_is j; children = children } in
-    let part = same ∙ ap (λ r. union_part r offset len) seen in
+    let same : stored t new_types new_offsets new_start children ≡ union_slice (stored t types offsets start children) offset len = λ j. record { arrow_type = t; types = types_are j; places = places_are j; start = start_is j; children = children } in
+    let part = same ∙ ap (λ r. union_slice r offset len) seen in
     record {
       part = part;
       rows = ap union_rows part ∙ union_part_rows p offset len union_p within;

@@ -1,15 +1,16 @@
 -- An array of any type as contracts see it: its layout, and which of the kinds of arrays it is.
 use Rattle.std.specs.Prelude.{◌≡◌, ℕ, Bool, Option, None, List, map, if◌then◌else◌}
+use Rattle.std.specs.Borrow.{Bor}
 use Rattle.arrow_types.specs.declared.datatypes.physical_type.PhysicalType.{PhysicalType}
 use Rattle.arrow_types.specs.declared.datatypes.physical_type.PhysicalType.TheVariants as physical
 use Rattle.arrow_types.specs.declared.types.PrimitiveType.{PrimitiveType}
 use Rattle.arrow_types.specs.ArrowType.{ArrowType}
-use Rattle.arrow_types.specs.Slot.{Slot, Boolean as truth, Text, Bytes}
+use Rattle.arrow_types.specs.Slot.{Slot, Text, Bytes}
 use Rattle.arrow_flat.specs.AnyPrimitive.{any_parts, any_type, any_rows, element_of}
 use Rattle.arrow_flat.specs.ByteRows.{ByteParts, byte_slots}
 use Rattle.arrow_flat.specs.FixedRows.{fixed_slots}
 use Rattle.arrow_flat.specs.NullParts.{null_rows}
-use Rattle.arrow_flat.specs.Parts.{Parts, MarksNulls, rows_by}
+use Rattle.arrow_flat.specs.Parts.{Parts, MarksNulls, boolean_rows, rows_by}
 use Rattle.arrow_arrays.specs.Layout.{Layout, flat, rows, type_of_layout}
 use Rattle.arrow_arrays.specs.FixedListParts.{fixed_list_layout}
 use Rattle.arrow_arrays.specs.KeyedParts.{keyed_layout}
@@ -25,7 +26,7 @@ byte_layout slot p = flat p.arrow_type (rows_by (byte_slots slot) p)
 
 abbrev pub layout_of : AnyArray → Layout
 layout_of (Null p) = flat p.arrow_type (null_rows p)
-layout_of (Boolean p) = flat p.arrow_type (rows_by (map truth) p)
+layout_of (Boolean p) = flat p.arrow_type (boolean_rows p)
 layout_of (Primitive p) = flat (any_type p) (any_rows p)
 layout_of (Utf8 p) = byte_layout Text p
 layout_of (LargeUtf8 p) = byte_layout Text p
@@ -38,6 +39,10 @@ layout_of (Struct p) = struct_layout p
 layout_of (Union p) = union_layout p
 layout_of (Map p) = list_layout p
 layout_of (Dictionary p) = keyed_layout p
+
+-- the layouts of borrowed arrays
+abbrev pub layouts_in : List (Bor AnyArray) → List Layout
+layouts_in = map (λ array. layout_of array.now)
 
 -- its type, its rows, and both
 abbrev pub any_array_type : AnyArray → ArrowType

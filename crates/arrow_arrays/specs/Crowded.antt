@@ -1,5 +1,5 @@
 -- Rows whose keys leave no room where dictionaries are joined: a key grows by the values of the dictionaries before its own ("Dictionary-encoded Layout").
-use Rattle.std.specs.Prelude.{ℕ, zero, suc, ℤ, Bool, true, List, [], ◌∷◌, ◌++◌, map, length, sum_by, ◌≡◌, ◌≤◌, ◌<◌, ◌+◌, ◌*◌, ◌⊎◌, Option, Some, slice_get, slice_index}
+use Rattle.std.specs.Prelude.{ℕ, zero, suc, ℤ, true, List, [], ◌∷◌, ◌++◌, map, length, sum_by, ◌≡◌, ◌≤◌, ◌<◌, ◌+◌, ◌*◌, ◌⊎◌, Option, Some, slice_get, slice_index}
 use Rattle.arrow_types.specs.ArrowType.{ArrowType, plain, null, dictionary, extension}
 use Rattle.arrow_types.specs.Fits.{Fits}
 use Rattle.arrow_types.specs.Greatest.{greatest_number}

@@ -3,9 +3,9 @@ use Rattle.std.specs.Prelude.{◌≡◌, ℕ, pos, true, false, None, Some, List
 use Rattle.arrow_types.specs.declared.datatypes.IntegerType.TheVariants.{Int8, Int32}
 use Rattle.arrow_types.specs.declared.datatypes.UnionMode.TheVariants.{Sparse, Dense}
 use Rattle.arrow_types.specs.ArrowType.{ArrowType, ArrowFields, plain, integer, utf8, list, small, fixed_size, struct, union, dictionary, field, no_fields, more_fields}
-use Rattle.arrow_types.specs.Slot.{Slot, Null, Number, Text, Items, Parts, Entry, Variant, to_slots}
+use Rattle.arrow_types.specs.Slot.{Slot, Null, Number, Text, Items, Parts, Dict, Variant, to_slots}
 use Rattle.arrow_arrays.specs.Layout.{Layout, flat, listed, fixed, fielded, sparse, dense, keyed, no_layouts, more_layouts, rows, depth}
-use Rattle.arrow_arrays.specs.PartOf.{part_of}
+use Rattle.arrow_arrays.specs.SliceOf.{slice_of}
 
 abbrev int32 : ArrowType
 int32 = plain (integer Int32)
@@ -27,7 +27,7 @@ rows_of_lists : rows lists ≡ Items (to_slots (one 4 ∷ [])) ∷ Items (to_slo
 rows_of_lists = refl
 
 -- the last two of them
-rows_of_last_lists : rows (part_of lists 1 2) ≡ Items (to_slots []) ∷ Null ∷ []
+rows_of_last_lists : rows (slice_of lists 1 2) ≡ Items (to_slots []) ∷ Null ∷ []
 rows_of_last_lists = refl
 
 -- pairs [1,2], null over [3,4], [5,6], and all but the first
@@ -37,7 +37,7 @@ pairs = fixed (list (fixed_size 2) (field [] int32 true)) (Some (true ∷ false 
 rows_of_pairs : rows pairs ≡ Items (to_slots (one 1 ∷ one 2 ∷ [])) ∷ Null ∷ Items (to_slots (one 5 ∷ one 6 ∷ [])) ∷ []
 rows_of_pairs = refl
 
-rows_of_last_pairs : rows (part_of pairs 1 2) ≡ Null ∷ Items (to_slots (one 5 ∷ one 6 ∷ [])) ∷ []
+rows_of_last_pairs : rows (slice_of pairs 1 2) ≡ Null ∷ Items (to_slots (one 5 ∷ one 6 ∷ [])) ∷ []
 rows_of_last_pairs = refl
 
 -- a struct of numbers and texts, its second row null over values
@@ -56,7 +56,7 @@ rows_of_dense : rows (dense (union Dense None number_and_text) (pos 1 ∷ pos 0 
 rows_of_dense = refl
 
 -- a dictionary: a null key is null, and a key that names a null is not
-rows_of_dictionary : rows (keyed (dictionary Int8 false int32) (Some 1 ∷ None ∷ Some 0 ∷ []) (flat int32 (one 3 ∷ Null ∷ []))) ≡ Entry Null ∷ Null ∷ Entry (one 3) ∷ []
+rows_of_dictionary : rows (keyed (dictionary Int8 false int32) (Some 1 ∷ None ∷ Some 0 ∷ []) (flat int32 (one 3 ∷ Null ∷ []))) ≡ Dict Null ∷ Null ∷ Dict (one 3) ∷ []
 rows_of_dictionary = refl
 
 -- a list of dictionaries is two deep

@@ -1,12 +1,11 @@
 -- A child is less deep than the array that holds it.
-use Rattle.std.specs.Prelude.{ℕ, ◌+◌, ◌≤◌, max, suc, Option, Some, None, List, [], ◌∷◌, map}
+use Rattle.std.specs.Prelude.{◌+◌, ◌≤◌, max, suc, List, [], ◌∷◌, map}
 use Rattle.std.proofs.Common.{arith}
 use denote.Param.Weighed.{most}
-use Rattle.arrow_types.specs.ArrowType.{ArrowType}
 use Rattle.arrow_arrays.specs.declared.array.any.AnyArray.{AnyArray}
 use Rattle.arrow_arrays.specs.declared.array.any.AnyArray.TheVariants.{Null, Boolean, Primitive, Utf8, LargeUtf8, Binary, LargeBinary, FixedSizeBinary, List as ListOf, FixedSizeList, Struct, Union, Map, Dictionary}
 use Rattle.arrow_arrays.specs.declared.array.dictionary.DictionaryArray.TheDeep.{deep-AnyArray}
-use Rattle.arrow_arrays.specs.Layout.{Layout, depth, depth_of_all, to_layouts}
+use Rattle.arrow_arrays.specs.Layout.{depth, depth_of_all, to_layouts}
 use Rattle.arrow_arrays.specs.Any.{layout_of}
 
 pub deep_le-depth : (a : AnyArray) → deep-AnyArray a ≤ depth (layout_of a) + 1

@@ -8,9 +8,9 @@ use Rattle.arrow_types.specs.Slot.{Slot}
 use Rattle.arrow_types.specs.StoredType.{type_code}
 use Rattle.arrow_flat.specs.Faults.{IsCarriedAs}
 use Rattle.arrow_flat.specs.Parts.{FitsRows}
-use Rattle.arrow_arrays.specs.Faults.{NamesFirst}
+use Rattle.arrow_arrays.specs.Faults.{NamesFirstNested}
 use Rattle.arrow_arrays.specs.Layout.{Layout, fixed, rows, type_of_layout}
-use Rattle.arrow_arrays.specs.PartOf.{bits_of_part, part_of}
+use Rattle.arrow_arrays.specs.SliceOf.{validity_of_slice, slice_of}
 use Rattle.arrow_arrays.specs.StoredLayout.{layout_code}
 use Rattle.arrow_arrays.specs.TypeParts.{item_type, list_size}
 
@@ -38,9 +38,9 @@ abbrev pub fixed_list_meaning : FixedListParts → ArrowType × List Slot
 fixed_list_meaning p = (p.arrow_type, fixed_list_rows p)
 
 -- the parts of a slice: the items of its rows
-abbrev pub fixed_list_part : FixedListParts → ℕ → ℕ → FixedListParts
-fixed_list_part p offset len =
-    record { arrow_type = p.arrow_type; validity = bits_of_part p.validity offset len; size = p.size; child = part_of p.child (offset * p.size) (len * p.size) }
+abbrev pub fixed_list_slice : FixedListParts → ℕ → ℕ → FixedListParts
+fixed_list_slice p offset len =
+    record { arrow_type = p.arrow_type; validity = validity_of_slice p.validity offset len; size = p.size; child = slice_of p.child (offset * p.size) (len * p.size) }
 
 -- the same parts under another validity
 abbrev pub fixed_list_with_bits : FixedListParts → Option (List Bool) → FixedListParts
@@ -67,4 +67,4 @@ HoldsFixedList t child validity =
 -- the error names the first part that does not hold
 abbrev pub IsFixedListFault : ArrowType → Layout → Option (List Bool) → Error → Type 0
 IsFixedListFault t child validity =
-    NamesFirst (IsCarriedAs physical.FixedSizeList t) (type_of_layout child ≡ item_type t) (FitsItems (list_size t) (length (rows child)) validity) (Unit {0}) (Unit {0}) (Unit {0})
+    NamesFirstNested (IsCarriedAs physical.FixedSizeList t) (type_of_layout child ≡ item_type t) (FitsItems (list_size t) (length (rows child)) validity) (Unit {0}) (Unit {0}) (Unit {0})

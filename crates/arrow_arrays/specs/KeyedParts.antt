@@ -1,5 +1,5 @@
 -- A dictionary as contracts see it ("Dictionary-encoded Layout").
-use Rattle.std.specs.Prelude.{◌≡◌, ℕ, ◌<◌, ℤ, pos, Bool, Option, Some, None, List, map, length, refl}
+use Rattle.std.specs.Prelude.{◌≡◌, ℕ, ◌<◌, pos, Bool, Option, Some, None, List, map, length, refl}
 use Rattle.std.specs.Coded.{Coded, code_by, coded×, coded_ℕ, coded_list, coded_bool, coded_option}
 use Rattle.std.specs.List.{All}
 use Rattle.arrow_types.specs.declared.error.Error.{Error}
@@ -11,9 +11,9 @@ use Rattle.arrow_types.specs.StoredType.{type_code}
 use Rattle.arrow_memory.specs.Sliced.{sliced}
 use Rattle.arrow_flat.specs.DictionaryScalar.{values_in}
 use Rattle.arrow_flat.specs.Faults.{IsCarriedAs}
-use Rattle.arrow_arrays.specs.Faults.{NamesFirst}
+use Rattle.arrow_arrays.specs.Faults.{NamesFirstNested}
 use Rattle.arrow_arrays.specs.Layout.{Layout, keyed, rows, type_of_layout}
-use Rattle.arrow_arrays.specs.PartOf.{bits_of_part}
+use Rattle.arrow_arrays.specs.SliceOf.{validity_of_slice}
 use Rattle.arrow_arrays.specs.StoredLayout.{layout_code}
 
 -- the type, the validity of the keys, if there is one, a key a row, None where it is null, and the values
@@ -40,9 +40,9 @@ abbrev pub keyed_meaning : KeyedParts → ArrowType × List Slot
 keyed_meaning p = (p.arrow_type, keyed_rows p)
 
 -- the parts of a slice: its keys with their validity, and all values
-abbrev pub keyed_part : KeyedParts → ℕ → ℕ → KeyedParts
-keyed_part p offset len =
-    record { arrow_type = p.arrow_type; validity = bits_of_part p.validity offset len; keys = sliced p.keys offset len; child = p.child }
+abbrev pub keyed_slice : KeyedParts → ℕ → ℕ → KeyedParts
+keyed_slice p offset len =
+    record { arrow_type = p.arrow_type; validity = validity_of_slice p.validity offset len; keys = sliced p.keys offset len; child = p.child }
 
 -- the key that a row of an array of keys is
 abbrev pub key_in : Slot → Option ℕ
@@ -83,4 +83,4 @@ HoldsKeyed t keys key_type child =
 -- the error names the first part that does not hold
 abbrev pub IsKeyedFault : ArrowType → List Slot → IntegerType → Layout → Error → Type 0
 IsKeyedFault t keys key_type child =
-    NamesFirst (IsCarriedAs (physical.Dictionary key_type) t) (type_of_layout child ≡ values_in t) (Unit {0}) (Unit {0}) (Unit {0}) (AreKeys (length (rows child)) keys)
+    NamesFirstNested (IsCarriedAs (physical.Dictionary key_type) t) (type_of_layout child ≡ values_in t) (Unit {0}) (Unit {0}) (Unit {0}) (AreKeys (length (rows child)) keys)

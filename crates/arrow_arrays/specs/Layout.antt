@@ -1,10 +1,10 @@
 -- An array as contracts see it: its type, its parts and its children, without pointers, bit offsets or sharing ("Physical Memory Layout"). Its rows follow.
-use Rattle.std.specs.Prelude.{ℕ, zero, suc, ◌≡◌, ◌/◌, max, ℤ, Bool, Option, List, [], ◌∷◌, map, replicate, length, slice_index_or, if◌then◌else◌, Some, None}
+use Rattle.std.specs.Prelude.{ℕ, suc, ◌/◌, max, ℤ, Bool, Option, List, [], ◌∷◌, map, replicate, length, slice_index_or, if◌then◌else◌, Some, None}
 use Rattle.std.specs.List.{range_with_len, zip}
 use Rattle.std.specs.Ordering.{int_eq}
 use Rattle.arrow_types.specs.ArrowType.{ArrowType, union, extension}
 use Rattle.arrow_types.specs.Rows.{masked}
-use Rattle.arrow_types.specs.Slot.{Slot, Slots, Null, Items, Parts, Entry, Variant, no_slots, more_slots, to_slots, id_at}
+use Rattle.arrow_types.specs.Slot.{Slot, Slots, Null, Items, Parts, Dict, Variant, no_slots, more_slots, to_slots, id_at}
 use Rattle.arrow_flat.specs.Pieces.{pieces, chunks}
 
 mutual
@@ -65,9 +65,9 @@ abbrev pub fixed_items : ℕ → List Slot → List Slot
 fixed_items s xs = map items_row (chunks (length xs / s) s xs)
 
 -- how many rows the first column has
-abbrev pub rows_in : List (List Slot) → ℕ
-rows_in [] = 0
-rows_in (c ∷ cs) = length c
+abbrev pub column_length : List (List Slot) → ℕ
+column_length [] = 0
+column_length (c ∷ cs) = length c
 
 -- a column in front of the others
 abbrev pub stacked : List Slot → List Slots → List Slots
@@ -81,7 +81,7 @@ across n (c ∷ cs) = stacked c (across n cs)
 
 -- the rows of a struct, where none is null: row i of each column
 abbrev pub struct_items : List (List Slot) → List Slot
-struct_items columns = map Parts (across (rows_in columns) columns)
+struct_items columns = map Parts (across (column_length columns) columns)
 
 -- the column of the field that has an id, from field f on
 abbrev pub column_of_id : Option (List ℤ) → ℕ → ℤ → List (List Slot) → List Slot
@@ -99,7 +99,7 @@ union_items ids columns types places = map (λ row. variant_at ids columns row.0
 -- a row of a dictionary: the value that its key names
 abbrev pub keyed_item : List Slot → Option ℕ → Slot
 keyed_item xs None = Null
-keyed_item xs (Some k) = Entry (slice_index_or xs k Null)
+keyed_item xs (Some k) = Dict (slice_index_or xs k Null)
 
 abbrev mutual
   pub rows : Layout → List Slot

@@ -10,7 +10,7 @@ pub mod KeyedParts
 pub mod Layout
 pub mod ListParts
 pub mod Nulls
-pub mod PartOf
+pub mod SliceOf
 pub mod Spans
 pub mod StoredLayout
 pub mod StructParts

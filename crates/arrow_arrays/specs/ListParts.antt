@@ -10,9 +10,9 @@ use Rattle.arrow_memory.specs.Offsets.{IsOffsets, last_of}
 use Rattle.arrow_memory.specs.Sliced.{sliced}
 use Rattle.arrow_flat.specs.Faults.{IsCarriedAs}
 use Rattle.arrow_flat.specs.Parts.{FitsRows}
-use Rattle.arrow_arrays.specs.Faults.{NamesFirst}
+use Rattle.arrow_arrays.specs.Faults.{NamesFirstNested}
 use Rattle.arrow_arrays.specs.Layout.{Layout, listed, rows, type_of_layout}
-use Rattle.arrow_arrays.specs.PartOf.{bits_of_part}
+use Rattle.arrow_arrays.specs.SliceOf.{validity_of_slice}
 use Rattle.arrow_arrays.specs.StoredLayout.{layout_code}
 use Rattle.arrow_arrays.specs.TypeParts.{item_type}
 
@@ -40,17 +40,17 @@ abbrev pub list_meaning : ListParts → ArrowType × List Slot
 list_meaning p = (p.arrow_type, list_rows p)
 
 -- the parts of a slice: the offsets of its rows, and the whole child
-abbrev pub list_part : ListParts → ℕ → ℕ → ListParts
-list_part p offset len =
-    record { arrow_type = p.arrow_type; validity = bits_of_part p.validity offset len; offsets = sliced p.offsets offset (len + 1); child = p.child }
+abbrev pub list_slice : ListParts → ℕ → ℕ → ListParts
+list_slice p offset len =
+    record { arrow_type = p.arrow_type; validity = validity_of_slice p.validity offset len; offsets = sliced p.offsets offset (len + 1); child = p.child }
 
 -- the same parts under another validity
 abbrev pub list_with_bits : ListParts → Option (List Bool) → ListParts
 list_with_bits p validity = record { arrow_type = p.arrow_type; validity = validity; offsets = p.offsets; child = p.child }
 
 -- the parts of an array: a carried type that lies so, a child of the type of its items, offsets that lie inside the child, and a validity with a bit for each row
-pub record IsList (layout : PhysicalType) (p : ListParts) : Type 0 where
-  pub kind : IsCarriedAs layout p.arrow_type
+pub record IsList (physical_type : PhysicalType) (p : ListParts) : Type 0 where
+  pub kind : IsCarriedAs physical_type p.arrow_type
   pub child : type_of_layout p.child ≡ item_type p.arrow_type
   pub fits : FitsRows p.validity (length p.offsets - 1)
   pub offsets : IsOffsets p.offsets
@@ -58,13 +58,13 @@ pub record IsList (layout : PhysicalType) (p : ListParts) : Type 0 where
 
 -- what a test of the parts finds to hold, by the length, and by where the last row ends
 abbrev pub HoldsList : PhysicalType → ArrowType → ℕ → ℕ → Layout → Option (List Bool) → Type 0
-HoldsList layout t len end child validity =
-    IsCarriedAs layout t × (type_of_layout child ≡ item_type t) × FitsRows validity len × (end ≤ length (rows child))
+HoldsList physical_type t len end child validity =
+    IsCarriedAs physical_type t × (type_of_layout child ≡ item_type t) × FitsRows validity len × (end ≤ length (rows child))
 
 -- the error names the first part that does not hold
 abbrev pub IsListFaultBy : PhysicalType → ArrowType → ℕ → ℕ → Layout → Option (List Bool) → Error → Type 0
-IsListFaultBy layout t len end child validity =
-    NamesFirst (IsCarriedAs layout t) (type_of_layout child ≡ item_type t) (FitsRows validity len) (end ≤ length (rows child)) (Unit {0}) (Unit {0})
+IsListFaultBy physical_type t len end child validity =
+    NamesFirstNested (IsCarriedAs physical_type t) (type_of_layout child ≡ item_type t) (FitsRows validity len) (end ≤ length (rows child)) (Unit {0}) (Unit {0})
 
 abbrev pub IsListFault : PhysicalType → ListParts → Error → Type 0
-IsListFault layout p = IsListFaultBy layout p.arrow_type (length p.offsets - 1) (last_of p.offsets) p.child p.validity
+IsListFault physical_type p = IsListFaultBy physical_type p.arrow_type (length p.offsets - 1) (last_of p.offsets) p.child p.validity

@@ -9,9 +9,9 @@ use Rattle.arrow_types.specs.Slot.{Slot, Null, Parts, to_slots}
 use Rattle.arrow_types.specs.StoredType.{type_code}
 use Rattle.arrow_flat.specs.Faults.{IsCarriedAs}
 use Rattle.arrow_flat.specs.Parts.{FitsRows}
-use Rattle.arrow_arrays.specs.Faults.{NamesFirst}
-use Rattle.arrow_arrays.specs.Layout.{Layout, fielded, rows, rows_in, to_layouts, type_of_layout}
-use Rattle.arrow_arrays.specs.PartOf.{bits_of_part, part_of}
+use Rattle.arrow_arrays.specs.Faults.{NamesFirstNested}
+use Rattle.arrow_arrays.specs.Layout.{Layout, fielded, rows, column_length, to_layouts, type_of_layout}
+use Rattle.arrow_arrays.specs.SliceOf.{validity_of_slice, slice_of}
 use Rattle.arrow_arrays.specs.StoredLayout.{layout_code}
 use Rattle.arrow_arrays.specs.TypeParts.{field_types}
 
@@ -43,12 +43,12 @@ row_of i children = Parts (to_slots (map (λ l. slice_index_or (rows l) i Null) 
 
 -- as many rows as the first child has
 abbrev pub row_count : List Layout → ℕ
-row_count children = rows_in (map rows children)
+row_count children = column_length (map rows children)
 
 -- the parts of a slice: a part of each child
-abbrev pub struct_part : StructParts → ℕ → ℕ → StructParts
-struct_part p offset len =
-    record { arrow_type = p.arrow_type; validity = bits_of_part p.validity offset len; children = map (λ l. part_of l offset len) p.children }
+abbrev pub struct_slice : StructParts → ℕ → ℕ → StructParts
+struct_slice p offset len =
+    record { arrow_type = p.arrow_type; validity = validity_of_slice p.validity offset len; children = map (λ l. slice_of l offset len) p.children }
 
 -- the same parts under another validity
 abbrev pub struct_with_bits : StructParts → Option (List Bool) → StructParts
@@ -77,4 +77,4 @@ HoldsStruct t children validity =
 -- the error names the first part that does not hold
 abbrev pub IsStructFault : ArrowType → List Layout → Option (List Bool) → Error → Type 0
 IsStructFault t children validity =
-    NamesFirst (IsCarriedAs physical.Struct t) (map type_of_layout children ≡ field_types t) (FitsColumns children validity) (Unit {0}) (Unit {0}) (Unit {0})
+    NamesFirstNested (IsCarriedAs physical.Struct t) (map type_of_layout children ≡ field_types t) (FitsColumns children validity) (Unit {0}) (Unit {0}) (Unit {0})

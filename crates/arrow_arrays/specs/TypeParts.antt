@@ -1,10 +1,8 @@
 -- What a nested type says of its children, through the extensions around it.
 use Rattle.std.specs.Prelude.{ℕ, List, [], map}
 use Rattle.arrow_types.specs.declared.datatypes.UnionMode.{UnionMode}
-use Rattle.arrow_types.specs.declared.datatypes.UnionMode.TheVariants.{Dense, Sparse}
-use Rattle.arrow_types.specs.declared.datatypes.IntegerType.{IntegerType}
-use Rattle.arrow_types.specs.declared.datatypes.IntegerType.TheVariants.{Int8}
-use Rattle.arrow_types.specs.ArrowType.{ArrowType, list, struct, union, dictionary, extension, fixed_size, type_in, from_fields}
+use Rattle.arrow_types.specs.declared.datatypes.UnionMode.TheVariants.{Sparse}
+use Rattle.arrow_types.specs.ArrowType.{ArrowType, list, struct, union, extension, fixed_size, type_in, from_fields}
 
 -- the type of the items of a list or a map
 abbrev pub item_type : ArrowType → ArrowType

@@ -1,6 +1,5 @@
 -- The children of a union are less deep than it.
 use Rattle.std.specs.Prelude.{ℕ, ℤ, ◌≡◌, ◌≤◌, max, suc, Option, Some, None, List, map, refl}
-use Rattle.std.proofs.Common.{arith}
 use denote.Param.Weighed.{most}
 use Rattle.arrow_types.specs.ArrowType.{ArrowType}
 use Rattle.arrow_arrays.specs.declared.array.any.AnyArray.{AnyArray}

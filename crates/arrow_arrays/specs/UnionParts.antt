@@ -1,5 +1,5 @@
 -- A union as contracts see it ("Union Layout").
-use Rattle.std.specs.Prelude.{◌≡◌, ℕ, ◌+◌, ◌^◌, ◌<◌, ◌≤◌, ℤ, pos, negsuc, Option, Some, None, IfSome, option_map, List, [], ◌∷◌, map, length, slice_index_or, refl}
+use Rattle.std.specs.Prelude.{◌≡◌, ℕ, ◌+◌, ◌^◌, ◌<◌, ◌≤◌, ℤ, pos, negsuc, Option, Some, None, IfSome, option_map, List, [], map, length, slice_index_or, refl}
 use Rattle.std.specs.Coded.{Coded, code_by, coded×, coded_ℕ, coded_ℤ, coded_list, coded_option}
 use Rattle.std.specs.List.{All, range_with_len, zip}
 use Rattle.arrow_types.specs.declared.error.Error.{Error}
@@ -11,7 +11,7 @@ use Rattle.arrow_types.specs.Slot.{Slot, Null, id_at}
 use Rattle.arrow_types.specs.StoredType.{type_code}
 use Rattle.arrow_memory.specs.Sliced.{sliced}
 use Rattle.arrow_flat.specs.Faults.{IsCarriedAs}
-use Rattle.arrow_arrays.specs.Faults.{NamesFirst}
+use Rattle.arrow_arrays.specs.Faults.{NamesFirstNested}
 use Rattle.arrow_arrays.specs.Layout.{Layout, sparse, dense, rows, to_layouts, type_of_layout, field_ids, column_of_id}
 use Rattle.arrow_arrays.specs.StoredLayout.{layout_code}
 use Rattle.arrow_arrays.specs.StructParts.{HaveRows}
@@ -71,8 +71,8 @@ start_of_part None start offset = start + offset
 start_of_part (Some places) start offset = start
 
 -- the parts of a slice: the children stay whole
-abbrev pub union_part : UnionParts → ℕ → ℕ → UnionParts
-union_part p offset len =
+abbrev pub union_slice : UnionParts → ℕ → ℕ → UnionParts
+union_slice p offset len =
     record { arrow_type = p.arrow_type; types = sliced p.types offset len; places = option_map (λ ns. sliced ns offset len) p.places; start = start_of_part p.places p.start offset; children = p.children }
 
 -- the mode that the parts have: only a dense union has offsets
@@ -138,4 +138,4 @@ HoldsUnion t types children offsets =
 -- the error names the first part that does not hold
 abbrev pub IsUnionFault : ArrowType → List ℤ → List Layout → Option (List ℤ) → Error → Type 0
 IsUnionFault t types children offsets =
-    NamesFirst (IsCarriedAs physical.Union t) (map type_of_layout children ≡ field_types t) (FitsMode (mode_in t) types offsets children) (FitsOffsets (field_ids t) children types offsets) (All (IsKnown (field_ids t) (length children)) types) (Unit {0})
+    NamesFirstNested (IsCarriedAs physical.Union t) (map type_of_layout children ≡ field_types t) (FitsMode (mode_in t) types offsets children) (FitsOffsets (field_ids t) children types offsets) (All (IsKnown (field_ids t) (length children)) types) (Unit {0})

@@ -10,7 +10,7 @@ use Rattle.arrow_types.specs.Physical.{physical_type_of}
 use Rattle.arrow_types.specs.declared.datatypes.physical_type.PhysicalType.TheVariants as physical
 use Rattle.arrow_types.specs.Slot.{Bytes}
 use Rattle.arrow_memory.proofs.SlicedLemmas.{length-sliced}
-use Rattle.arrow_flat.specs.FixedRows.{FixedParts, AreFixedRows, fixed_row_bytes, fixed_slots, fixed_part, fixed_size_in}
+use Rattle.arrow_flat.specs.FixedRows.{FixedParts, AreFixedRows, fixed_row_bytes, fixed_slots, fixed_slice, fixed_size_in}
 use Rattle.arrow_flat.specs.PieceLaws.{length-chunks}
 use Rattle.arrow_flat.specs.Pieces.{chunks}
 use Rattle.arrow_flat.proofs.StoredLemmas.{map-same}
@@ -35,7 +35,7 @@ row_within p i held within = omega (arith, held.whole, mul-le-mul_right p.size w
 pub count_fits : (p : FixedParts) → AreFixedRows p → p.count < 2 ^ 64
 count_fits p held = omega (arith, held.whole, held.fits, le-mul_of_pos_right p.count held.some)
 
-pub part_of_fixed_rows : (p : FixedParts) (offset len : ℕ) → AreFixedRows p → offset + len ≤ p.count → AreFixedRows (fixed_part p offset len)
+pub part_of_fixed_rows : (p : FixedParts) (offset len : ℕ) → AreFixedRows p → offset + len ≤ p.count → AreFixedRows (fixed_slice p offset len)
 part_of_fixed_rows p offset len held within =
     let end : (offset + len) * p.size ≤ length p.bytes = row_within p (offset + len) held within in
     let long = length-sliced p.bytes (offset * p.size) (len * p.size) (omega (arith, end)) in

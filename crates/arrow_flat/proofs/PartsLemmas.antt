@@ -16,7 +16,8 @@ use Rattle.arrow_memory.specs.Sliced.{sliced}
 use Rattle.arrow_memory.proofs.SlicedLemmas.{length-sliced}
 use Rattle.arrow_types.specs.StoredType.{type_code}
 use Rattle.arrow_types.specs.SameTree.{same_by, same_by-decides}
-use Rattle.arrow_flat.specs.Parts.{Parts, meaning_code, FitsRows, IsValue, IsArray, rows_by, part_by, unset_in, MarksNulls}
+use Rattle.arrow_flat.specs.Laws.{marked_row}
+use Rattle.arrow_flat.specs.Parts.{Parts, meaning_code, FitsRows, IsValue, IsArray, rows_by, slice_by, unset_in, MarksNulls}
 
 -- as many rows as are stored
 
@@ -48,8 +49,8 @@ masked-sliced (Some bits) xs offset len =
     sym (take-mask len (drop offset bits) (drop offset xs)) ∙ ap (take len) (sym (drop-mask offset bits xs))
 
 -- the rows of a part are that part of the rows
-pub rows_of_part : {V : Type 0} (slots : V → List Slot) (part : V → ℕ → ℕ → V) (p : Parts V) (offset len : ℕ) → slots (part p.values offset len) ≡ sliced (slots p.values) offset len → rows_by slots (part_by part p offset len) ≡ sliced (rows_by slots p) offset len
-rows_of_part slots part p offset len stored =
+pub rows_of_slice : {V : Type 0} (slots : V → List Slot) (part : V → ℕ → ℕ → V) (p : Parts V) (offset len : ℕ) → slots (part p.values offset len) ≡ sliced (slots p.values) offset len → rows_by slots (slice_by part p offset len) ≡ sliced (rows_by slots p) offset len
+rows_of_slice slots part p offset len stored =
     ap (masked (option_map (λ bits. sliced bits offset len) p.validity)) stored ∙ masked-sliced p.validity (slots p.values) offset len
 
 pub fits_part : (v : Option (List Bool)) (n offset len : ℕ) → FitsRows v n → offset + len ≤ n → FitsRows (option_map (λ bits. sliced bits offset len) v) len
@@ -57,7 +58,7 @@ fits_part None n offset len fits within = tt
 fits_part (Some bits) n offset len fits within = length-sliced bits offset len (omega (arith, fits))
 
 -- and they are an array again
-pub array_of_part : {V : Type 0} (slots : V → List Slot) (are_of : V → ArrowType → Type 0) (part : V → ℕ → ℕ → V) (p : Parts V) (offset len : ℕ) → IsArray slots are_of p → offset + len ≤ length (slots p.values) → are_of (part p.values offset len) p.arrow_type → slots (part p.values offset len) ≡ sliced (slots p.values) offset len → IsArray slots are_of (part_by part p offset len)
+pub array_of_part : {V : Type 0} (slots : V → List Slot) (are_of : V → ArrowType → Type 0) (part : V → ℕ → ℕ → V) (p : Parts V) (offset len : ℕ) → IsArray slots are_of p → offset + len ≤ length (slots p.values) → are_of (part p.values offset len) p.arrow_type → slots (part p.values offset len) ≡ sliced (slots p.values) offset len → IsArray slots are_of (slice_by part p offset len)
 array_of_part slots are_of part p offset len array within kind stored =
     record {
       carried = array.carried;
@@ -152,6 +153,11 @@ row_valid {V} {slots} p i array within told =
 pub row_null : {V : Type 0} {slots : V → List Slot} {are_of : V → ArrowType → Type 0} (p : Parts V) (i : ℕ) → IsArray slots are_of p → i < length (slots p.values) → false ≡ valid_at p.validity i → get_or (rows_by slots p) i Null ≡ Null
 row_null {V} {slots} p i array within told =
     row_at p.validity (slots p.values) i array.fits within ∙ ap (λ b. if b then get_or (slots p.values) i Null else Null) (sym told)
+
+-- which of them a row is, its bit says
+pub row_marked : {V : Type 0} {slots : V → List Slot} {are_of : V → ArrowType → Type 0} (p : Parts V) (i : ℕ) → IsArray slots are_of p → All IsValue (slots p.values) → i < length (slots p.values) → valid_at p.validity i ≡ not (is_null (get_or (rows_by slots p) i Null))
+row_marked {V} {slots} p i array values within =
+    marked_row p.validity (rows_by slots p) i (marks-masked p.validity (slots p.values) values array.fits) (omega (arith, within, length-masked p.validity (slots p.values) array.fits))
 
 -- what is stored is not null
 pub stored_not_null : (xs : List Slot) (i : ℕ) → All IsValue xs → i < length xs → get_or xs i Null ≡ Null → ⊥

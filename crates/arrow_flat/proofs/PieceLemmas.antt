@@ -14,7 +14,7 @@ use Rattle.arrow_memory.specs.Offsets.{IsOffsets, last_of}
 use Rattle.arrow_memory.specs.Sliced.{sliced}
 use Rattle.arrow_memory.proofs.OffsetLemmas.{at_most_last, map_sliced, sliced_offsets}
 use Rattle.arrow_memory.proofs.SlicedLemmas.{length-sliced}
-use Rattle.arrow_flat.specs.ByteRows.{ByteParts, AreByteRows, row_bytes, byte_slots, byte_part}
+use Rattle.arrow_flat.specs.ByteRows.{ByteParts, AreByteRows, row_bytes, byte_slots, byte_slice}
 use Rattle.arrow_flat.specs.Pieces.{pieces, pieces_from}
 use Rattle.arrow_flat.specs.PieceLaws.{pieces-sliced}
 
@@ -57,7 +57,7 @@ last_of_part os o n held within =
     rw (last, read) bound
 
 -- a part of the rows is rows again
-pub part_of_rows : (Allows : List ℕ → Type 0) (p : ByteParts) (offset len : ℕ) → AreByteRows Allows p → offset + (len + 1) ≤ length p.offsets → AreByteRows Allows (byte_part p offset len)
+pub part_of_rows : (Allows : List ℕ → Type 0) (p : ByteParts) (offset len : ℕ) → AreByteRows Allows p → offset + (len + 1) ≤ length p.offsets → AreByteRows Allows (byte_slice p offset len)
 part_of_rows Allows p offset len held within =
     let part = sliced p.offsets offset (len + 1) in
     record {

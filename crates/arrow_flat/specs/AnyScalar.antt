@@ -4,7 +4,7 @@ use Rattle.std.specs.Global.{Box}
 use Rattle.arrow_types.specs.ArrowType.{ArrowType}
 use Rattle.arrow_types.specs.Slot.{Slot, Boolean as truth, Text, Bytes}
 use Rattle.arrow_flat.specs.AnyPrimitiveScalar.{any_scalar_type, any_scalar_slot}
-use Rattle.arrow_flat.specs.DictionaryScalar.{entry_slot}
+use Rattle.arrow_flat.specs.DictionaryScalar.{dict_slot}
 use Rattle.arrow_flat.specs.Scalars.{slot_by}
 use Rattle.arrow_flat.specs.declared.scalar.dictionary.AnyScalar.{AnyScalar}
 use Rattle.arrow_flat.specs.declared.scalar.dictionary.AnyScalar.TheVariants.{Boolean, Primitive, Utf8, LargeUtf8, Binary, LargeBinary, Dictionary}
@@ -16,7 +16,7 @@ meaning_of (Utf8 p) = (p.arrow_type, slot_by Text p.value)
 meaning_of (LargeUtf8 p) = (p.arrow_type, slot_by Text p.value)
 meaning_of (Binary p) = (p.arrow_type, slot_by Bytes p.value)
 meaning_of (LargeBinary p) = (p.arrow_type, slot_by Bytes p.value)
-meaning_of (Dictionary p) = (p.arrow_type, entry_slot p)
+meaning_of (Dictionary p) = (p.arrow_type, dict_slot p)
 
 -- the meaning of a boxed scalar, if there is one
 abbrev pub inner_of : Option (Box AnyScalar) → Option (ArrowType × Slot)

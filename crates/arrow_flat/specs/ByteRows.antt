@@ -26,8 +26,8 @@ abbrev pub byte_slots : (List ℕ → Slot) → ByteParts → List Slot
 byte_slots slot p = map slot (row_bytes p)
 
 -- the parts of a slice: the offsets of its rows, and all bytes
-abbrev pub byte_part : ByteParts → ℕ → ℕ → ByteParts
-byte_part p offset len = record { offsets = sliced p.offsets offset (len + 1); bytes = p.bytes }
+abbrev pub byte_slice : ByteParts → ℕ → ℕ → ByteParts
+byte_slice p offset len = record { offsets = sliced p.offsets offset (len + 1); bytes = p.bytes }
 
 -- the rows lie inside the bytes, and each is as its kind asks, null rows too
 pub record AreByteRows (Allows : List ℕ → Type 0) (p : ByteParts) : Type 0 where

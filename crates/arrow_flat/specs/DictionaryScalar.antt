@@ -5,7 +5,7 @@ use Rattle.arrow_types.specs.declared.error.Error.{Error}
 use Rattle.arrow_types.specs.declared.error.Error.TheVariants.{OutOfSpec}
 use Rattle.arrow_types.specs.declared.error.SpecPart.TheVariants.{Kind, Child}
 use Rattle.arrow_types.specs.ArrowType.{ArrowType, dictionary, extension, logical}
-use Rattle.arrow_types.specs.Slot.{Slot, Null, Entry}
+use Rattle.arrow_types.specs.Slot.{Slot, Null, Dict}
 use Rattle.arrow_types.specs.StoredSlot.{slot_code}
 use Rattle.arrow_types.specs.StoredType.{type_code}
 
@@ -19,12 +19,12 @@ dictionary_code =
     code_by (ArrowType × Option (ArrowType × Slot)) (coded× type_code (coded_option (coded× type_code slot_code))) (λ p. (p.arrow_type, p.value)) (λ t. record { arrow_type = t.0; value = t.1 }) (λ _. refl)
 
 -- the slot: the entry that holds that of the value
-abbrev pub entry_by : Option (ArrowType × Slot) → Slot
-entry_by None = Null
-entry_by (Some inner) = Entry inner.1
+abbrev pub dict_by : Option (ArrowType × Slot) → Slot
+dict_by None = Null
+dict_by (Some inner) = Dict inner.1
 
-abbrev pub entry_slot : DictionaryParts → Slot
-entry_slot p = entry_by p.value
+abbrev pub dict_slot : DictionaryParts → Slot
+dict_slot p = dict_by p.value
 
 -- a dictionary's type, extensions around it apart
 abbrev pub HasDictionary : ArrowType → Type 0
@@ -56,8 +56,8 @@ NamesKindOrChild kind child _ = ⊥
 
 -- how many entries lie one in the other: the measure of every recursion over scalars
 abbrev pub slot_depth : Slot → ℕ
-slot_depth (Entry s) = suc (slot_depth s)
+slot_depth (Dict s) = suc (slot_depth s)
 slot_depth _ = zero
 
-abbrev pub entry_depth : DictionaryParts → ℕ
-entry_depth p = slot_depth (entry_slot p)
+abbrev pub dict_depth : DictionaryParts → ℕ
+dict_depth p = slot_depth (dict_slot p)

@@ -10,7 +10,7 @@ use Rattle.arrow_types.specs.Physical.{physical_type_of}
 
 -- a type that is carried, and lies in memory so
 abbrev pub IsCarriedAs : PhysicalType → ArrowType → Type 0
-IsCarriedAs layout t = IsCarried t × (physical_type_of t ≡ layout)
+IsCarriedAs physical_type t = IsCarried t × (physical_type_of t ≡ physical_type)
 
 -- the error names the first of these that does not hold: kind of the type, lengths, offsets, text
 abbrev pub NamesFirst : Type 0 → Type 0 → Type 0 → Type 0 → Error → Type 0

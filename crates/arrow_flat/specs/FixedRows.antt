@@ -27,8 +27,8 @@ abbrev pub fixed_slots : FixedParts → List Slot
 fixed_slots p = map Bytes (fixed_row_bytes p)
 
 -- the parts of a slice
-abbrev pub fixed_part : FixedParts → ℕ → ℕ → FixedParts
-fixed_part p offset len = record { size = p.size; count = len; bytes = sliced p.bytes (offset * p.size) (len * p.size) }
+abbrev pub fixed_slice : FixedParts → ℕ → ℕ → FixedParts
+fixed_slice p offset len = record { size = p.size; count = len; bytes = sliced p.bytes (offset * p.size) (len * p.size) }
 
 -- a row has a byte at least, the rows are all bytes, and these can be counted
 pub record AreFixedRows (p : FixedParts) : Type 0 where

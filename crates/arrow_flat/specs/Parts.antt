@@ -1,12 +1,12 @@
 -- A flat array as contracts see it: its type, what is stored, and which rows are valid. Its rows follow.
-use Rattle.std.specs.Prelude.{◌≡◌, ℕ, Bool, false, not, Option, Some, None, List, length, map, count_by, option_map, refl}
+use Rattle.std.specs.Prelude.{◌≡◌, ◌<◌, ℕ, Bool, false, not, Option, Some, None, List, length, map, count_by, option_map, refl}
 use Rattle.std.specs.Coded.{Coded, code_by, coded×, coded_list, coded_bool, coded_option}
 use Rattle.std.specs.List.{All}
 use Rattle.arrow_types.specs.ArrowType.{ArrowType}
 use Rattle.arrow_types.specs.Carried.{IsCarried}
 use Rattle.arrow_types.specs.Relation.{is_null}
 use Rattle.arrow_types.specs.Rows.{masked}
-use Rattle.arrow_types.specs.Slot.{Slot}
+use Rattle.arrow_types.specs.Slot.{Slot, Boolean}
 use Rattle.arrow_types.specs.StoredSlot.{slot_code}
 use Rattle.arrow_types.specs.StoredType.{type_code}
 use Rattle.arrow_memory.specs.Sliced.{sliced}
@@ -36,6 +36,10 @@ unset_in (Some validity) = count_by not validity
 abbrev pub rows_by : {V : Type 0} → (V → List Slot) → Parts V → List Slot
 rows_by slots p = masked p.validity (slots p.values)
 
+-- the rows of truth values
+abbrev pub boolean_rows : Parts (List Bool) → List Slot
+boolean_rows = rows_by (map Boolean)
+
 -- what an array means: its type and its rows
 abbrev pub meaning_by : {V : Type 0} → (V → List Slot) → Parts V → ArrowType × List Slot
 meaning_by slots p = (p.arrow_type, rows_by slots p)
@@ -44,8 +48,8 @@ abbrev pub meaning_code : Coded (ArrowType × List Slot)
 meaning_code = coded× type_code (coded_list slot_code)
 
 -- the parts of a slice
-abbrev pub part_by : {V : Type 0} → (V → ℕ → ℕ → V) → Parts V → ℕ → ℕ → Parts V
-part_by part p offset len =
+abbrev pub slice_by : {V : Type 0} → (V → ℕ → ℕ → V) → Parts V → ℕ → ℕ → Parts V
+slice_by part p offset len =
     record { arrow_type = p.arrow_type; values = part p.values offset len; validity = option_map (λ bits. sliced bits offset len) p.validity }
 
 -- the same parts under another validity
@@ -60,6 +64,10 @@ IsValue s = is_null s ≡ false
 abbrev pub MarksNulls : Option (List Bool) → List Slot → Type 0
 MarksNulls None xs = All IsValue xs
 MarksNulls (Some validity) xs = validity ≡ map (λ s. not (is_null s)) xs
+
+-- it marks the nulls of some rows, of which one is row i
+abbrev pub HasRow : Option (List Bool) → ℕ → Type 0
+HasRow v i = (xs : List Slot) × MarksNulls v xs × (i < length xs)
 
 -- the parts of an array: a carried type whose rows are stored so, and a validity with a bit for each row
 pub record IsArray {V : Type 0} (slots : V → List Slot) (are_of : V → ArrowType → Type 0) (p : Parts V) : Type 0 where

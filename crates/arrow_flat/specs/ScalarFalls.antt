@@ -7,7 +7,7 @@ use Rattle.arrow_flat.specs.declared.scalar.dictionary.AnyScalar.{AnyScalar}
 use Rattle.arrow_flat.specs.declared.scalar.dictionary.AnyScalar.TheVariants.{Boolean, Primitive, Utf8, LargeUtf8, Binary, LargeBinary, Dictionary}
 use Rattle.arrow_flat.specs.declared.scalar.dictionary.DictionaryScalar.TheDeep.{deep-AnyScalar, deep-DictionaryScalar}
 use Rattle.arrow_flat.specs.AnyScalar.{meaning_of, inner_of}
-use Rattle.arrow_flat.specs.DictionaryScalar.{slot_depth, entry_by}
+use Rattle.arrow_flat.specs.DictionaryScalar.{slot_depth, dict_by}
 
 deep_le : (a : AnyScalar) → deep-AnyScalar a ≤ slot_depth (meaning_of a).1 + 1
 deep_le (Boolean p) = omega arith
@@ -19,6 +19,6 @@ deep_le (LargeBinary p) = omega arith
 deep_le (Dictionary p) = omega arith
 
 -- the value is less deep
-pub value_falls : (t : DataType) (v : Option (Box AnyScalar)) → deep-DictionaryScalar (record { data_type = t; value = v }) ≤ slot_depth (entry_by (inner_of v))
+pub value_falls : (t : DataType) (v : Option (Box AnyScalar)) → deep-DictionaryScalar (record { data_type = t; value = v }) ≤ slot_depth (dict_by (inner_of v))
 value_falls t None = omega arith
 value_falls t (Some scalar) = omega (arith, deep_le scalar.value)

@@ -1,6 +1,6 @@
 //! Flat arrays: those without children.
 
-ghost use Rattle.std.specs.Prelude.{◌≡◌, ◌+◌, ◌≤◌, ◌<◌, ◌↔◌, [], List, Option, Bool, ℕ, length, count_by, slice_index_or, option_copied, IsTrue};
+ghost use Rattle.std.specs.Prelude.{◌≡◌, ◌+◌, ◌≤◌, ◌<◌, ◌↔◌, [], List, Option, Bool, ℕ, length, count_by, slice_index_or, option_copied, IsTrue, not};
 ghost use Rattle.std.specs.List.{All};
 ghost use Rattle.std.specs.Cmp.{partial_equiv_from_equiv, on_equiv};
 ghost use Rattle.arrow_types.specs.ArrowType.{ArrowType};
@@ -12,28 +12,32 @@ ghost use Rattle.arrow_types.specs.Rows.{valid_at};
 ghost use Rattle.arrow_types.specs.TypeOf.{type_of};
 ghost use Rattle.arrow_memory.specs.Sliced.{sliced};
 ghost use Rattle.arrow_flat.specs.Faults.{IsCarriedAs};
-ghost use Rattle.arrow_flat.specs.Parts.{Parts, FitsRows, IsValue, MarksNulls, rows_by, meaning_by, meaning_code, part_by, with_bits};
+ghost use Rattle.arrow_flat.specs.Parts.{Parts, FitsRows, IsValue, MarksNulls, rows_by, meaning_by, meaning_code, slice_by, with_bits};
 
 mod any_element;
 mod any_primitive;
+mod binary;
 mod boolean;
 mod byte_rows;
 mod fixed_size_binary;
 mod null;
 mod primitive;
+mod utf8;
 pub mod validity;
 
 pub use any_element::AnyElement;
 pub use any_primitive::AnyPrimitive;
 use arrow_memory::bitmap::Bitmap;
 use arrow_types::datatypes::{DataType, PhysicalType};
+pub use binary::{Binary, BinaryArray};
 pub use boolean::BooleanArray;
-pub use byte_rows::{Binary, BinaryArray, ByteKind, ByteRows, Text, Utf8Array};
+pub use byte_rows::{ByteKind, ByteRows};
 pub use fixed_size_binary::{FixedRows, FixedSizeBinaryArray};
 pub use null::NullArray;
 pub use primitive::PrimitiveArray;
 use std::alloc::AllocError;
 use std::marker::Model;
+pub use utf8::{Text, Utf8Array};
 
 /// What the rows of a flat array are stored in: bits, values of a fixed width, or bytes.
 pub trait Values: Clone + Drop {
@@ -44,7 +48,7 @@ pub trait Values: Clone + Drop {
     ghost are_of: { Self → ArrowType → Type 0 };
 
     // what stores a part of the rows
-    ghost part: { Self → ℕ → ℕ → Self };
+    ghost slice: { Self → ℕ → ℕ → Self };
 
     /// How many rows are stored.
     fn len(&self) -> usize
@@ -56,7 +60,7 @@ pub trait Values: Clone + Drop {
     /// `offset + len` is at most the count of rows.
     fn slice(&mut self, offset: usize, len: usize)
         requires { offset + len ≤ length (slots self.old) }
-        ensures { self.new ≡ part self.old offset len };
+        ensures { self.new ≡ slice self.old offset len };
 
     /// Whether the same rows are stored.
     fn equal(&self, other: &Self) -> bool
@@ -77,9 +81,9 @@ pub trait Values: Clone + Drop {
     ghost stored: { (x : Self) → All IsValue (slots x) };
 
     // a part has that part of the rows, and the same data types
-    ghost slots_of_part: { (x : Self) (offset len : ℕ) → offset + len ≤ length (slots x) → slots (part x offset len) ≡ sliced (slots x) offset len };
+    ghost slots_of_slice: { (x : Self) (offset len : ℕ) → offset + len ≤ length (slots x) → slots (slice x offset len) ≡ sliced (slots x) offset len };
 
-    ghost part_is_of: { (x : Self) (t : ArrowType) (offset len : ℕ) → are_of x t → are_of (part x offset len) t };
+    ghost slice_is_of: { (x : Self) (t : ArrowType) (offset len : ℕ) → are_of x t → are_of (slice x offset len) t };
 }
 
 /// An array of a data type whose rows are stored as `V`, null where its validity has a bit that is
@@ -162,7 +166,7 @@ impl<V: Values> FlatArray<V> {
     /// `offset + len` is at most the count of rows.
     pub fn slice(&mut self, offset: usize, len: usize)
         requires { offset + len ≤ length (rows_by V.slots self.old) }
-        ensures part { self.new ≡ part_by V.part self.old offset len }
+        ensures part { self.new ≡ slice_by V.slice self.old offset len }
         ensures rows { rows_by V.slots self.new ≡ sliced (rows_by V.slots self.old) offset len }
     {
         self.values.slice(offset, len);
@@ -175,7 +179,7 @@ impl<V: Values> FlatArray<V> {
     /// `offset + len` is at most the count of rows.
     pub fn sliced(self, offset: usize, len: usize) -> FlatArray<V>
         requires { offset + len ≤ length (rows_by V.slots self) }
-        ensures part { result ≡ part_by V.part self offset len }
+        ensures part { result ≡ slice_by V.slice self offset len }
         ensures rows { rows_by V.slots result ≡ sliced (rows_by V.slots self) offset len }
     {
         let mut part = self;
@@ -202,7 +206,8 @@ impl<V: Values> FlatArray<V> {
     /// `i` is below the count of rows.
     pub fn is_valid(&self, i: usize) -> bool
         requires { i < length (V.slots self.now.values) }
-        ensures { result ≡ valid_at self.now.validity i }
+        ensures bit { result ≡ valid_at self.now.validity i }
+        ensures row { result ≡ not (is_null (slice_index_or (rows_by V.slots self.now) i Null)) }
     {
         validity::is_valid(&self.validity, i)
     }
@@ -269,10 +274,10 @@ impl<V: Values> FlatArray<V> {
 }
 
 /// Whether a data type is carried and lies in memory so.
-pub fn is_carried_as(data_type: &DataType, layout: PhysicalType) -> bool
-    ensures { IsTrue result ↔ IsCarriedAs layout (type_of data_type.now) }
+pub fn is_carried_as(data_type: &DataType, physical_type: PhysicalType) -> bool
+    ensures { IsTrue result ↔ IsCarriedAs physical_type (type_of data_type.now) }
 {
-    data_type.is_carried() && data_type.to_physical_type() == layout
+    data_type.is_carried() && data_type.to_physical_type() == physical_type
 }
 
 /// A clone shares what is stored and copies none of it. It takes the memory of the data type's names.

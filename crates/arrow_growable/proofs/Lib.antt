@@ -1,10 +1,1 @@
-pub mod ByteLemmas
-pub mod FitsLemmas
-pub mod FixedRowsLemmas
-pub mod FlatLemmas
 pub mod MakeLemmas
-pub mod MaskLemmas
-pub mod NullLemmas
-pub mod ResultLemmas
-pub mod StoreLemmas
-pub mod ValidityLemmas

@@ -4,8 +4,8 @@ use Rattle.std.proofs.Math.Seq.{take-suc}
 use Rattle.std.proofs.lemmas.List.{take_all, length-map, map-append}
 use Rattle.arrow_types.specs.ArrowType.{plain, null}
 use Rattle.arrow_arrays.specs.Layout.{Layout, flat, type_of_layout}
-use Rattle.arrow_growable.specs.Grown.{AreOfOneType, first_type}
-use Rattle.arrow_growable.proofs.FlatLemmas.{source_is}
+use Rattle.arrow_flat_growable.specs.Grown.{AreOfOneType, first_type}
+use Rattle.arrow_flat_growable.proofs.FlatLemmas.{source_is}
 
 abbrev none_bound : Layout
 none_bound = flat (plain null) []

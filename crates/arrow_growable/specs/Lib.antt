@@ -1,11 +1,1 @@
 pub mod AnyGrowable
-pub mod ByteLaws
-pub mod Bytes
-pub mod Dense
-pub mod Examples
-pub mod Flat
-pub mod FlatLaws
-pub mod Grown
-pub mod MaskLaws
-pub mod Nulls
-pub mod Validity

@@ -11,8 +11,8 @@ use Rattle.arrow_types.specs.Slot.{Slot}
 use Rattle.arrow_types.proofs.RowsLemmas.{drop_at_read, take_at_read}
 use Rattle.arrow_types.proofs.SelectLemmas.{joined-append}
 use Rattle.arrow_arrays.specs.Layout.{Layout, type_of_layout}
-use Rattle.arrow_growable.specs.AnyGrowable.{IsFlatLayout}
-use Rattle.arrow_growable.specs.Grown.{AreOfOneType, first_type}
+use Rattle.arrow_growable.specs.AnyGrowable.{IsFlatType}
+use Rattle.arrow_flat_growable.specs.Grown.{AreOfOneType, first_type}
 
 pub slice_get-map_read : {A B : Type 0} (f : A → B) (xs : List A) (i : ℕ) (x : A) → i < length xs → x ≡ get_or xs i x → slice_get (map f xs) i ≡ Some (f x)
 slice_get-map_read f xs i x within read =
@@ -32,7 +32,7 @@ joined_around xss i xs read =
     ap joined (sym (take-append-drop i xss)) ∙ (joined-append (take i xss) (drop i xss) ∙ (ap (λ yss. joined (take i xss) ++ joined yss) (drop_at_read xss i xs read) ∙ sym (append_assoc (joined (take i xss)) xs (joined (drop (i + 1) xss)))))
 
 -- the first of arrays without children is without
-pub first_flat : {A : Type 0} (f : A → Layout) (arrays : List A) (i : ℕ) → i < length arrays → All (λ x. IsFlatLayout (physical_type_of (type_of_layout (f x)))) arrays → IsFlatLayout (physical_type_of (first_type (map f arrays)))
+pub first_flat : {A : Type 0} (f : A → Layout) (arrays : List A) (i : ℕ) → i < length arrays → All (λ x. IsFlatType (physical_type_of (type_of_layout (f x)))) arrays → IsFlatType (physical_type_of (first_type (map f arrays)))
 first_flat f [] i within flat = absurd (omega (arith, within))
 first_flat f (x ∷ arrays) i within flat = flat 0 x (omega arith)
 

@@ -9,11 +9,11 @@ use Rattle.arrow_arrays.specs.Crowded.{CrowdedRow}
 use Rattle.arrow_arrays.specs.Layout.{Layout}
 use Rattle.arrow_arrays.specs.declared.array.any.AnyArray.{AnyArray}
 use Rattle.arrow_arrays.specs.declared.array.any.AnyArray.TheVariants.{Null, Boolean, Primitive, Utf8, LargeUtf8, Binary, LargeBinary, FixedSizeBinary, List as ListOf, FixedSizeList, Struct, Union, Map, Dictionary}
-use Rattle.arrow_growable.specs.AnyGrowable.{IsFlatLayout}
-use Rattle.arrow_growable.specs.Dense.{HoldsDense}
+use Rattle.arrow_growable.specs.AnyGrowable.{IsFlatType}
+use Rattle.arrow_flat_growable.specs.Dense.{HoldsDense}
 use Rattle.arrow_select.specs.Arrays.{IsFlat}
 
-pub without_dense : (t : ArrowType) → IsFlatLayout (physical_type_of t) → HoldsDense t → ⊥
+pub without_dense : (t : ArrowType) → IsFlatType (physical_type_of t) → HoldsDense t → ⊥
 without_dense (plain p) flat dense = dense
 without_dense (list small f) flat dense = flat
 without_dense (list large f) flat dense = flat
@@ -34,7 +34,7 @@ IsNested map_kind = Unit {0}
 IsNested dictionary_kind = Unit {0}
 IsNested _ = ⊥
 
-nested_layout : (p : PhysicalType) → IsFlatLayout p → IsNested (kind_in p) → ⊥
+nested_layout : (p : PhysicalType) → IsFlatType p → IsNested (kind_in p) → ⊥
 nested_layout physical.Null flat nested = nested
 nested_layout physical.Boolean flat nested = nested
 nested_layout (physical.Primitive element) flat nested = nested

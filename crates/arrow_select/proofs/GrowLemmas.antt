@@ -12,14 +12,14 @@ use Rattle.arrow_arrays.specs.Any.{kind_in, kind_of, layout_of, any_array_rows, 
 use Rattle.arrow_arrays.specs.Crowded.{CrowdedRow}
 use Rattle.arrow_arrays.specs.Layout.{Layout, rows}
 use Rattle.arrow_arrays.specs.declared.array.any.AnyArray.{AnyArray}
-use Rattle.arrow_growable.specs.AnyGrowable.{IsFlatLayout}
-use Rattle.arrow_growable.specs.Grown.{Grown, FitsItself, FitsWith, NamesCrowded, appended, bound_to, first_type, named_rows, null_rows_of, source_at}
+use Rattle.arrow_growable.specs.AnyGrowable.{IsFlatType}
+use Rattle.arrow_flat_growable.specs.Grown.{Grown, FitsItself, FitsWith, NamesCrowded, appended, bound_to, first_type, named_rows, null_rows_of, source_at}
 use Rattle.arrow_select.specs.Arrays.{IsFlat}
-use Rattle.arrow_select.specs.Growing.{Holds}
+use Rattle.arrow_select.specs.Growing.{HasAppended}
 use Rattle.arrow_select.proofs.FlatLemmas.{uncrowded, without_dense}
 
 -- no rows at first
-pub holds_none : (layouts : List Layout) (g : Grown) → g ≡ bound_to layouts → Holds layouts g []
+pub holds_none : (layouts : List Layout) (g : Grown) → g ≡ bound_to layouts → HasAppended layouts g []
 holds_none layouts g is = (is, Fits-nil (first_type layouts))
 
 appended_twice : (layouts : List Layout) (xs more : List Slot) → appended (appended (bound_to layouts) xs) more ≡ appended (bound_to layouts) (xs ++ more)
@@ -27,7 +27,7 @@ appended_twice layouts xs more =
     let count : 0 + length xs + length more ≡ 0 + length (xs ++ more) = omega (arith, length-append xs more) in
     λ i. record { arrow_type = first_type layouts; sources = Some layouts; rows = xs ++ more; count = count i; failed = false }
 
-module _ (layouts : List Layout) (g : Grown) (xs : List Slot) (held : Holds layouts g xs) where
+module _ (layouts : List Layout) (g : Grown) (xs : List Slot) (held : HasAppended layouts g xs) where
   -- what a call appends
   pub nulls : (n : ℕ) → null_rows_of g n ≡ replicate n (null_slot (first_type layouts))
   nulls n = ap (λ h. null_rows_of h n) held.0
@@ -36,15 +36,15 @@ module _ (layouts : List Layout) (g : Grown) (xs : List Slot) (held : Holds layo
   named i start len = ap (λ h. named_rows h i start len) held.0
 
   -- more rows
-  pub holds_more : (new : Grown) (added more : List Slot) → IsFlatLayout (physical_type_of (first_type layouts)) → added ≡ more → new ≡ appended g added → FitsItself new → Holds layouts new (xs ++ more)
+  pub holds_more : (new : Grown) (added more : List Slot) → IsFlatType (physical_type_of (first_type layouts)) → added ≡ more → new ≡ appended g added → FitsItself new → HasAppended layouts new (xs ++ more)
   holds_more new added more flat same is fits =
       let next : new ≡ appended (bound_to layouts) (xs ++ more) = is ∙ (ap (appended g) same ∙ (ap (λ h. appended h more) held.0 ∙ appended_twice layouts xs more)) in
       (next, subst FitsItself next fits (without_dense (first_type layouts) flat))
 
   -- the same of a call that may refuse
-  pub holds_whole : (r : Result (Unit {0}) Error) (new : Grown) (added more whole : List Slot) → IsFlatLayout (physical_type_of (first_type layouts)) → added ≡ more → OnOk r (new ≡ appended g added) → OnOk r (FitsItself new) → whole ≡ xs ++ more → OnOk r (Holds layouts new whole)
+  pub holds_whole : (r : Result (Unit {0}) Error) (new : Grown) (added more whole : List Slot) → IsFlatType (physical_type_of (first_type layouts)) → added ≡ more → OnOk r (new ≡ appended g added) → OnOk r (FitsItself new) → whole ≡ xs ++ more → OnOk r (HasAppended layouts new whole)
   holds_whole (Ok x) new added more whole flat same is fits all =
-      subst (Holds layouts new) (sym all) (holds_more new added more flat same is fits)
+      subst (HasAppended layouts new) (sym all) (holds_more new added more flat same is fits)
   holds_whole (Err e) new added more whole flat same is fits all = tt
 
   -- rows that do not fit behind these do not fit in a whole that begins so

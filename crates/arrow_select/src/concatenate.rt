@@ -5,11 +5,12 @@ ghost use Rattle.arrow_types.specs.declared.error.Error.{Error};
 ghost use Rattle.arrow_types.specs.declared.error.ArgumentFault.{ArgumentFault};
 ghost use Rattle.arrow_types.specs.Fits.{Fits};
 ghost use Rattle.arrow_types.specs.Rows.{joined};
-ghost use Rattle.arrow_arrays.specs.Any.{any_array_type, any_array_rows};
-ghost use Rattle.arrow_growable.specs.Grown.{bound_to, first_type};
-ghost use Rattle.arrow_select.specs.Arrays.{IsFlat, HasOther, HasTwo, layouts_in, rows_in, types_in};
-ghost use Rattle.arrow_select.specs.Growing.{Holds};
-ghost use Rattle.arrow_select.specs.Refusals.{IsConcatenateRefusal, IsOverflowOrMemory};
+ghost use Rattle.arrow_arrays.specs.Any.{any_array_type, any_array_rows, layouts_in};
+ghost use Rattle.arrow_flat_growable.specs.Grown.{bound_to, first_type};
+ghost use Rattle.arrow_select.specs.Arrays.{IsFlat, HasOther, HasTwo, rows_in, types_in};
+ghost use Rattle.arrow_select.specs.Growing.{HasAppended};
+ghost use Rattle.arrow_memory.specs.Grown.{IsGrowthError};
+ghost use Rattle.arrow_select.specs.Refusals.{IsConcatenateRefusal};
 
 use arrow_arrays::array::AnyArray;
 use arrow_growable::growable::{Growable, make_growable};
@@ -58,7 +59,7 @@ fn all_rows<'a, G: Growable<'a> + Drop>(
     ensures rows { IfOk result (λ all. any_array_rows all ≡ joined (rows_in arrays.now)) }
     ensures fits { IfOk result (λ all. Fits (any_array_type all) (any_array_rows all)) }
     ensures overflow { result ≡ Err Error.Overflow → Fits (first_type (layouts_in arrays.now)) (joined (rows_in arrays.now)) → ⊥ }
-    ensures others { IfErr result IsOverflowOrMemory }
+    ensures others { IfErr result IsGrowthError }
 {
     let mut growable = growable;
     append_all(&mut growable, arrays)?;
@@ -97,9 +98,9 @@ fn count_rows(arrays: &[&AnyArray]) -> usize {
 fn append_all<'a, G: Growable<'a>>(growable: &mut G, arrays: &[&AnyArray]) -> Result<(), Error>
     requires flat { All (λ array. IsFlat array.now) arrays.now }
     requires bound { G.state growable.old ≡ bound_to (layouts_in arrays.now) }
-    ensures ok { OnOk result (Holds (layouts_in arrays.now) (G.state growable.new) (joined (rows_in arrays.now))) }
+    ensures ok { OnOk result (HasAppended (layouts_in arrays.now) (G.state growable.new) (joined (rows_in arrays.now))) }
     ensures overflow { result ≡ Err Error.Overflow → Fits (first_type (layouts_in arrays.now)) (joined (rows_in arrays.now)) → ⊥ }
-    ensures others { IfErr result IsOverflowOrMemory }
+    ensures others { IfErr result IsGrowthError }
 {
     for (index, array) in arrays.iter().enumerate() {
         // The kind of an array follows from its data type: one without children has no crowded row.

@@ -5,10 +5,11 @@ ghost use Rattle.arrow_types.specs.declared.error.Error.{Error};
 ghost use Rattle.arrow_types.specs.Fits.{Fits};
 ghost use Rattle.arrow_types.specs.Rows.{mask_of, select};
 ghost use Rattle.arrow_arrays.specs.Any.{any_array_type, any_array_rows, layout_of};
-ghost use Rattle.arrow_growable.specs.Grown.{bound_to};
-ghost use Rattle.arrow_select.specs.Arrays.{IsFlat, boolean_rows};
-ghost use Rattle.arrow_select.specs.Growing.{Holds};
-ghost use Rattle.arrow_select.specs.Refusals.{IsOverflowOrMemory};
+ghost use Rattle.arrow_flat_growable.specs.Grown.{bound_to};
+ghost use Rattle.arrow_flat.specs.Parts.{boolean_rows};
+ghost use Rattle.arrow_select.specs.Arrays.{IsFlat};
+ghost use Rattle.arrow_select.specs.Growing.{HasAppended};
+ghost use Rattle.arrow_memory.specs.Grown.{IsGrowthError};
 
 use arrow_arrays::array::AnyArray;
 use arrow_flat::array::BooleanArray;
@@ -34,7 +35,7 @@ pub fn filter(alloc: Global, array: &AnyArray, filter: &BooleanArray) -> Result<
     ensures rows { IfOk result (λ kept. any_array_rows kept ≡ select (mask_of (boolean_rows filter.now)) (any_array_rows array.now)) }
     ensures fits { IfOk result (λ kept. Fits (any_array_type kept) (any_array_rows kept)) }
     ensures overflow { result ≡ Err Error.Overflow → Fits (any_array_type array.now) (select (mask_of (boolean_rows filter.now)) (any_array_rows array.now)) → ⊥ }
-    ensures others { IfErr result IsOverflowOrMemory }
+    ensures others { IfErr result IsGrowthError }
 {
     selected(make_growable(alloc, &[array], false, 0)?, array, filter)
 }
@@ -52,7 +53,7 @@ fn selected<'a, G: Growable<'a> + Drop>(
     ensures rows { IfOk result (λ kept. any_array_rows kept ≡ select (mask_of (boolean_rows filter.now)) (any_array_rows array.now)) }
     ensures fits { IfOk result (λ kept. Fits (any_array_type kept) (any_array_rows kept)) }
     ensures overflow { result ≡ Err Error.Overflow → Fits (any_array_type array.now) (select (mask_of (boolean_rows filter.now)) (any_array_rows array.now)) → ⊥ }
-    ensures others { IfErr result IsOverflowOrMemory }
+    ensures others { IfErr result IsGrowthError }
 {
     let mut growable = growable;
     append_selected(&mut growable, array, filter)?;
@@ -76,9 +77,9 @@ fn append_selected<'a, G: Growable<'a>>(
     requires flat { IsFlat array.now }
     requires bound { G.state growable.old ≡ bound_to (layout_of array.now ∷ []) }
     requires lengths { length (boolean_rows filter.now) ≡ length (any_array_rows array.now) }
-    ensures ok { OnOk result (Holds (layout_of array.now ∷ []) (G.state growable.new) (select (mask_of (boolean_rows filter.now)) (any_array_rows array.now))) }
+    ensures ok { OnOk result (HasAppended (layout_of array.now ∷ []) (G.state growable.new) (select (mask_of (boolean_rows filter.now)) (any_array_rows array.now))) }
     ensures overflow { result ≡ Err Error.Overflow → Fits (any_array_type array.now) (select (mask_of (boolean_rows filter.now)) (any_array_rows array.now)) → ⊥ }
-    ensures others { IfErr result IsOverflowOrMemory }
+    ensures others { IfErr result IsGrowthError }
 {
     // The kind of an array follows from its data type: one without children has no crowded row.
     let _ = array.data_type();

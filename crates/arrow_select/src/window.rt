@@ -6,10 +6,11 @@ ghost use Rattle.arrow_types.specs.declared.error.ArgumentFault.{ArgumentFault};
 ghost use Rattle.arrow_types.specs.Fits.{Fits};
 ghost use Rattle.arrow_types.specs.Rows.{shifted};
 ghost use Rattle.arrow_arrays.specs.Any.{any_array_type, any_array_rows, layout_of};
-ghost use Rattle.arrow_growable.specs.Grown.{bound_to};
+ghost use Rattle.arrow_flat_growable.specs.Grown.{bound_to};
 ghost use Rattle.arrow_select.specs.Arrays.{IsFlat};
-ghost use Rattle.arrow_select.specs.Growing.{Holds, between};
-ghost use Rattle.arrow_select.specs.Refusals.{IsOverflowOrMemory, IsShiftRefusal, PassesLength};
+ghost use Rattle.arrow_select.specs.Growing.{HasAppended, between};
+ghost use Rattle.arrow_memory.specs.Grown.{IsGrowthError};
+ghost use Rattle.arrow_select.specs.Refusals.{IsShiftRefusal, PassesLength};
 
 use arrow_arrays::array::AnyArray;
 use arrow_growable::growable::{Growable, make_growable};
@@ -62,7 +63,7 @@ fn rows_between<'a, G: Growable<'a> + Drop>(
     ensures rows { IfOk result (λ moved. any_array_rows moved ≡ between (any_array_rows array.now) front behind (any_array_type array.now)) }
     ensures fits { IfOk result (λ moved. Fits (any_array_type moved) (any_array_rows moved)) }
     ensures overflow { result ≡ Err Error.Overflow → Fits (any_array_type array.now) (between (any_array_rows array.now) front behind (any_array_type array.now)) → ⊥ }
-    ensures others { IfErr result IsOverflowOrMemory }
+    ensures others { IfErr result IsGrowthError }
 {
     let mut growable = growable;
     append_between(&mut growable, array, front, behind)?;
@@ -80,9 +81,9 @@ fn append_between<'a, G: Growable<'a>>(
     requires flat { IsFlat array.now }
     requires bound { G.state growable.old ≡ bound_to (layout_of array.now ∷ []) }
     requires within { front + behind ≤ length (any_array_rows array.now) }
-    ensures ok { OnOk result (Holds (layout_of array.now ∷ []) (G.state growable.new) (between (any_array_rows array.now) front behind (any_array_type array.now))) }
+    ensures ok { OnOk result (HasAppended (layout_of array.now ∷ []) (G.state growable.new) (between (any_array_rows array.now) front behind (any_array_type array.now))) }
     ensures overflow { result ≡ Err Error.Overflow → Fits (any_array_type array.now) (between (any_array_rows array.now) front behind (any_array_type array.now)) → ⊥ }
-    ensures others { IfErr result IsOverflowOrMemory }
+    ensures others { IfErr result IsGrowthError }
 {
     // The kind of an array follows from its data type: one without children has no crowded row.
     let _ = array.data_type();

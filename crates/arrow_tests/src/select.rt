@@ -4,8 +4,8 @@ mod concatenate;
 mod filter;
 mod window;
 
-use crate::fixture::arrays::{Shape, array_of};
 use arrow_arrays::array::AnyArray;
+use arrow_arrays_fixture::arrays::{Shape, array_of};
 use arrow_fixture::{check, check_again};
 use arrow_types::error::Error;
 use std::alloc::Global;

@@ -17,7 +17,7 @@ use Rattle.arrow_types.specs.Ranges.{named, named_sides, true_rows}
 use Rattle.arrow_types.specs.Relation.{related, eq, neq, lt, gt_eq, through, same, nulled}
 use Rattle.arrow_types.specs.Rows.{masked, mask_of, select, joined, shifted, gather, chosen}
 use Rattle.arrow_types.specs.SameTree.{same_by}
-use Rattle.arrow_types.specs.Slot.{Slot, Null, Boolean, Number, DayTime, Text, Bytes, Items, Parts, Entry, Variant, to_slots, id_at, null_slot}
+use Rattle.arrow_types.specs.Slot.{Slot, Null, Boolean, Number, DayTime, Text, Bytes, Items, Parts, Dict, Variant, to_slots, id_at, null_slot}
 
 abbrev int32 : ArrowType
 int32 = plain (integer Int32)
@@ -149,13 +149,13 @@ unfolding same_by
 value_not_null = refl
 
 -- a dictionary is read through, at any depth; a key of a null value is no null row
-through_twice : through (Entry (Entry a_text)) ≡ a_text
+through_twice : through (Dict (Dict a_text)) ≡ a_text
 through_twice = refl
 
-through_null : through (Entry Null) ≡ Null
+through_null : through (Dict Null) ≡ Null
 through_null = refl
 
-null_value_is_no_null : same (Entry Null) Null ≡ false
+null_value_is_no_null : same (Dict Null) Null ≡ false
 unfolding same_by
 null_value_is_no_null = refl
 

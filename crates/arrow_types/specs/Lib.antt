@@ -1,5 +1,6 @@
 pub mod ArrowType
 pub mod Carried
+pub mod Edges
 pub mod Examples
 pub mod Fits
 pub mod Greatest

@@ -27,39 +27,39 @@ interval_element interval_unit.DayTime = primitive.DaysMs
 interval_element interval_unit.MonthDayNano = primitive.MonthDayNano
 
 -- dates, times and decimals lie as integers of their width
-abbrev pub plain_layout : PlainType → PhysicalType
-plain_layout null = physical.Null
-plain_layout boolean = physical.Boolean
-plain_layout float16 = physical.Primitive primitive.Float16
-plain_layout float32 = physical.Primitive primitive.Float32
-plain_layout float64 = physical.Primitive primitive.Float64
-plain_layout date32 = physical.Primitive primitive.Int32
-plain_layout date64 = physical.Primitive primitive.Int64
-plain_layout binary = physical.Binary
-plain_layout large_binary = physical.LargeBinary
-plain_layout utf8 = physical.Utf8
-plain_layout large_utf8 = physical.LargeUtf8
-plain_layout (integer k) = physical.Primitive (integer_element k)
-plain_layout (timestamp unit timezone) = physical.Primitive primitive.Int64
-plain_layout (time32 unit) = physical.Primitive primitive.Int32
-plain_layout (time64 unit) = physical.Primitive primitive.Int64
-plain_layout (duration unit) = physical.Primitive primitive.Int64
-plain_layout (interval unit) = physical.Primitive (interval_element unit)
-plain_layout (fixed_size_binary size) = physical.FixedSizeBinary
-plain_layout (decimal precision scale) = physical.Primitive primitive.Int128
-plain_layout (decimal256 precision scale) = physical.Primitive primitive.Int256
+abbrev pub plain_physical_type : PlainType → PhysicalType
+plain_physical_type null = physical.Null
+plain_physical_type boolean = physical.Boolean
+plain_physical_type float16 = physical.Primitive primitive.Float16
+plain_physical_type float32 = physical.Primitive primitive.Float32
+plain_physical_type float64 = physical.Primitive primitive.Float64
+plain_physical_type date32 = physical.Primitive primitive.Int32
+plain_physical_type date64 = physical.Primitive primitive.Int64
+plain_physical_type binary = physical.Binary
+plain_physical_type large_binary = physical.LargeBinary
+plain_physical_type utf8 = physical.Utf8
+plain_physical_type large_utf8 = physical.LargeUtf8
+plain_physical_type (integer k) = physical.Primitive (integer_element k)
+plain_physical_type (timestamp unit timezone) = physical.Primitive primitive.Int64
+plain_physical_type (time32 unit) = physical.Primitive primitive.Int32
+plain_physical_type (time64 unit) = physical.Primitive primitive.Int64
+plain_physical_type (duration unit) = physical.Primitive primitive.Int64
+plain_physical_type (interval unit) = physical.Primitive (interval_element unit)
+plain_physical_type (fixed_size_binary size) = physical.FixedSizeBinary
+plain_physical_type (decimal precision scale) = physical.Primitive primitive.Int128
+plain_physical_type (decimal256 precision scale) = physical.Primitive primitive.Int256
 
 -- the lists, one layout a form
-abbrev pub list_layout : ListForm → PhysicalType
-list_layout small = physical.List
-list_layout large = physical.LargeList
-list_layout (fixed_size size) = physical.FixedSizeList
-list_layout (mapped sorted) = physical.Map
+abbrev pub list_physical_type : ListForm → PhysicalType
+list_physical_type small = physical.List
+list_physical_type large = physical.LargeList
+list_physical_type (fixed_size size) = physical.FixedSizeList
+list_physical_type (mapped sorted) = physical.Map
 
 -- the physical type; an extension lies as the type inside it does
 abbrev pub physical_type_of : ArrowType → PhysicalType
-physical_type_of (plain p) = plain_layout p
-physical_type_of (list form f) = list_layout form
+physical_type_of (plain p) = plain_physical_type p
+physical_type_of (list form f) = list_physical_type form
 physical_type_of (struct fs) = physical.Struct
 physical_type_of (union mode ids fs) = physical.Union
 physical_type_of (dictionary keys ordered t) = physical.Dictionary keys

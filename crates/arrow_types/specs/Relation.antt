@@ -6,7 +6,7 @@ use Rattle.std.specs.Ordering.{nat_cmp, int_cmp, int_eq}
 use Rattle.std.specs.Cmp.Lexicographic.{slice_cmp}
 use Rattle.arrow_types.specs.SameTree.{same_by}
 use Rattle.arrow_types.specs.StoredSlot.{slot_code}
-use Rattle.arrow_types.specs.Slot.{Slot, Null, Boolean, Number, DayTime, MonthDayNano, Bytes, Text, Entry}
+use Rattle.arrow_types.specs.Slot.{Slot, Null, Boolean, Number, DayTime, MonthDayNano, Bytes, Text, Dict}
 
 -- the six relations of the comparison kernels
 pub data Relation : Type 0 where
@@ -62,7 +62,7 @@ related op _ _ = Null
 
 -- a slot through its dictionaries: the value that the key names, at any depth
 abbrev pub through : Slot → Slot
-through (Entry s) = through s
+through (Dict s) = through s
 through s = s
 
 -- whether two slots are the same: Null is the same as Null alone

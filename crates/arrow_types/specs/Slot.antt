@@ -23,7 +23,7 @@ mutual
     -- a row of a struct
     Parts : Slots → Slot
     -- a row of a dictionary: the value that its key names
-    Entry : Slot → Slot
+    Dict : Slot → Slot
     -- a row of a union: type id and value
     Variant : ℤ → Slot → Slot
 

@@ -3,7 +3,7 @@ use Rattle.std.specs.Prelude.{zero, suc, ◌≡◌, refl}
 use Rattle.std.proofs.Common.{sym, ap, ◌∙◌}
 use base.Stored.{Coded, Gv, gnil, gnum, gcons}
 use Rattle.arrow_types.specs.Stored.{store_bool, load_bool, load_bool-store_bool, store_int, load_int, load_int-store_int, store_name, load_name, load_name-store_name}
-use Rattle.arrow_types.specs.Slot.{Slot, Slots, Null, Boolean, Number, DayTime, MonthDayNano, Bytes, Text, Items, Parts, Entry, Variant, no_slots, more_slots}
+use Rattle.arrow_types.specs.Slot.{Slot, Slots, Null, Boolean, Number, DayTime, MonthDayNano, Bytes, Text, Items, Parts, Dict, Variant, no_slots, more_slots}
 
 abbrev mutual
   pub store_slot : Slot → Gv
@@ -16,7 +16,7 @@ abbrev mutual
   store_slot (Text b) = gcons (gnum 5) (store_name b)
   store_slot (Items ss) = gcons (gnum 6) (store_slots ss)
   store_slot (Parts ss) = gcons (gnum 7) (store_slots ss)
-  store_slot (Entry s) = gcons (gnum 8) (store_slot s)
+  store_slot (Dict s) = gcons (gnum 8) (store_slot s)
   store_slot (Variant id s) = gcons (gnum 9) (gcons (store_int id) (store_slot s))
 
   pub store_slots : Slots → Gv
@@ -33,7 +33,7 @@ abbrev mutual
   load_slot (gcons (gnum (suc (suc (suc (suc (suc zero)))))) g) = Text (load_name g)
   load_slot (gcons (gnum (suc (suc (suc (suc (suc (suc zero))))))) g) = Items (load_slots g)
   load_slot (gcons (gnum (suc (suc (suc (suc (suc (suc (suc zero)))))))) g) = Parts (load_slots g)
-  load_slot (gcons (gnum (suc (suc (suc (suc (suc (suc (suc (suc zero))))))))) g) = Entry (load_slot g)
+  load_slot (gcons (gnum (suc (suc (suc (suc (suc (suc (suc (suc zero))))))))) g) = Dict (load_slot g)
   load_slot (gcons (gnum (suc (suc (suc (suc (suc (suc (suc (suc (suc n)))))))))) (gcons id g)) = Variant (load_int id) (load_slot g)
   load_slot _ = Null
 
@@ -53,7 +53,7 @@ mutual
   load_slot-store_slot (Text b) = ap Text (load_name-store_name b)
   load_slot-store_slot (Items ss) = ap Items (load_slots-store_slots ss)
   load_slot-store_slot (Parts ss) = ap Parts (load_slots-store_slots ss)
-  load_slot-store_slot (Entry s) = ap Entry (load_slot-store_slot s)
+  load_slot-store_slot (Dict s) = ap Dict (load_slot-store_slot s)
   load_slot-store_slot (Variant id s) = λ i. Variant (load_int-store_int id i) (load_slot-store_slot s i)
 
   pub load_slots-store_slots : (ss : Slots) → load_slots (store_slots ss) ≡ ss

@@ -1,5 +1,5 @@
-//! The laws of the element traits, each the contract of a function over values that are handed in. What
-//! holds of every element type follows for generic code that calls them.
+//! The laws of the element traits and of `==`, each the contract of a function over values that are handed
+//! in. Generic code that calls one may stand on it.
 
 ghost use Rattle.std.specs.Prelude.{◌≡◌, ◌↔◌, ◌≤◌, ◌≤ℤ◌, ◌⊎◌, pos, Some, IsTrue, IsSome};
 ghost use Rattle.std.specs.Ordering.{is_le, ordering_reverse};
@@ -88,4 +88,27 @@ pub fn offset_of_number<O: Offset>(number: usize) -> Option<usize>
     ensures same { IsSome result → result ≡ Some number }
 {
     index_of_number::<O>(number)
+}
+
+/// `==` is reflexive: of arrays, types, bitmaps and whatever else has it.
+pub fn equals_itself<A: Eq>(value: &A) -> bool
+    ensures { IsTrue result }
+{
+    value == value
+}
+
+/// `==` is symmetric.
+pub fn equals_both_ways<A: Eq>(left: &A, right: &A) -> bool
+    ensures answer { result ≡ A.eq right.now left.now }
+    ensures symmetric { result ≡ A.eq left.now right.now }
+{
+    right == left
+}
+
+/// `==` is transitive.
+pub fn equals_through<A: Eq>(first: &A, second: &A, third: &A) -> bool
+    ensures answer { result ≡ A.eq first.now third.now }
+    ensures transitive { IsTrue (A.eq first.now second.now) → IsTrue (A.eq second.now third.now) → IsTrue result }
+{
+    first == third
 }

@@ -1,6 +1,6 @@
 //! Arrays of any type.
 
-ghost use Rattle.std.specs.Prelude.{◌≡◌, ◌+◌, ◌≤◌, ◌↔◌, [], length, count_by, option_copied, IsTrue, IfOk, IfSome};
+ghost use Rattle.std.specs.Prelude.{◌≡◌, ◌+◌, ◌≤◌, ◌↔◌, [], length, count_by, option_copied, IsTrue, IfOk, IfSome, ◌<◌, not, slice_index_or};
 ghost use Rattle.std.specs.Cmp.{partial_equiv_from_equiv, on_equiv};
 ghost use Rattle.arrow_types.specs.Carried.{IsCarried};
 ghost use Rattle.arrow_types.specs.Physical.{physical_type_of};
@@ -10,14 +10,15 @@ ghost use Rattle.arrow_types.specs.TypeOf.{type_of};
 ghost use Rattle.arrow_memory.specs.Sliced.{sliced};
 ghost use Rattle.arrow_flat.specs.Parts.{meaning_code};
 ghost use Rattle.arrow_arrays.specs.Any.{layout_of, any_array_type, any_array_rows, any_array_validity, any_array_meaning, MarksArray, kind_of, kind_in};
-ghost use Rattle.arrow_arrays.specs.PartOf.{part_of};
+ghost use Rattle.arrow_arrays.specs.SliceOf.{slice_of};
 ghost use Rattle.arrow_arrays.specs.Spans.{AreSameSpans};
+ghost use Rattle.arrow_types.specs.Slot.{Null};
 
 use crate::array::{
     DictionaryArray, FixedSizeListArray, ListArray, MapArray, StructArray, UnionArray,
 };
 use arrow_flat::array::{
-    AnyPrimitive, BinaryArray, BooleanArray, FixedSizeBinaryArray, NullArray, Utf8Array,
+    AnyPrimitive, BinaryArray, BooleanArray, FixedSizeBinaryArray, NullArray, Utf8Array, validity,
 };
 use arrow_memory::bitmap::Bitmap;
 use arrow_types::datatypes::DataType;
@@ -100,6 +101,20 @@ impl AnyArray {
         of_any!(self, array => array.validity())
     }
 
+    /// Whether row `i` is valid: whether it is no null.
+    ///
+    /// # Requires
+    /// `i` is below the count of rows.
+    pub fn is_valid(&self, i: usize) -> bool
+        requires { i < length (any_array_rows self.now) }
+        ensures { result ≡ not (is_null (slice_index_or (any_array_rows self.now) i Null)) }
+    {
+        match self {
+            AnyArray::Null(_) => false,
+            _ => validity::row_is_valid(self.validity(), i),
+        }
+    }
+
     /// How many rows are null.
     pub fn null_count(&self) -> usize
         ensures { result ≡ count_by is_null (any_array_rows self.now) }
@@ -114,7 +129,7 @@ impl AnyArray {
     #[cycle(slice)]
     pub fn slice(&mut self, offset: usize, len: usize)
         requires { offset + len ≤ length (any_array_rows self.old) }
-        ensures part { layout_of self.new ≡ part_of (layout_of self.old) offset len }
+        ensures part { layout_of self.new ≡ slice_of (layout_of self.old) offset len }
         ensures rows { any_array_rows self.new ≡ sliced (any_array_rows self.old) offset len }
     {
         of_any!(self, array => array.slice(offset, len))
@@ -126,7 +141,7 @@ impl AnyArray {
     /// `offset + len` is at most the count of rows.
     pub fn sliced(self, offset: usize, len: usize) -> AnyArray
         requires { offset + len ≤ length (any_array_rows self) }
-        ensures part { layout_of result ≡ part_of (layout_of self) offset len }
+        ensures part { layout_of result ≡ slice_of (layout_of self) offset len }
         ensures rows { any_array_rows result ≡ sliced (any_array_rows self) offset len }
     {
         let mut part = self;

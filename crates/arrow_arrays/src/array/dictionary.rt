@@ -1,6 +1,6 @@
 //! Arrays of dictionaries.
 
-ghost use Rattle.std.specs.Prelude.{◌≡◌, ◌+◌, ◌<◌, ◌≤◌, ◌↔◌, [], length, count_by, slice_index_or, option_copied, IsTrue, IfOk, IfErr, IfSome, OnOk};
+ghost use Rattle.std.specs.Prelude.{◌≡◌, ◌+◌, ◌<◌, ◌≤◌, ◌↔◌, [], length, count_by, slice_index_or, option_copied, IsTrue, IfOk, IfErr, IfSome, OnOk, not};
 ghost use Rattle.std.specs.Cmp.{partial_equiv_from_equiv, on_equiv};
 ghost use Rattle.arrow_types.specs.Carried.{IsCarried};
 ghost use Rattle.arrow_types.specs.Physical.{physical_type_of};
@@ -14,15 +14,15 @@ ghost use Rattle.arrow_flat.specs.DictionaryScalar.{values_in};
 ghost use Rattle.arrow_flat.specs.Parts.{MarksNulls, meaning_code};
 ghost use Rattle.arrow_arrays.specs.Any.{layout_of, kind_in, dictionary_kind};
 ghost use Rattle.arrow_arrays.specs.AnyKeys.{key_rows, key_type_of, keyed_of, keys_of};
-ghost use Rattle.arrow_arrays.specs.KeyedParts.{IsKeyed, IsKeyedFault, HoldsKeyed, AreKeys, keyed_rows, keyed_meaning, keyed_part};
+ghost use Rattle.arrow_arrays.specs.KeyedParts.{IsKeyed, IsKeyedFault, HoldsKeyed, AreKeys, keyed_rows, keyed_meaning, keyed_slice};
 ghost use Rattle.arrow_arrays.specs.Layout.{rows, type_of_layout};
-ghost use Rattle.arrow_arrays.specs.Spans.{entry_row};
+ghost use Rattle.arrow_arrays.specs.Spans.{dict_row};
 
 mod keys;
 
 use crate::array::any::{clone_boxed, equal_spans};
 use crate::array::{AnyArray, types};
-use arrow_flat::array::is_carried_as;
+use arrow_flat::array::{is_carried_as, validity};
 use arrow_memory::bitmap::Bitmap;
 use arrow_types::datatypes::{DataType, PhysicalType};
 use arrow_types::error::{Error, SpecPart};
@@ -149,6 +149,17 @@ impl DictionaryArray {
         self.keys.validity()
     }
 
+    /// Whether row `i` is valid: whether its key is no null. The value that it names may be null.
+    ///
+    /// # Requires
+    /// `i` is below the count of rows.
+    pub fn is_valid(&self, i: usize) -> bool
+        requires { i < length (keyed_rows self.now) }
+        ensures { result ≡ not (is_null (slice_index_or (keyed_rows self.now) i Null)) }
+    {
+        validity::row_is_valid(self.validity(), i)
+    }
+
     /// How many rows are null: as many as keys are.
     pub fn null_count(&self) -> usize
         ensures { result ≡ count_by is_null (keyed_rows self.now) }
@@ -162,7 +173,7 @@ impl DictionaryArray {
     /// `offset + len` is at most the count of rows.
     pub fn slice(&mut self, offset: usize, len: usize)
         requires { offset + len ≤ length (keyed_rows self.old) }
-        ensures part { self.new ≡ keyed_part self.old offset len }
+        ensures part { self.new ≡ keyed_slice self.old offset len }
         ensures rows { keyed_rows self.new ≡ sliced (keyed_rows self.old) offset len }
     {
         self.keys.slice(offset, len);
@@ -174,7 +185,7 @@ impl DictionaryArray {
     /// `offset + len` is at most the count of rows.
     pub fn sliced(self, offset: usize, len: usize) -> DictionaryArray
         requires { offset + len ≤ length (keyed_rows self) }
-        ensures part { result ≡ keyed_part self offset len }
+        ensures part { result ≡ keyed_slice self offset len }
         ensures rows { keyed_rows result ≡ sliced (keyed_rows self) offset len }
     {
         let mut part = self;
@@ -185,7 +196,7 @@ impl DictionaryArray {
     /// The value that row `i` names, as one row of the values, if it is not null.
     fn span(&self, i: usize) -> Option<(usize, usize)>
         requires { i < length self.now.keys }
-        ensures row { slice_index_or (keyed_rows self.now) i Null ≡ entry_row (rows self.now.child) result }
+        ensures row { slice_index_or (keyed_rows self.now) i Null ≡ dict_row (rows self.now.child) result }
         ensures within { IfSome result (λ span. span.0 + span.1 ≤ length (rows self.now.child)) }
         ensures one { IfSome result (λ span. span.1 ≡ 1) }
     {

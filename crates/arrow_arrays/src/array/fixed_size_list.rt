@@ -1,6 +1,6 @@
 //! Arrays of lists of a fixed size.
 
-ghost use Rattle.std.specs.Prelude.{◌≡◌, ◌+◌, ◌*◌, ◌/◌, ◌<◌, ◌≤◌, ◌↔◌, [], length, count_by, slice_index_or, option_copied, IsTrue, IfOk, IfErr, IfSome, OnOk};
+ghost use Rattle.std.specs.Prelude.{◌≡◌, ◌+◌, ◌*◌, ◌/◌, ◌<◌, ◌≤◌, ◌↔◌, [], length, count_by, slice_index_or, option_copied, IsTrue, IfOk, IfErr, IfSome, OnOk, not};
 ghost use Rattle.std.specs.Cmp.{partial_equiv_from_equiv, on_equiv};
 ghost use Rattle.arrow_types.specs.Carried.{IsCarried};
 ghost use Rattle.arrow_types.specs.Physical.{physical_type_of};
@@ -11,7 +11,7 @@ ghost use Rattle.arrow_types.specs.TypeOf.{type_of};
 ghost use Rattle.arrow_memory.specs.Sliced.{sliced};
 ghost use Rattle.arrow_flat.specs.Parts.{FitsRows, MarksNulls, meaning_code};
 ghost use Rattle.arrow_arrays.specs.Any.{layout_of, kind_in, fixed_size_list_kind};
-ghost use Rattle.arrow_arrays.specs.FixedListParts.{IsFixedList, IsFixedListFault, HoldsFixedList, FitsItems, fixed_list_rows, fixed_list_meaning, fixed_list_part, fixed_list_with_bits};
+ghost use Rattle.arrow_arrays.specs.FixedListParts.{IsFixedList, IsFixedListFault, HoldsFixedList, FitsItems, fixed_list_rows, fixed_list_meaning, fixed_list_slice, fixed_list_with_bits};
 ghost use Rattle.arrow_arrays.specs.Layout.{rows, type_of_layout};
 ghost use Rattle.arrow_arrays.specs.Spans.{span_row};
 ghost use Rattle.arrow_arrays.specs.TypeParts.{item_type, list_size};
@@ -149,6 +149,17 @@ impl FixedSizeListArray {
         self.validity.as_ref()
     }
 
+    /// Whether row `i` is valid: whether it is no null.
+    ///
+    /// # Requires
+    /// `i` is below the count of rows.
+    pub fn is_valid(&self, i: usize) -> bool
+        requires { i < length (fixed_list_rows self.now) }
+        ensures { result ≡ not (is_null (slice_index_or (fixed_list_rows self.now) i Null)) }
+    {
+        validity::row_is_valid(self.validity(), i)
+    }
+
     /// How many rows are null, counted a word of the validity at a time.
     pub fn null_count(&self) -> usize
         ensures { result ≡ count_by is_null (fixed_list_rows self.now) }
@@ -163,7 +174,7 @@ impl FixedSizeListArray {
     #[cycle(slice)]
     pub fn slice(&mut self, offset: usize, len: usize)
         requires { offset + len ≤ length (fixed_list_rows self.old) }
-        ensures part { self.new ≡ fixed_list_part self.old offset len }
+        ensures part { self.new ≡ fixed_list_slice self.old offset len }
         ensures rows { fixed_list_rows self.new ≡ sliced (fixed_list_rows self.old) offset len }
     {
         self.values.slice(offset * self.size, len * self.size);
@@ -176,7 +187,7 @@ impl FixedSizeListArray {
     /// `offset + len` is at most the count of rows.
     pub fn sliced(self, offset: usize, len: usize) -> FixedSizeListArray
         requires { offset + len ≤ length (fixed_list_rows self) }
-        ensures part { result ≡ fixed_list_part self offset len }
+        ensures part { result ≡ fixed_list_slice self offset len }
         ensures rows { fixed_list_rows result ≡ sliced (fixed_list_rows self) offset len }
     {
         let mut part = self;

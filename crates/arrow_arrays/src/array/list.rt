@@ -1,6 +1,6 @@
 //! Arrays of lists.
 
-ghost use Rattle.std.specs.Prelude.{◌≡◌, ◌+◌, ◌-◌, ◌<◌, ◌≤◌, ◌↔◌, [], length, count_by, slice_index, slice_index_or, option_copied, IsTrue, IfOk, IfErr, IfSome, OnOk};
+ghost use Rattle.std.specs.Prelude.{◌≡◌, ◌+◌, ◌-◌, ◌<◌, ◌≤◌, ◌↔◌, [], length, count_by, slice_index, slice_index_or, option_copied, IsTrue, IfOk, IfErr, IfSome, OnOk, not};
 ghost use Rattle.std.specs.Cmp.{partial_equiv_from_equiv, on_equiv};
 ghost use Rattle.arrow_types.specs.Carried.{IsCarried};
 ghost use Rattle.arrow_types.specs.Physical.{physical_type_of};
@@ -14,7 +14,7 @@ ghost use Rattle.arrow_flat.specs.Parts.{FitsRows, MarksNulls, meaning_code};
 ghost use Rattle.arrow_arrays.specs.Any.{layout_of, kind_in, list_kind};
 ghost use Rattle.arrow_arrays.specs.AnyOffsetsBuffer.{offsets_of, lists_of};
 ghost use Rattle.arrow_arrays.specs.Layout.{rows, type_of_layout};
-ghost use Rattle.arrow_arrays.specs.ListParts.{IsList, IsListFault, IsListFaultBy, HoldsList, list_rows, list_meaning, list_part, list_with_bits};
+ghost use Rattle.arrow_arrays.specs.ListParts.{IsList, IsListFault, IsListFaultBy, HoldsList, list_rows, list_meaning, list_slice, list_with_bits};
 ghost use Rattle.arrow_arrays.specs.Spans.{span_row};
 ghost use Rattle.arrow_arrays.specs.TypeParts.{item_type};
 
@@ -174,10 +174,10 @@ impl ListArray {
         ensures sound { OnOk result (IsList (lists_of offsets) (record { arrow_type = type_of data_type; validity = validity; offsets = offsets_of offsets; child = layout_of values.value })) }
         ensures fault { IfErr result (IsListFault (lists_of offsets) (record { arrow_type = type_of data_type; validity = validity; offsets = offsets_of offsets; child = layout_of values.value })) }
     {
-        let layout = offsets.physical_type();
+        let physical = offsets.physical_type();
         check_list(
             &data_type,
-            layout,
+            physical,
             offsets.len() - 1,
             offsets.last(),
             &values,
@@ -244,6 +244,17 @@ impl ListArray {
         self.validity.as_ref()
     }
 
+    /// Whether row `i` is valid: whether it is no null.
+    ///
+    /// # Requires
+    /// `i` is below the count of rows.
+    pub fn is_valid(&self, i: usize) -> bool
+        requires { i < length (list_rows self.now) }
+        ensures { result ≡ not (is_null (slice_index_or (list_rows self.now) i Null)) }
+    {
+        validity::row_is_valid(self.validity(), i)
+    }
+
     /// How many rows are null, counted a word of the validity at a time.
     pub fn null_count(&self) -> usize
         ensures { result ≡ count_by is_null (list_rows self.now) }
@@ -257,7 +268,7 @@ impl ListArray {
     /// `offset + len` is at most the count of rows.
     pub fn slice(&mut self, offset: usize, len: usize)
         requires { offset + len ≤ length (list_rows self.old) }
-        ensures part { self.new ≡ list_part self.old offset len }
+        ensures part { self.new ≡ list_slice self.old offset len }
         ensures rows { list_rows self.new ≡ sliced (list_rows self.old) offset len }
     {
         prove!(len < self.offsets.len());
@@ -271,7 +282,7 @@ impl ListArray {
     /// `offset + len` is at most the count of rows.
     pub fn sliced(self, offset: usize, len: usize) -> ListArray
         requires { offset + len ≤ length (list_rows self) }
-        ensures part { result ≡ list_part self offset len }
+        ensures part { result ≡ list_slice self offset len }
         ensures rows { list_rows result ≡ sliced (list_rows self) offset len }
     {
         let mut part = self;
@@ -355,16 +366,16 @@ impl ListArray {
 /// where the last row ends.
 pub(crate) fn check_list(
     data_type: &DataType,
-    layout: PhysicalType,
+    physical_type: PhysicalType,
     len: usize,
     end: usize,
     values: &AnyArray,
     validity: &Option<Bitmap>,
 ) -> Result<(), Error>
-    ensures ok { OnOk result (HoldsList layout (type_of data_type.now) len end (layout_of values.now) validity.now) }
-    ensures fault { IfErr result (IsListFaultBy layout (type_of data_type.now) len end (layout_of values.now) validity.now) }
+    ensures ok { OnOk result (HoldsList physical_type (type_of data_type.now) len end (layout_of values.now) validity.now) }
+    ensures fault { IfErr result (IsListFaultBy physical_type (type_of data_type.now) len end (layout_of values.now) validity.now) }
 {
-    if !is_carried_as(data_type, layout) {
+    if !is_carried_as(data_type, physical_type) {
         return Err(Error::OutOfSpec(SpecPart::Kind));
     }
     if values.data_type() != types::item_type(data_type) {

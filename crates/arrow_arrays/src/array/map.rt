@@ -1,6 +1,6 @@
 //! Arrays of maps.
 
-ghost use Rattle.std.specs.Prelude.{◌≡◌, ◌+◌, ◌-◌, ◌<◌, ◌≤◌, ◌↔◌, [], length, count_by, slice_index_or, option_copied, IsTrue, IfOk, IfErr, IfSome, OnOk};
+ghost use Rattle.std.specs.Prelude.{◌≡◌, ◌+◌, ◌-◌, ◌<◌, ◌≤◌, ◌↔◌, [], length, count_by, slice_index_or, option_copied, IsTrue, IfOk, IfErr, IfSome, OnOk, not};
 ghost use Rattle.std.specs.Cmp.{partial_equiv_from_equiv, on_equiv};
 ghost use Rattle.arrow_types.specs.Carried.{IsCarried};
 ghost use Rattle.arrow_types.specs.Physical.{physical_type_of};
@@ -14,7 +14,7 @@ ghost use Rattle.arrow_memory.specs.Sliced.{sliced};
 ghost use Rattle.arrow_flat.specs.Parts.{FitsRows, MarksNulls, meaning_code};
 ghost use Rattle.arrow_arrays.specs.Any.{layout_of, kind_in, map_kind};
 ghost use Rattle.arrow_arrays.specs.Layout.{rows, type_of_layout};
-ghost use Rattle.arrow_arrays.specs.ListParts.{IsList, IsListFault, list_rows, list_meaning, list_part, list_with_bits};
+ghost use Rattle.arrow_arrays.specs.ListParts.{IsList, IsListFault, list_rows, list_meaning, list_slice, list_with_bits};
 ghost use Rattle.arrow_arrays.specs.Spans.{span_row};
 ghost use Rattle.arrow_arrays.specs.TypeParts.{item_type};
 
@@ -160,6 +160,17 @@ impl MapArray {
         self.validity.as_ref()
     }
 
+    /// Whether row `i` is valid: whether it is no null.
+    ///
+    /// # Requires
+    /// `i` is below the count of rows.
+    pub fn is_valid(&self, i: usize) -> bool
+        requires { i < length (list_rows self.now) }
+        ensures { result ≡ not (is_null (slice_index_or (list_rows self.now) i Null)) }
+    {
+        validity::row_is_valid(self.validity(), i)
+    }
+
     /// How many rows are null, counted a word of the validity at a time.
     pub fn null_count(&self) -> usize
         ensures { result ≡ count_by is_null (list_rows self.now) }
@@ -173,7 +184,7 @@ impl MapArray {
     /// `offset + len` is at most the count of rows.
     pub fn slice(&mut self, offset: usize, len: usize)
         requires { offset + len ≤ length (list_rows self.old) }
-        ensures part { self.new ≡ list_part self.old offset len }
+        ensures part { self.new ≡ list_slice self.old offset len }
         ensures rows { list_rows self.new ≡ sliced (list_rows self.old) offset len }
     {
         prove!(len < self.offsets.len());
@@ -187,7 +198,7 @@ impl MapArray {
     /// `offset + len` is at most the count of rows.
     pub fn sliced(self, offset: usize, len: usize) -> MapArray
         requires { offset + len ≤ length (list_rows self) }
-        ensures part { result ≡ list_part self offset len }
+        ensures part { result ≡ list_slice self offset len }
         ensures rows { list_rows result ≡ sliced (list_rows self) offset len }
     {
         let mut part = self;

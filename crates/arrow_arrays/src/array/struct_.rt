@@ -1,6 +1,6 @@
 //! Arrays of structs.
 
-ghost use Rattle.std.specs.Prelude.{◌≡◌, ◌+◌, ◌<◌, ◌≤◌, ◌↔◌, [], length, map, count_by, slice_index_or, option_copied, IsTrue, IfOk, IfErr, OnOk};
+ghost use Rattle.std.specs.Prelude.{◌≡◌, ◌+◌, ◌<◌, ◌≤◌, ◌↔◌, [], length, map, count_by, slice_index_or, option_copied, IsTrue, IfOk, IfErr, OnOk, not};
 ghost use Rattle.std.specs.List.{All};
 ghost use Rattle.std.specs.Cmp.{partial_equiv_from_equiv, on_equiv};
 ghost use Rattle.arrow_types.specs.Carried.{IsCarried};
@@ -14,8 +14,8 @@ ghost use Rattle.arrow_memory.specs.Sliced.{sliced};
 ghost use Rattle.arrow_flat.specs.Parts.{FitsRows, MarksNulls, meaning_code};
 ghost use Rattle.arrow_arrays.specs.Any.{layout_of, any_array_type, kind_in, struct_kind};
 ghost use Rattle.arrow_arrays.specs.Layout.{rows, type_of_layout};
-ghost use Rattle.arrow_arrays.specs.PartOf.{part_of};
-ghost use Rattle.arrow_arrays.specs.StructParts.{IsStruct, IsStructFault, HoldsStruct, HaveRows, FitsColumns, row_count, row_of, struct_rows, struct_meaning, struct_part, struct_with_bits};
+ghost use Rattle.arrow_arrays.specs.SliceOf.{slice_of};
+ghost use Rattle.arrow_arrays.specs.StructParts.{IsStruct, IsStructFault, HoldsStruct, HaveRows, FitsColumns, row_count, row_of, struct_rows, struct_meaning, struct_slice, struct_with_bits};
 ghost use Rattle.arrow_arrays.specs.TypeParts.{field_types};
 
 use crate::array::any::clone_all;
@@ -139,6 +139,17 @@ impl StructArray {
         self.validity.as_ref()
     }
 
+    /// Whether row `i` is valid: whether it is no null.
+    ///
+    /// # Requires
+    /// `i` is below the count of rows.
+    pub fn is_valid(&self, i: usize) -> bool
+        requires { i < length (struct_rows self.now) }
+        ensures { result ≡ not (is_null (slice_index_or (struct_rows self.now) i Null)) }
+    {
+        validity::row_is_valid(self.validity(), i)
+    }
+
     /// How many rows are null, counted a word of the validity at a time.
     pub fn null_count(&self) -> usize
         ensures { result ≡ count_by is_null (struct_rows self.now) }
@@ -153,7 +164,7 @@ impl StructArray {
     #[cycle(slice)]
     pub fn slice(&mut self, offset: usize, len: usize)
         requires { offset + len ≤ length (struct_rows self.old) }
-        ensures part { self.new ≡ struct_part self.old offset len }
+        ensures part { self.new ≡ struct_slice self.old offset len }
         ensures rows { struct_rows self.new ≡ sliced (struct_rows self.old) offset len }
     {
         slice_all(&mut self.values, offset, len);
@@ -166,7 +177,7 @@ impl StructArray {
     /// `offset + len` is at most the count of rows.
     pub fn sliced(self, offset: usize, len: usize) -> StructArray
         requires { offset + len ≤ length (struct_rows self) }
-        ensures part { result ≡ struct_part self offset len }
+        ensures part { result ≡ struct_slice self offset len }
         ensures rows { struct_rows result ≡ sliced (struct_rows self) offset len }
     {
         let mut part = self;
@@ -187,8 +198,8 @@ impl StructArray {
         array
     }
 
-    /// Whether row `i` is valid.
-    fn is_valid(&self, i: usize) -> bool
+    /// Whether row `i` is valid, by its bit.
+    fn has_bit(&self, i: usize) -> bool
         requires { i < row_count self.now.children }
         ensures { result ≡ valid_at self.now.validity i }
     {
@@ -203,7 +214,7 @@ impl StructArray {
         requires there { j < row_count other.now.children }
         ensures { IsTrue result ↔ (slice_index_or (struct_rows self.now) i Null ≡ slice_index_or (struct_rows other.now) j Null) }
     {
-        match (self.is_valid(i), other.is_valid(j)) {
+        match (self.has_bit(i), other.has_bit(j)) {
             (true, true) => equal_parts(&self.values, i, &other.values, j),
             (false, false) => true,
             (true, false) | (false, true) => false,
@@ -291,7 +302,7 @@ pub(crate) fn have_rows(values: &[AnyArray], len: usize) -> bool
 #[cycle(slice)]
 fn slice_all(values: &mut [AnyArray], offset: usize, len: usize)
     requires { All (λ l. offset + len ≤ length (rows l)) (map layout_of values.old) }
-    ensures { map layout_of values.new ≡ map (λ l. part_of l offset len) (map layout_of values.old) }
+    ensures { map layout_of values.new ≡ map (λ l. slice_of l offset len) (map layout_of values.old) }
 {
     for array in values {
         array.slice(offset, len);

@@ -1,6 +1,6 @@
 //! Arrays of unions.
 
-ghost use Rattle.std.specs.Prelude.{◌≡◌, ◌+◌, ◌<◌, ◌≤◌, ◌↔◌, [], pos, length, map, count_by, slice_get, slice_index_or, option_copied, option_map, None, Some, IsTrue, IfOk, IfErr, IfSome, OnOk};
+ghost use Rattle.std.specs.Prelude.{◌≡◌, ◌+◌, ◌<◌, ◌≤◌, ◌↔◌, [], pos, length, map, count_by, slice_get, slice_index_or, option_copied, option_map, None, Some, IsTrue, IfOk, IfErr, IfSome, OnOk, not};
 ghost use Rattle.std.specs.List.{All, zip};
 ghost use Rattle.std.specs.Cmp.{partial_equiv_from_equiv, on_equiv};
 ghost use Rattle.arrow_types.specs.Carried.{IsCarried};
@@ -16,7 +16,7 @@ ghost use Rattle.arrow_flat.specs.Parts.{meaning_code};
 ghost use Rattle.arrow_arrays.specs.Any.{layout_of, any_array_type, kind_in, union_kind};
 ghost use Rattle.arrow_arrays.specs.Layout.{type_of_layout, field_ids};
 ghost use Rattle.arrow_arrays.specs.TypeParts.{field_types, mode_in};
-ghost use Rattle.arrow_arrays.specs.UnionParts.{IsUnion, IsUnionFault, HoldsUnion, IsKnown, IsInside, SpansRows, FindsField, FitsMode, FitsOffsets, places_of, places_by, mode_by, row_in, rows_of_field, union_rows, union_meaning, union_part};
+ghost use Rattle.arrow_arrays.specs.UnionParts.{IsUnion, IsUnionFault, HoldsUnion, IsKnown, IsInside, SpansRows, FindsField, FitsMode, FitsOffsets, places_of, places_by, mode_by, row_in, rows_of_field, union_rows, union_meaning, union_slice};
 
 use crate::array::any::clone_all;
 use crate::array::struct_::have_rows;
@@ -214,6 +214,17 @@ impl UnionArray {
         None
     }
 
+    /// Whether row `_i` is valid: each is. A row of a field that is null is a row of the union that is not.
+    ///
+    /// # Requires
+    /// `_i` is below the count of rows.
+    pub fn is_valid(&self, _i: usize) -> bool
+        requires { _i < length (union_rows self.now) }
+        ensures { result ≡ not (is_null (slice_index_or (union_rows self.now) _i Null)) }
+    {
+        self.validity().is_none()
+    }
+
     /// How many rows are null: none. A row of a field that is null is a row of the union that is not.
     pub fn null_count(&self) -> usize
         ensures { result ≡ count_by is_null (union_rows self.now) }
@@ -227,7 +238,7 @@ impl UnionArray {
     /// `offset + len` is at most the count of rows.
     pub fn slice(&mut self, offset: usize, len: usize)
         requires { offset + len ≤ length (union_rows self.old) }
-        ensures part { self.new ≡ union_part self.old offset len }
+        ensures part { self.new ≡ union_slice self.old offset len }
         ensures rows { union_rows self.new ≡ sliced (union_rows self.old) offset len }
     {
         self.types.slice(offset, len);
@@ -243,7 +254,7 @@ impl UnionArray {
     /// `offset + len` is at most the count of rows.
     pub fn sliced(self, offset: usize, len: usize) -> UnionArray
         requires { offset + len ≤ length (union_rows self) }
-        ensures part { result ≡ union_part self offset len }
+        ensures part { result ≡ union_slice self offset len }
         ensures rows { union_rows result ≡ sliced (union_rows self) offset len }
     {
         let mut part = self;

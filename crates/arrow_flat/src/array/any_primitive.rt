@@ -1,6 +1,6 @@
 //! A primitive array of any element type.
 
-ghost use Rattle.std.specs.Prelude.{◌≡◌, ◌+◌, ◌≤◌, ◌↔◌, [], length, count_by, option_copied, IsTrue};
+ghost use Rattle.std.specs.Prelude.{◌≡◌, ◌+◌, ◌≤◌, ◌↔◌, [], length, count_by, option_copied, IsTrue, ◌<◌, not, slice_index_or};
 ghost use Rattle.std.specs.Cmp.{partial_equiv_from_equiv, on_equiv};
 ghost use Rattle.arrow_types.specs.Carried.{IsCarried};
 ghost use Rattle.arrow_types.specs.Physical.{physical_type_of};
@@ -11,8 +11,9 @@ ghost use Rattle.arrow_types.specs.declared.datatypes.physical_type.PhysicalType
 ghost use Rattle.arrow_memory.specs.Sliced.{sliced};
 ghost use Rattle.arrow_flat.specs.AnyPrimitive.{any_parts, any_type, any_rows, any_meaning, element_of};
 ghost use Rattle.arrow_flat.specs.Parts.{MarksNulls, meaning_code};
+ghost use Rattle.arrow_types.specs.Slot.{Null};
 
-use crate::array::PrimitiveArray;
+use crate::array::{PrimitiveArray, validity};
 use arrow_memory::bitmap::Bitmap;
 use arrow_types::datatypes::DataType;
 use arrow_types::types::{days_ms, i256, months_days_ns};
@@ -126,6 +127,17 @@ impl AnyPrimitive {
         ensures marks { MarksNulls (option_copied result) (any_rows self.now) }
     {
         of_any!(self, array => array.validity())
+    }
+
+    /// Whether row `i` is valid: whether it is no null.
+    ///
+    /// # Requires
+    /// `i` is below the count of rows.
+    pub fn is_valid(&self, i: usize) -> bool
+        requires { i < length (any_rows self.now) }
+        ensures { result ≡ not (is_null (slice_index_or (any_rows self.now) i Null)) }
+    {
+        validity::row_is_valid(self.validity(), i)
     }
 
     /// How many rows are null, counted a word of the validity at a time.

@@ -25,7 +25,7 @@ impl Values for Bitmap {
 
     ghost are_of = { λ bits t. physical_type_of t ≡ physical.Boolean };
 
-    ghost part = { sliced };
+    ghost slice = { sliced };
 
     fn len(&self) -> usize {
         Bitmap::len(self)
@@ -47,9 +47,9 @@ impl Values for Bitmap {
 
     ghost stored = { λ bits. All-map IsValue Boolean bits (λ k d within. refl) };
 
-    ghost slots_of_part = { λ bits offset len within. map_sliced Boolean bits offset len };
+    ghost slots_of_slice = { λ bits offset len within. map_sliced Boolean bits offset len };
 
-    ghost part_is_of = { λ x t offset len kind. kind };
+    ghost slice_is_of = { λ x t offset len kind. kind };
 }
 
 impl FlatArray<Bitmap> {

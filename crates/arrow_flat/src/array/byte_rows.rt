@@ -1,17 +1,16 @@
-//! Arrays of texts and of bytes, each row of any length.
+//! What arrays of texts and of bytes share: rows of any length, one behind the other.
 
-ghost use Rattle.std.specs.Prelude.{◌≡◌, ◌+◌, ◌-◌, ◌<◌, ◌≤◌, ◌↔◌, Bool, List, ℕ, length, slice_get, Some, IfOk, IfErr, OnOk, IsTrue, IsUtf8, if◌then◌else◌, refl};
+ghost use Rattle.std.specs.Prelude.{◌≡◌, ◌+◌, ◌-◌, ◌<◌, ◌≤◌, ◌↔◌, Bool, List, ℕ, length, slice_get, Some, IfOk, IfErr, OnOk, IsTrue};
 ghost use Rattle.std.specs.List.{All};
 ghost use Rattle.std.proofs.Common.{rules};
 ghost use Rattle.std.proofs.lemmas.List.Elements.{All-map};
-ghost use Rattle.arrow_types.specs.ArrowType.{PlainType, plain, utf8, large_utf8, binary, large_binary};
+ghost use Rattle.arrow_types.specs.ArrowType.{PlainType, plain};
 ghost use Rattle.arrow_types.specs.Physical.{physical_type_of};
-ghost use Rattle.arrow_types.specs.Slot.{Slot, Text as text, Bytes as bytes};
+ghost use Rattle.arrow_types.specs.Slot.{Slot};
 ghost use Rattle.arrow_types.specs.TypeOf.{type_of};
 ghost use Rattle.arrow_types.specs.declared.datatypes.physical_type.PhysicalType.{PhysicalType};
-ghost use Rattle.arrow_types.specs.declared.datatypes.physical_type.PhysicalType.TheVariants as physical;
 ghost use Rattle.arrow_memory.specs.Offsets.{last_of};
-ghost use Rattle.arrow_flat.specs.ByteRows.{ByteParts, row_bytes, byte_slots, byte_part};
+ghost use Rattle.arrow_flat.specs.ByteRows.{ByteParts, row_bytes, byte_slots, byte_slice};
 ghost use Rattle.arrow_flat.specs.Faults.{IsCarriedAs, NamesFirst};
 ghost use Rattle.arrow_flat.specs.Parts.{FitsRows, IsValue};
 ghost use Rattle.arrow_flat.specs.PieceLaws.{slots_of_pieces};
@@ -27,12 +26,6 @@ use arrow_types::types::{Index, Offset};
 use std::alloc::AllocError;
 use std::marker::{Model, PhantomData};
 
-/// An array of texts, under offsets of 32 or of 64 bits ("Variable-size Binary Layout").
-pub type Utf8Array<O> = FlatArray<ByteRows<O, Text>>;
-
-/// An array of bytes, under offsets of 32 or of 64 bits ("Variable-size Binary Layout").
-pub type BinaryArray<O> = FlatArray<ByteRows<O, Binary>>;
-
 /// What rows of bytes are: texts, or any bytes.
 pub trait ByteKind {
     // the row that holds these bytes
@@ -41,10 +34,10 @@ pub trait ByteKind {
     // what each row is, null rows too
     ghost Allows: { List ℕ → Type 0 };
 
-    // the data type and its layout, by whether the offsets are those of the large forms
+    // the data type and the physical type, by whether the offsets are those of the large forms
     ghost plain_type: { Bool → PlainType };
 
-    ghost layout: { Bool → PhysicalType };
+    ghost physical_type: { Bool → PhysicalType };
 
     /// Whether a row may have these bytes.
     fn allows(bytes: &[u8]) -> bool
@@ -55,86 +48,12 @@ pub trait ByteKind {
         ensures { type_of result ≡ plain (plain_type is_large) };
 
     /// The physical type of an array of such rows.
-    fn layout(is_large: bool) -> PhysicalType
-        ensures { result ≡ layout is_large };
+    fn physical_type(is_large: bool) -> PhysicalType
+        ensures { result ≡ physical_type is_large };
 
     ghost values: { (bytes : List ℕ) → IsValue (slot bytes) };
 
     ghost one_to_one: { (x y : List ℕ) → slot x ≡ slot y → x ≡ y };
-}
-
-/// Rows that are UTF-8.
-pub struct Text;
-
-/// Rows of any bytes.
-pub struct Binary;
-
-impl ByteKind for Text {
-    ghost slot = { text };
-
-    ghost Allows = { IsUtf8 };
-
-    ghost plain_type = { λ is_large. if is_large then large_utf8 else utf8 };
-
-    ghost layout = { λ is_large. if is_large then physical.LargeUtf8 else physical.Utf8 };
-
-    fn allows(bytes: &[u8]) -> bool {
-        str::from_utf8(bytes).is_ok()
-    }
-
-    fn data_type(is_large: bool) -> DataType {
-        if is_large {
-            DataType::LargeUtf8
-        } else {
-            DataType::Utf8
-        }
-    }
-
-    fn layout(is_large: bool) -> PhysicalType {
-        if is_large {
-            PhysicalType::LargeUtf8
-        } else {
-            PhysicalType::Utf8
-        }
-    }
-
-    ghost values = { λ bytes. refl };
-
-    ghost one_to_one = { λ x y same. cc };
-}
-
-impl ByteKind for Binary {
-    ghost slot = { bytes };
-
-    ghost Allows = { λ bytes. Unit {0} };
-
-    ghost plain_type = { λ is_large. if is_large then large_binary else binary };
-
-    ghost layout = { λ is_large. if is_large then physical.LargeBinary else physical.Binary };
-
-    fn allows(_bytes: &[u8]) -> bool {
-        true
-    }
-
-    fn data_type(is_large: bool) -> DataType {
-        if is_large {
-            DataType::LargeBinary
-        } else {
-            DataType::Binary
-        }
-    }
-
-    fn layout(is_large: bool) -> PhysicalType {
-        if is_large {
-            PhysicalType::LargeBinary
-        } else {
-            PhysicalType::Binary
-        }
-    }
-
-    ghost values = { λ bytes. refl };
-
-    ghost one_to_one = { λ x y same. cc };
 }
 
 /// Rows of bytes that lie one behind the other: row `i` from offset `i` to offset `i + 1`.
@@ -159,7 +78,7 @@ impl<O: Offset, K: ByteKind> Model for ByteRows<O, K> {
 
 impl<O: Offset, K: ByteKind> ByteRows<O, K> {
     /// The bytes of row `i`.
-    fn row(&self, i: usize) -> &[u8]
+    pub(crate) fn row(&self, i: usize) -> &[u8]
         requires { i < length (row_bytes self.now) }
         ensures row { slice_get (row_bytes self.now) i ≡ Some result.now }
         ensures kind { K.Allows result.now }
@@ -172,9 +91,9 @@ impl<O: Offset, K: ByteKind> ByteRows<O, K> {
 impl<O: Offset, K: ByteKind> Values for ByteRows<O, K> {
     ghost slots = { byte_slots K.slot };
 
-    ghost are_of = { λ rows t. physical_type_of t ≡ K.layout O.IS_LARGE };
+    ghost are_of = { λ rows t. physical_type_of t ≡ K.physical_type O.IS_LARGE };
 
-    ghost part = { byte_part };
+    ghost slice = { byte_slice };
 
     fn len(&self) -> usize {
         self.offsets.len() - 1
@@ -205,9 +124,9 @@ impl<O: Offset, K: ByteKind> Values for ByteRows<O, K> {
 
     ghost stored = { λ rows. All-map IsValue K.slot (row_bytes rows) (λ k d within. K.values _) };
 
-    ghost slots_of_part = { λ rows offset len within. slots_of_pieces K.slot rows.offsets rows.bytes offset len };
+    ghost slots_of_slice = { λ rows offset len within. slots_of_pieces K.slot rows.offsets rows.bytes offset len };
 
-    ghost part_is_of = { λ x t offset len kind. kind };
+    ghost slice_is_of = { λ x t offset len kind. kind };
 }
 
 /// A clone shares the offsets and the bytes and copies none.
@@ -238,6 +157,36 @@ fn are_allowed<O: Offset, K: ByteKind>(offsets: &OffsetsBuffer<O>, bytes: &[u8])
 }
 
 impl<O: Offset, K: ByteKind> FlatArray<ByteRows<O, K>> {
+    /// The array that [`FlatArray::try_new`] makes of parts that are known to be sound: nothing is tested.
+    ///
+    /// # Requires
+    /// The data type is carried and has the physical type of such arrays, the validity is as long as the
+    /// rows, the last offset is within the values, and each row of a text array, null rows too, is UTF-8.
+    pub fn new(
+        data_type: DataType,
+        offsets: OffsetsBuffer<O>,
+        values: Buffer<u8>,
+        validity: Option<Bitmap>,
+    ) -> FlatArray<ByteRows<O, K>>
+        requires kind { IsCarriedAs (K.physical_type O.IS_LARGE) (type_of data_type) }
+        requires length { FitsRows validity (length offsets - 1) }
+        requires offsets { last_of offsets ≤ length values }
+        requires text { All K.Allows (pieces offsets values) }
+        ensures { result ≡ record { arrow_type = type_of data_type; values = record { offsets = offsets; bytes = values }; validity = validity } }
+    {
+        // That the offsets never fall is theirs to say.
+        let _ = offsets.len();
+        FlatArray {
+            data_type,
+            values: ByteRows {
+                offsets,
+                bytes: values,
+                kind: PhantomData,
+            },
+            validity,
+        }
+    }
+
     /// An array of the rows that the offsets name in the values, null where the validity has a bit that
     /// is not set. It takes no memory.
     ///
@@ -252,10 +201,10 @@ impl<O: Offset, K: ByteKind> FlatArray<ByteRows<O, K>> {
         validity: Option<Bitmap>,
     ) -> Result<FlatArray<ByteRows<O, K>>, Error>
         ensures ok { IfOk result (λ array. array ≡ record { arrow_type = type_of data_type; values = record { offsets = offsets; bytes = values }; validity = validity }) }
-        ensures sound { OnOk result (IsCarriedAs (K.layout O.IS_LARGE) (type_of data_type) × FitsRows validity (length offsets - 1) × (last_of offsets ≤ length values) × All K.Allows (pieces offsets values)) }
-        ensures fault { IfErr result (NamesFirst (IsCarriedAs (K.layout O.IS_LARGE) (type_of data_type)) (FitsRows validity (length offsets - 1)) (last_of offsets ≤ length values) (All K.Allows (pieces offsets values))) }
+        ensures sound { OnOk result (IsCarriedAs (K.physical_type O.IS_LARGE) (type_of data_type) × FitsRows validity (length offsets - 1) × (last_of offsets ≤ length values) × All K.Allows (pieces offsets values)) }
+        ensures fault { IfErr result (NamesFirst (IsCarriedAs (K.physical_type O.IS_LARGE) (type_of data_type)) (FitsRows validity (length offsets - 1)) (last_of offsets ≤ length values) (All K.Allows (pieces offsets values))) }
     {
-        if !is_carried_as(&data_type, K::layout(O::IS_LARGE)) {
+        if !is_carried_as(&data_type, K::physical_type(O::IS_LARGE)) {
             return Err(Error::OutOfSpec(SpecPart::Kind));
         }
         if !validity::fits_rows(&validity, offsets.len() - 1) {
@@ -267,15 +216,7 @@ impl<O: Offset, K: ByteKind> FlatArray<ByteRows<O, K>> {
         if !are_allowed::<O, K>(&offsets, values.as_slice()) {
             return Err(Error::OutOfSpec(SpecPart::Utf8));
         }
-        Ok(FlatArray {
-            data_type,
-            values: ByteRows {
-                offsets,
-                bytes: values,
-                kind: PhantomData,
-            },
-            validity,
-        })
+        Ok(FlatArray::<ByteRows<O, K>>::new(data_type, offsets, values, validity))
     }
 
     /// Where the rows lie in the values.
@@ -292,31 +233,5 @@ impl<O: Offset, K: ByteKind> FlatArray<ByteRows<O, K>> {
         ensures allowed { All K.Allows (row_bytes self.now.values) }
     {
         &self.values.bytes
-    }
-}
-
-impl<O: Offset> FlatArray<ByteRows<O, Text>> {
-    /// The text of row `i`; of a null row, what is stored beneath it.
-    ///
-    /// # Requires
-    /// `i` is below the count of rows.
-    pub fn value(&self, i: usize) -> &str
-        requires { i < length (row_bytes self.now.values) }
-        ensures { slice_get (row_bytes self.now.values) i ≡ Some result.now }
-    {
-        unsafe { str::from_utf8_unchecked(self.values.row(i)) }
-    }
-}
-
-impl<O: Offset> FlatArray<ByteRows<O, Binary>> {
-    /// The bytes of row `i`; of a null row, what is stored beneath it.
-    ///
-    /// # Requires
-    /// `i` is below the count of rows.
-    pub fn value(&self, i: usize) -> &[u8]
-        requires { i < length (row_bytes self.now.values) }
-        ensures { slice_get (row_bytes self.now.values) i ≡ Some result.now }
-    {
-        self.values.row(i)
     }
 }

@@ -8,7 +8,7 @@ ghost use Rattle.arrow_types.specs.Slot.{Bytes};
 ghost use Rattle.arrow_types.specs.TypeOf.{type_of};
 ghost use Rattle.arrow_types.specs.declared.datatypes.physical_type.PhysicalType.TheVariants as physical;
 ghost use Rattle.arrow_flat.specs.Faults.{IsCarriedAs, NamesKindOrLength};
-ghost use Rattle.arrow_flat.specs.FixedRows.{FixedParts, fixed_row_bytes, fixed_slots, fixed_part, fixed_size_in, FitsBytes};
+ghost use Rattle.arrow_flat.specs.FixedRows.{FixedParts, fixed_row_bytes, fixed_slots, fixed_slice, fixed_size_in, FitsBytes};
 ghost use Rattle.arrow_flat.specs.Parts.{IsValue};
 ghost use Rattle.arrow_flat.specs.PieceLaws.{slots_of_chunks};
 
@@ -70,7 +70,7 @@ impl Values for FixedRows {
 
     ghost are_of = { λ rows t. (physical_type_of t ≡ physical.FixedSizeBinary) × (rows.size ≡ fixed_size_in t) };
 
-    ghost part = { fixed_part };
+    ghost slice = { fixed_slice };
 
     fn len(&self) -> usize {
         self.count
@@ -94,9 +94,9 @@ impl Values for FixedRows {
 
     ghost stored = { λ rows. All-map IsValue Bytes (fixed_row_bytes rows) (λ k d within. refl) };
 
-    ghost slots_of_part = { λ rows offset len within. slots_of_chunks Bytes rows.count rows.size rows.bytes offset len within };
+    ghost slots_of_slice = { λ rows offset len within. slots_of_chunks Bytes rows.count rows.size rows.bytes offset len within };
 
-    ghost part_is_of = { λ x t offset len kind. kind };
+    ghost slice_is_of = { λ x t offset len kind. kind };
 }
 
 /// A clone shares the bytes and copies none.

@@ -1,6 +1,6 @@
 //! Arrays of the null type.
 
-ghost use Rattle.std.specs.Prelude.{◌≡◌, ◌+◌, ◌≤◌, ◌↔◌, [], length, count_by, None, IsTrue, IfOk, IfErr, OnOk};
+ghost use Rattle.std.specs.Prelude.{◌≡◌, ◌+◌, ◌≤◌, ◌↔◌, [], length, count_by, None, IsTrue, IfOk, IfErr, OnOk, ◌<◌, not, slice_index_or};
 ghost use Rattle.std.specs.Cmp.{partial_equiv_from_equiv, on_equiv};
 ghost use Rattle.arrow_types.specs.Relation.{is_null};
 ghost use Rattle.arrow_types.specs.SameTree.{same_by, same_by-equivalence};
@@ -10,6 +10,7 @@ ghost use Rattle.arrow_memory.specs.Sliced.{sliced};
 ghost use Rattle.arrow_flat.specs.Faults.{IsCarriedAs, NamesKindOrLength};
 ghost use Rattle.arrow_flat.specs.NullParts.{NullParts, null_rows, null_meaning};
 ghost use Rattle.arrow_flat.specs.Parts.{meaning_code};
+ghost use Rattle.arrow_types.specs.Slot.{Null};
 
 use crate::array::is_carried_as;
 use arrow_memory::bitmap::Bitmap;
@@ -93,6 +94,17 @@ impl NullArray {
         ensures { result ≡ None }
     {
         None
+    }
+
+    /// Whether row `_i` is valid: none is.
+    ///
+    /// # Requires
+    /// `_i` is below the count of rows.
+    pub fn is_valid(&self, _i: usize) -> bool
+        requires { _i < length (null_rows self.now) }
+        ensures { result ≡ not (is_null (slice_index_or (null_rows self.now) _i Null)) }
+    {
+        false
     }
 
     /// How many rows are null: all.

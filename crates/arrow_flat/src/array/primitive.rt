@@ -26,7 +26,7 @@ impl<T: NativeType> Values for Buffer<T> {
 
     ghost are_of = { λ values t. physical_type_of t ≡ physical.Primitive T.PRIMITIVE };
 
-    ghost part = { sliced };
+    ghost slice = { sliced };
 
     fn len(&self) -> usize {
         Buffer::len(self)
@@ -48,9 +48,9 @@ impl<T: NativeType> Values for Buffer<T> {
 
     ghost stored = { all_values T.slot T.eq T.slots };
 
-    ghost slots_of_part = { λ values offset len within. map_sliced T.slot values offset len };
+    ghost slots_of_slice = { λ values offset len within. map_sliced T.slot values offset len };
 
-    ghost part_is_of = { λ x t offset len kind. kind };
+    ghost slice_is_of = { λ x t offset len kind. kind };
 }
 
 impl<T: NativeType> FlatArray<Buffer<T>> {

@@ -1,10 +1,12 @@
 //! What arrays do with their validity: a bit for each row, set where the row is valid. Without it no
 //! row is null ("Validity bitmaps").
 
-ghost use Rattle.std.specs.Prelude.{◌≡◌, ◌+◌, ◌≤◌, ◌<◌, ◌↔◌, length, IsTrue, IfSome, option_map};
+ghost use Rattle.std.specs.Prelude.{◌≡◌, ◌+◌, ◌≤◌, ◌<◌, ◌↔◌, length, IsTrue, IfSome, option_map, List, not, slice_index_or, option_copied};
+ghost use Rattle.arrow_types.specs.Relation.{is_null};
 ghost use Rattle.arrow_types.specs.Rows.{valid_at};
+ghost use Rattle.arrow_types.specs.Slot.{Slot, Null};
 ghost use Rattle.arrow_memory.specs.Sliced.{sliced};
-ghost use Rattle.arrow_flat.specs.Parts.{FitsRows, unset_in};
+ghost use Rattle.arrow_flat.specs.Parts.{FitsRows, unset_in, HasRow, MarksNulls};
 
 use arrow_memory::bitmap::Bitmap;
 
@@ -29,6 +31,20 @@ pub fn is_valid(validity: &Option<Bitmap>, i: usize) -> bool
     match validity {
         None => true,
         Some(validity) => validity.get_bit(i),
+    }
+}
+
+/// Whether row `i` of the array whose validity it is is valid.
+///
+/// # Requires
+/// The validity marks the nulls of some rows, and `i` is below their count.
+pub fn row_is_valid(validity: Option<&Bitmap>, i: usize) -> bool
+    requires { HasRow (option_copied validity) i }
+    ensures { (rows : List Slot) → MarksNulls (option_copied validity.entry) rows → i < length rows → result ≡ not (is_null (slice_index_or rows i Null)) }
+{
+    match validity {
+        None => true,
+        Some(bits) => bits.get_bit(i),
     }
 }
 

@@ -1,21 +1,15 @@
-//! Scalars that are texts or bytes.
+//! What scalars that are texts and those that are bytes share.
 
-ghost use Rattle.std.specs.Prelude.{◌≡◌, not, option_map, string_bytes, IfSome, IsUtf8, if◌then◌else◌};
-ghost use Rattle.arrow_types.specs.ArrowType.{plain, utf8, large_utf8, binary, large_binary};
+ghost use Rattle.std.specs.Prelude.{◌≡◌, not, option_map, IfSome};
+ghost use Rattle.arrow_types.specs.ArrowType.{plain};
 ghost use Rattle.arrow_types.specs.Relation.{is_null};
 ghost use Rattle.arrow_types.specs.TypeOf.{type_of};
 ghost use Rattle.arrow_flat.specs.Scalars.{slot_by};
 
-use crate::array::{Binary, ByteKind, Text};
+use crate::array::ByteKind;
 use arrow_types::datatypes::DataType;
 use arrow_types::types::Offset;
 use std::marker::{Model, PhantomData};
-
-/// A text, or a null, of type Utf8 or, where `O` is that of the large forms, LargeUtf8.
-pub type Utf8Scalar<O> = ByteScalar<O, Text>;
-
-/// Bytes, or a null, of type Binary or, where `O` is that of the large forms, LargeBinary.
-pub type BinaryScalar<O> = ByteScalar<O, Binary>;
 
 /// A text or bytes, or a null.
 pub struct ByteScalar<O: Offset, K: ByteKind> {
@@ -54,6 +48,19 @@ impl<O: Offset, K: ByteKind> Model for ByteScalar<O, K> {
 }
 
 impl<O: Offset, K: ByteKind> ByteScalar<O, K> {
+    /// A row of these bytes, or a null.
+    pub(crate) fn of_bytes(value: Option<Vec<u8>>) -> ByteScalar<O, K>
+        requires { IfSome value (λ bytes. K.Allows bytes.items) }
+        ensures { result ≡ record { arrow_type = plain (K.plain_type O.IS_LARGE); value = option_map (λ bytes. bytes.items) value } }
+    {
+        ByteScalar {
+            data_type: K::data_type(O::IS_LARGE),
+            value,
+            offset: PhantomData,
+            kind: PhantomData,
+        }
+    }
+
     /// The data type.
     pub fn data_type(&self) -> &DataType
         ensures same { type_of result.now ≡ self.now.arrow_type }
@@ -70,7 +77,7 @@ impl<O: Offset, K: ByteKind> ByteScalar<O, K> {
     }
 
     /// The bytes, or `None` of a null.
-    fn bytes(&self) -> Option<&[u8]>
+    pub(crate) fn bytes(&self) -> Option<&[u8]>
         ensures value { option_map (λ bytes. bytes.now) result ≡ self.now.value }
         ensures kind { IfSome result (λ bytes. K.Allows bytes.now) }
     {
@@ -78,61 +85,5 @@ impl<O: Offset, K: ByteKind> ByteScalar<O, K> {
             None => None,
             Some(bytes) => Some(bytes.as_slice()),
         }
-    }
-}
-
-/// The bytes of a text, which are moved and not copied.
-fn into_bytes(text: Option<String>) -> Option<Vec<u8>>
-    ensures same { option_map (λ bytes. bytes.items) result ≡ option_map string_bytes text }
-    ensures text { IfSome result (λ bytes. IsUtf8 bytes.items) }
-{
-    match text {
-        None => None,
-        Some(text) => Some(text.into_bytes()),
-    }
-}
-
-impl<O: Offset> ByteScalar<O, Text> {
-    /// A text, or a null. It takes no memory.
-    pub fn new(value: Option<String>) -> Utf8Scalar<O>
-        ensures { result ≡ record { arrow_type = plain (if O.IS_LARGE then large_utf8 else utf8); value = option_map string_bytes value } }
-    {
-        ByteScalar {
-            data_type: Text::data_type(O::IS_LARGE),
-            value: into_bytes(value),
-            offset: PhantomData,
-            kind: PhantomData,
-        }
-    }
-
-    /// The text, or `None` of a null.
-    pub fn value(&self) -> Option<&str>
-        ensures { option_map (λ text. text.now) result ≡ self.now.value }
-    {
-        match self.bytes() {
-            None => None,
-            Some(bytes) => Some(unsafe { str::from_utf8_unchecked(bytes) }),
-        }
-    }
-}
-
-impl<O: Offset> ByteScalar<O, Binary> {
-    /// Bytes, or a null. It takes no memory.
-    pub fn new(value: Option<Vec<u8>>) -> BinaryScalar<O>
-        ensures { result ≡ record { arrow_type = plain (if O.IS_LARGE then large_binary else binary); value = option_map (λ bytes. bytes.items) value } }
-    {
-        ByteScalar {
-            data_type: Binary::data_type(O::IS_LARGE),
-            value,
-            offset: PhantomData,
-            kind: PhantomData,
-        }
-    }
-
-    /// The bytes, or `None` of a null.
-    pub fn value(&self) -> Option<&[u8]>
-        ensures { option_map (λ bytes. bytes.now) result ≡ self.now.value }
-    {
-        self.bytes()
     }
 }

@@ -4,7 +4,7 @@ ghost use Rattle.std.specs.Prelude.{◌≡◌, ◌↔◌, not, option_map, Match
 ghost use Rattle.arrow_types.specs.Relation.{is_null};
 ghost use Rattle.arrow_types.specs.TypeOf.{type_of};
 ghost use Rattle.arrow_flat.specs.AnyScalar.{meaning_of, inner_of};
-ghost use Rattle.arrow_flat.specs.DictionaryScalar.{entry_slot, HasDictionary, values_in, IsOf, IsDictionary, NamesKindOrChild};
+ghost use Rattle.arrow_flat.specs.DictionaryScalar.{dict_slot, HasDictionary, values_in, IsOf, IsDictionary, NamesKindOrChild};
 
 use crate::scalar::{AnyPrimitiveScalar, BinaryScalar, BooleanScalar, Utf8Scalar};
 use arrow_types::datatypes::DataType;
@@ -44,7 +44,7 @@ pub enum AnyScalar {
 
 impl Model for DictionaryScalar {
     ghost use Rattle.arrow_types.specs.TypeOf.{type_of};
-    ghost use Rattle.arrow_flat.specs.DictionaryScalar.{DictionaryParts, dictionary_code, IsDictionary, entry_depth};
+    ghost use Rattle.arrow_flat.specs.DictionaryScalar.{DictionaryParts, dictionary_code, IsDictionary, dict_depth};
 
     ghost Value = { DictionaryParts };
 
@@ -56,7 +56,7 @@ impl Model for DictionaryScalar {
 
     ghost invariant = { λ a. IsDictionary (record { arrow_type = type_of a.data_type; value = inner_of a.value }) };
 
-    ghost size = { entry_depth };
+    ghost size = { dict_depth };
 
     ghost use Rattle.arrow_flat.specs.ScalarFalls.{value_falls};
 
@@ -97,7 +97,7 @@ impl DictionaryScalar {
 
     /// Whether it is no null. A value of the dictionary may itself be null.
     pub fn is_valid(&self) -> bool
-        ensures { result ≡ not (is_null (entry_slot self.now)) }
+        ensures { result ≡ not (is_null (dict_slot self.now)) }
     {
         self.value.is_some()
     }

@@ -14,7 +14,7 @@ use std::alloc::Global;
 use std::process::Abort;
 
 /// Three values, and a validity under which the second is null.
-fn parts_of<T: NativeType>(alloc: Global, values: &[T]) -> Result<(Buffer<T>, Bitmap), Error> {
+fn slices_of<T: NativeType>(alloc: Global, values: &[T]) -> Result<(Buffer<T>, Bitmap), Error> {
     let stored = Buffer::from_vec(alloc, Vec::from_slice(alloc, values)?)?;
     Ok((stored, Bitmap::from_bools(alloc, &[true, false, true])?))
 }
@@ -25,7 +25,7 @@ fn array_of<T: NativeType>(
     data_type: DataType,
     values: &[T],
 ) -> Result<PrimitiveArray<T>, Error> {
-    let (stored, validity) = parts_of(rt.alloc(), values)?;
+    let (stored, validity) = slices_of(rt.alloc(), values)?;
     let array = PrimitiveArray::try_new(data_type, stored, Some(validity))?;
     check!(rt; array.values().as_slice() == values);
     Ok(array)

@@ -20,7 +20,20 @@ fn check_bits(
     }
     check!(rt; found.unset_bits() == unset);
     check!(rt; *found == Bitmap::from_bools(rt.alloc(), want)?);
+    check_ends(rt, found, want);
     Ok(())
+}
+
+/// Where the run of equal bits from each place on ends.
+fn check_ends(rt: &impl Abort, found: &Bitmap, want: &[bool]) {
+    let mut end = want.len();
+    for (i, bit) in want.iter().enumerate().rev() {
+        let next = i.saturating_add(1);
+        if want.get(next).is_some_and(|other| other != bit) {
+            end = next;
+        }
+        check!(rt; i < found.len() && found.run_at(i, found.len()) == (*bit, end));
+    }
 }
 
 /// A bitmap that is sliced itself is that slice.

@@ -13,6 +13,7 @@ pub fn check_parts(rt: &(impl Abort + Alloc<A = Global>)) -> Result<(), Error> {
     assert!(rt; part.as_slice() == [1, -2, 3, -4, 5].as_slice() && part.len() == 5);
     part.slice(1, 3);
     assert!(rt; part.as_slice() == [-2, 3, -4].as_slice());
+    check!(rt; part == Buffer::from_vec(rt.alloc(), vec![in rt.alloc(); -2, 3, -4]?)? && part != values);
     let last = part.sliced(2, 1);
     assert!(rt; last.as_slice() == [-4].as_slice() && !last.is_empty());
     let none = last.sliced(1, 0);

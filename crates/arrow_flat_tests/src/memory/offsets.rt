@@ -11,10 +11,12 @@ fn offsets_of<O: Offset>(alloc: Global, values: &[O]) -> Result<OffsetsBuffer<O>
     OffsetsBuffer::try_from(alloc, Vec::from_slice(alloc, values)?)
 }
 
-/// A slice, and a slice of that.
-fn check_part(rt: &impl Abort, part: &mut OffsetsBuffer<i32>) {
+/// A slice, which is equal to the offsets that it has, and a slice of that.
+fn check_part(rt: &impl Abort, part: &mut OffsetsBuffer<i32>, want: &OffsetsBuffer<i32>) {
     assert!(rt; part.len() == 4);
+    check!(rt; *part != *want);
     part.slice(1, 2);
+    check!(rt; *part == *want);
     check!(rt; part.buffer() == [2, 5].as_slice() && *part.last() == 5);
     part.slice(1, 1);
     check!(rt; part.buffer() == [5].as_slice() && *part.last() == 5);
@@ -23,7 +25,11 @@ fn check_part(rt: &impl Abort, part: &mut OffsetsBuffer<i32>) {
 /// Where three rows lie, which slices of a clone leave.
 pub fn check_places(rt: &(impl Abort + Alloc<A = Global>)) -> Result<(), Error> {
     let offsets = offsets_of(rt.alloc(), &[2i32, 2, 5, 9])?;
-    check_part(rt, &mut offsets.clone()?);
+    check_part(
+        rt,
+        &mut offsets.clone()?,
+        &offsets_of(rt.alloc(), &[2i32, 5])?,
+    );
     check!(rt; offsets.buffer() == [2, 2, 5, 9].as_slice() && *offsets.last() == 9);
     assert!(rt; offsets.len() == 4);
     for (row, place) in [(2, 2), (2, 5), (5, 9)].iter().enumerate() {

@@ -1,12 +1,15 @@
 //! Native types, and the integers that name rows.
 
-ghost use Rattle.std.specs.Prelude.{◌≡◌, ◌↔◌, ◌≤◌, pos, ◌≤ℤ◌, IsTrue, IsSome, IfSome, Some};
-ghost use Rattle.arrow_types.specs.Greatest.{greatest_number, greatest_offset};
+ghost use Rattle.std.specs.Prelude.{◌≡◌, ◌↔◌, ◌≤ℤ◌, IsTrue};
 ghost use Rattle.arrow_types.specs.Relation.{related, eq};
 ghost use Rattle.arrow_types.specs.Slot.{Boolean};
 
 use arrow_fixture::check;
 use arrow_types::datatypes::IntegerType;
+use arrow_types::laws::{
+    equal_is_same, index_of_number, key_of_number, number_of_index, offset_of_number, order_agrees,
+    order_chains, order_is_total, order_turns,
+};
 use arrow_types::types::{
     DictionaryKey, Index, NativeOrd, NativeType, Offset, PrimitiveType, days_ms, i256,
     months_days_ns,
@@ -35,33 +38,6 @@ fn larger<T: NativeOrd>(a: T, b: T) -> T
     if a < b { b } else { a }
 }
 
-fn index_again<I: Index>(index: I) -> Option<I>
-    requires { pos 0 ≤ℤ I.number index }
-    ensures { result ≡ Some index }
-{
-    I::from_usize(index.to_usize())
-}
-
-fn offset_again<O: Offset>(length: usize) -> Option<usize>
-    ensures fits { IsSome result ↔ (length ≤ greatest_offset O.IS_LARGE) }
-    ensures same { IfSome result (λ n. n ≡ length) }
-{
-    match O::from_usize(length) {
-        Some(offset) => Some(offset.to_usize()),
-        None => None,
-    }
-}
-
-fn key_again<K: DictionaryKey>(place: usize) -> Option<usize>
-    ensures fits { IsSome result ↔ (place ≤ greatest_number K.KEY_TYPE) }
-    ensures same { IfSome result (λ n. n ≡ place) }
-{
-    match K::from_usize(place) {
-        Some(key) => Some(key.to_usize()),
-        None => None,
-    }
-}
-
 #[test]
 fn wide_numbers_in_order(rt: HostRuntime) {
     let mut numbers = [i256::default(); 9];
@@ -79,8 +55,10 @@ fn wide_numbers_in_order(rt: HostRuntime) {
     }
     for (i, a) in numbers.iter().enumerate() {
         for (j, b) in numbers.iter().enumerate() {
-            check!(&rt; a.cmp(b) == i.cmp(&j));
-            check!(&rt; (a == b) == (i == j));
+            check!(&rt; a.cmp(b) == i.cmp(&j) && order_agrees(*a, *b) == i.cmp(&j));
+            check!(&rt; (a == b) == (i == j) && equal_is_same(*a, *b) == (i == j));
+            check!(&rt; order_turns(*a, *b) == j.cmp(&i) && order_is_total(*a, *b) == (i <= j));
+            check!(&rt; order_chains(*a, *a, *b) == (i <= j));
             check!(&rt; a.partial_cmp(b) == Some(i.cmp(&j)));
         }
     }
@@ -120,7 +98,8 @@ fn intervals(rt: HostRuntime) {
 fn check_index<I: Index + DictionaryKey + Debug>(rt: &impl Abort, greatest: usize) {
     check!(rt; I::from_usize(0) == Some(I::default()));
     let last = I::from_usize(greatest);
-    check!(rt; key_again::<I>(greatest) == Some(greatest));
+    check!(rt; key_of_number::<I>(greatest) == Some(greatest));
+    check!(rt; index_of_number::<I>(greatest) == Some(greatest));
     if let Some(above) = greatest.checked_add(1) {
         check!(rt; I::from_usize(above) == None);
         check!(rt; last.is_some_and(|last| last.in_range(above)));
@@ -144,14 +123,14 @@ fn indices_keys_and_offsets(rt: HostRuntime) {
         check!(&rt; !negative.in_range(usize::MAX));
     }
     check!(&rt; !(-1i8).in_range(1) && !i16::MIN.in_range(1) && !(-1i64).in_range(usize::MAX));
-    check!(&rt; index_again(7u16) == Some(7));
+    check!(&rt; number_of_index(7u16) == Some(7));
     check!(&rt; i8::KEY_TYPE == IntegerType::Int8);
     check!(&rt; u64::KEY_TYPE == IntegerType::UInt64);
-    check!(&rt; offset_again::<i32>(2_147_483_647) == Some(2_147_483_647));
-    check!(&rt; offset_again::<i32>(2_147_483_648) == None);
+    check!(&rt; offset_of_number::<i32>(2_147_483_647) == Some(2_147_483_647));
+    check!(&rt; offset_of_number::<i32>(2_147_483_648) == None);
     let greatest = 9_223_372_036_854_775_807;
-    check!(&rt; offset_again::<i64>(greatest) == Some(greatest));
-    check!(&rt; offset_again::<i64>(greatest + 1) == None);
+    check!(&rt; offset_of_number::<i64>(greatest) == Some(greatest));
+    check!(&rt; offset_of_number::<i64>(greatest + 1) == None);
     check!(&rt; !i32::IS_LARGE && i64::IS_LARGE);
     check!(&rt; 13i32.shifted(10, 4) == 7);
     check!(&rt; 9_223_372_036_854_775_806i64.shifted(1, 2) == 9_223_372_036_854_775_807);

@@ -5,12 +5,13 @@ ghost use Rattle.arrow_types.specs.declared.error.Error.{Error};
 ghost use Rattle.arrow_types.specs.declared.datatypes.physical_type.PhysicalType.TheVariants as physical;
 ghost use Rattle.arrow_types.specs.Physical.{physical_type_of};
 ghost use Rattle.arrow_arrays.specs.Any.{kind_in, kind_of, layout_of, null_kind};
-ghost use Rattle.arrow_growable.specs.AnyGrowable.{IsFlatLayout, grown_of, primitive_grown_of};
-ghost use Rattle.arrow_growable.specs.Grown.{AreOfOneType, bound_to, first_type};
-ghost use Rattle.arrow_growable.specs.Nulls.{null_layout};
+ghost use Rattle.arrow_growable.specs.AnyGrowable.{IsFlatType, grown_of, primitive_grown_of};
+ghost use Rattle.arrow_flat_growable.specs.Grown.{AreOfOneType, bound_to, first_type};
+ghost use Rattle.arrow_flat_growable.specs.Nulls.{null_layout};
 
-use crate::growable::flat::{FlatGrowable, GrowableValues};
-use crate::growable::{AnyGrowable, AnyGrowablePrimitive, BoundNulls};
+use crate::growable::{
+    AnyGrowable, AnyGrowablePrimitive, BoundNulls, FlatGrowable, GrowableValues,
+};
 use arrow_arrays::array::AnyArray;
 use arrow_flat::array::NullArray;
 use arrow_types::datatypes::PhysicalType;
@@ -38,7 +39,7 @@ pub fn make_growable<'a>(
 ) -> Result<AnyGrowable<'a>, Error>
     requires some { 0 < length arrays.now }
     requires one_type { AreOfOneType (map (λ a. layout_of a.now) arrays.now) }
-    requires flat { IsFlatLayout (physical_type_of (first_type (map (λ a. layout_of a.now) arrays.now))) }
+    requires flat { IsFlatType (physical_type_of (first_type (map (λ a. layout_of a.now) arrays.now))) }
     ensures ok { IfOk result (λ growable. grown_of growable ≡ bound_to (map (λ a. layout_of a.now) arrays.now)) }
     ensures err { IsOkUnless result Error.OutOfMemory }
 {

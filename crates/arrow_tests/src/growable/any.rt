@@ -5,8 +5,9 @@ ghost use Rattle.arrow_arrays.specs.Any.{any_array_type, layout_of};
 ghost use Rattle.arrow_growable.specs.AnyGrowable.{grown_of};
 ghost use Rattle.arrow_select.specs.Arrays.{IsFlat};
 
-use crate::fixture::arrays::{FLATS, Shape, array_of, from_row, is_flat};
+use crate::lent::{from_row, is_flat};
 use arrow_arrays::array::{AnyArray, new_null_array};
+use arrow_arrays_fixture::arrays::{FLATS, Shape, array_of};
 use arrow_fixture::check;
 use arrow_growable::growable::{AnyGrowable, Growable, make_growable};
 use arrow_types::datatypes::{DataType, IntervalUnit};

@@ -5,8 +5,9 @@ ghost use Rattle.arrow_types.specs.Rows.{masked};
 ghost use Rattle.arrow_flat.specs.ByteRows.{byte_slots};
 ghost use Rattle.arrow_flat.specs.Parts.{rows_by};
 
-use crate::fixture::arrays::{Shape, array_of, check_same, from_row};
+use crate::lent::{check_same, from_row};
 use arrow_arrays::array::{AnyArray, AnyOffset};
+use arrow_arrays_fixture::arrays::{Shape, array_of};
 use arrow_fixture::check;
 use arrow_flat::array::{
     AnyElement, AnyPrimitive, ByteKind, ByteRows, FlatArray, NullArray, PrimitiveArray,

@@ -1,8 +1,9 @@
 //! The rows of two arrays, one array behind the other.
 
-use crate::fixture::arrays::{FLATS, Shape, array_of, from_row, is_flat};
+use crate::lent::{from_row, is_flat};
 use crate::select::check_answer;
 use arrow_arrays::array::AnyArray;
+use arrow_arrays_fixture::arrays::{FLATS, Shape, array_of};
 use arrow_flat::array::NullArray;
 use arrow_select::concatenate::concatenate;
 use arrow_types::datatypes::DataType;

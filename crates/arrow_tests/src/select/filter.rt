@@ -1,8 +1,9 @@
 //! The rows at which a predicate is true.
 
-use crate::fixture::arrays::{FLATS, Shape, array_of, from_row, is_flat};
+use crate::lent::{from_row, is_flat};
 use crate::select::check_answer;
 use arrow_arrays::array::AnyArray;
+use arrow_arrays_fixture::arrays::{FLATS, Shape, array_of};
 use arrow_fixture::arrays::truths;
 use arrow_flat::array::BooleanArray;
 use arrow_select::filter::filter;

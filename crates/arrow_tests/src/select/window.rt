@@ -1,8 +1,9 @@
 //! Rows that are moved along an array.
 
-use crate::fixture::arrays::{FLATS, Shape, array_of, from_row, is_flat};
+use crate::lent::{from_row, is_flat};
 use crate::select::check_answer;
 use arrow_arrays::array::AnyArray;
+use arrow_arrays_fixture::arrays::{FLATS, Shape, array_of};
 use arrow_fixture::check;
 use arrow_flat::array::NullArray;
 use arrow_select::window::shift;

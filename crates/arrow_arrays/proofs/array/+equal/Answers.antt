@@ -1,4 +1,4 @@
-use Rattle.std.proofs.Common.{◌≡◌, ◌+◌, ◌≤◌, ◌<◌, suc, length, map, get_or, refl, sym, subst, ap, ◌∙◌, arith}
+use Rattle.std.proofs.Common.{◌≡◌, ◌<◌, suc, length, map, refl, sym, subst, ap, ◌∙◌, arith}
 use Rattle.std.specs.Bool.{Decides, IsTrue}
 use Rattle.std.proofs.lemmas.Bool.Decides.{Decides-eqb}
 use Rattle.std.proofs.lemmas.List.{length-map}
@@ -7,12 +7,12 @@ use Rattle.arrow_types.specs.TypeOf.{type_of}
 use Rattle.arrow_flat.proofs.PartsLemmas.{sliced_next}
 use Rattle.arrow_arrays.specs.Any.{layout_of, any_array_type, any_array_rows}
 use Rattle.arrow_arrays.specs.AnyOffsetsBuffer.{offsets_of}
-use Rattle.arrow_arrays.specs.FixedListParts.{FixedListParts, IsFixedList, fixed_list_rows}
+use Rattle.arrow_arrays.specs.FixedListParts.{FixedListParts, fixed_list_rows}
 use Rattle.arrow_arrays.specs.KeyedParts.{keyed_rows}
 use Rattle.arrow_arrays.specs.Layout.{depth, rows, type_of_layout, field_ids}
 use Rattle.arrow_arrays.specs.ListParts.{ListParts, IsList, list_rows}
 use Rattle.arrow_arrays.specs.Spans.{AreSameSpans}
-use Rattle.arrow_arrays.specs.StructParts.{StructParts, IsStruct, struct_rows, row_count}
+use Rattle.arrow_arrays.specs.StructParts.{StructParts, IsStruct, struct_rows}
 use Rattle.arrow_arrays.specs.UnionFalls.{depth_of_union}
 use Rattle.arrow_arrays.specs.UnionParts.{UnionParts, IsUnion, places_of, row_in, union_layout}
 use Rattle.arrow_arrays.proofs.DepthLemmas.{depth_at}

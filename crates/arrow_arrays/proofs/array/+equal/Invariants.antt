@@ -1,5 +1,4 @@
 use Rattle.std.proofs.Common.{◌≡◌, ◌+◌, ◌*◌, map, take, get_or}
-use Rattle.std.specs.List.{All}
 use Rattle.arrow_types.specs.Slot.{Null}
 use Rattle.arrow_memory.specs.Sliced.{sliced}
 use Rattle.arrow_arrays.specs.Any.{layout_of}

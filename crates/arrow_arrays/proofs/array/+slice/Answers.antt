@@ -4,7 +4,7 @@ use Rattle.arrow_types.specs.TypeOf.{type_of}
 use Rattle.arrow_arrays.specs.Any.{layout_of}
 use Rattle.arrow_arrays.specs.FixedListParts.{FixedListParts, fixed_list_layout}
 use Rattle.arrow_arrays.specs.Layout.{depth, rows}
-use Rattle.arrow_arrays.specs.PartOf.{part_of}
+use Rattle.arrow_arrays.specs.SliceOf.{slice_of}
 use Rattle.arrow_arrays.specs.StructParts.{StructParts, struct_layout}
 use Rattle.arrow_arrays.proofs.DepthLemmas.{depth_at}
 use Rattle.arrow_arrays.proofs.FixedLemmas.{fixed_items_within, fixed_bits_within, fixed_list_part_is, fixed_list_part_rows}
@@ -59,13 +59,13 @@ struct_::StructArray::slice-slice-requires t c =
 pub struct_::StructArray::slice-invariant_of-self : goal.struct_::StructArray::slice-invariant_of-self
 struct_::StructArray::slice-invariant_of-self t c =
     let p : StructParts = record { arrow_type = type_of c.self.inside.data_type; validity = c.self.inside.validity; children = map layout_of c.self.inside.values.items } in
-    let back = written c.slice_all.new.values c.self.inside.values.items c.self.inside.values.len (length_as layout_of (λ l. part_of l c.args.offset c.args.len) c.slice_all.new.values c.deref_mut.result.now c.slice_all.ensures ∙ c.deref_mut.ensures.len) in
+    let back = written c.slice_all.new.values c.self.inside.values.items c.self.inside.values.len (length_as layout_of (λ l. slice_of l c.args.offset c.args.len) c.slice_all.new.values c.deref_mut.result.now c.slice_all.ensures ∙ c.deref_mut.ensures.len) in
     rw (back, c.slice_all.ensures, c.deref_mut.ensures.value, c.slice.ensures) (struct_part_is p _ c.args.offset c.args.len c.self.invariant c.self.view_is c.requires)
 
 pub struct_::StructArray::slice-returns-clause-rows : goal.struct_::StructArray::slice-returns-clause-rows
 struct_::StructArray::slice-returns-clause-rows t c =
     let p : StructParts = record { arrow_type = type_of c.self.inside.data_type; validity = c.self.inside.validity; children = map layout_of c.self.inside.values.items } in
-    let back = written c.slice_all.new.values c.self.inside.values.items c.self.inside.values.len (length_as layout_of (λ l. part_of l c.args.offset c.args.len) c.slice_all.new.values c.deref_mut.result.now c.slice_all.ensures ∙ c.deref_mut.ensures.len) in
+    let back = written c.slice_all.new.values c.self.inside.values.items c.self.inside.values.len (length_as layout_of (λ l. slice_of l c.args.offset c.args.len) c.slice_all.new.values c.deref_mut.result.now c.slice_all.ensures ∙ c.deref_mut.ensures.len) in
     rw (back, c.slice_all.ensures, c.deref_mut.ensures.value, c.slice.ensures, ← c.self.view_is) (struct_part_rows p _ c.args.offset c.args.len c.self.view_is c.requires)
 
 pub struct_::slice_all-loop-array-init : goal.struct_::slice_all-loop-array-init
@@ -83,9 +83,9 @@ struct_::slice_all-loop-array-preserved t c =
     let items = c.loop-array.array-items in
     let among = c.loop-array-test.true in
     let now = c.loop-array.invariant.0.1 c.loop-array.array-index c.array-item.result (omega arith) in
-    let new = changed_read layout_of (λ l. part_of l c.args.offset c.args.len) items c.args.values.now c.loop-array.array-index c.slice.new.self c.array-item.result among now c.slice.ensures.part in
-    ((length-set items c.loop-array.array-index c.slice.new.self ∙ c.loop-array.invariant.0.0, rest_as_was items c.args.values.now c.loop-array.array-index c.slice.new.self c.loop-array.invariant.0.1), changed_next layout_of (λ l. part_of l c.args.offset c.args.len) items c.args.values.now c.loop-array.array-index c.slice.new.self (omega (arith, among, c.loop-array.invariant.0.0)) c.loop-array.invariant.1 new)
+    let new = changed_read layout_of (λ l. slice_of l c.args.offset c.args.len) items c.args.values.now c.loop-array.array-index c.slice.new.self c.array-item.result among now c.slice.ensures.part in
+    ((length-set items c.loop-array.array-index c.slice.new.self ∙ c.loop-array.invariant.0.0, rest_as_was items c.args.values.now c.loop-array.array-index c.slice.new.self c.loop-array.invariant.0.1), changed_next layout_of (λ l. slice_of l c.args.offset c.args.len) items c.args.values.now c.loop-array.array-index c.slice.new.self (omega (arith, among, c.loop-array.invariant.0.0)) c.loop-array.invariant.1 new)
 
 pub struct_::slice_all-returns : goal.struct_::slice_all-returns
 struct_::slice_all-returns t c =
-    all_changed layout_of (λ l. part_of l c.args.offset c.args.len) c.loop-array.array-items c.args.values.now c.loop-array.invariant.0.0 (λ k d before. c.loop-array.invariant.1 k d (omega (arith, before, c.loop-array-test.false)))
+    all_changed layout_of (λ l. slice_of l c.args.offset c.args.len) c.loop-array.array-items c.args.values.now c.loop-array.invariant.0.0 (λ k d before. c.loop-array.invariant.1 k d (omega (arith, before, c.loop-array-test.false)))

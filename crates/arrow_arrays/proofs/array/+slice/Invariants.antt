@@ -2,7 +2,7 @@ use Rattle.std.specs.Prelude.{◌+◌, ◌*◌, map}
 use Rattle.arrow_arrays.specs.Any.{layout_of}
 use Rattle.arrow_arrays.specs.FixedListParts.{fixed_list_layout}
 use Rattle.arrow_arrays.specs.Layout.{depth, depth_of_all, to_layouts}
-use Rattle.arrow_arrays.specs.PartOf.{part_of}
+use Rattle.arrow_arrays.specs.SliceOf.{slice_of}
 use Rattle.arrow_arrays.specs.StructParts.{struct_layout}
 use Rattle.arrow_arrays.proofs.SliceLemmas.{ChangedUpTo}
 use Rattle.arrow_arrays.proofs.array.+slice.Given as goal
@@ -22,4 +22,4 @@ decreases-struct_::slice_all l = 3 * depth_of_all (to_layouts (map layout_of l.v
 -- the children so far are sliced, and the others as they were
 abbrev pub invariant-struct_::slice_all-loop-array : goal.invariant-struct_::slice_all-loop-array
 invariant-struct_::slice_all-loop-array l =
-    goal.unvisited-struct_::slice_all-loop-array l × ChangedUpTo layout_of (λ c. part_of c l.offset l.len) l.array-items l.initial.array-items l.array-index
+    goal.unvisited-struct_::slice_all-loop-array l × ChangedUpTo layout_of (λ c. slice_of c l.offset l.len) l.array-items l.initial.array-items l.array-index

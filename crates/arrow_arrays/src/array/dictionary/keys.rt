@@ -7,7 +7,7 @@ ghost use Rattle.arrow_memory.specs.Sliced.{sliced};
 ghost use Rattle.arrow_flat.specs.Parts.{MarksNulls, rows_by};
 ghost use Rattle.arrow_arrays.specs.AnyKeys.{key_rows, key_type_of, key_validity, keys_of};
 ghost use Rattle.arrow_arrays.specs.KeyedParts.{AreKeys, IsKey, IsKeyIn, key_in};
-ghost use Rattle.arrow_arrays.specs.PartOf.{bits_of_part};
+ghost use Rattle.arrow_arrays.specs.SliceOf.{validity_of_slice};
 
 use arrow_flat::array::PrimitiveArray;
 use arrow_memory::bitmap::Bitmap;
@@ -108,7 +108,7 @@ impl AnyKeys {
     pub(crate) fn slice(&mut self, offset: usize, len: usize)
         requires { offset + len ≤ length (key_rows self.old) }
         ensures same { key_type_of self.new ≡ key_type_of self.old }
-        ensures validity { key_validity self.new ≡ bits_of_part (key_validity self.old) offset len }
+        ensures validity { key_validity self.new ≡ validity_of_slice (key_validity self.old) offset len }
         ensures rows { key_rows self.new ≡ sliced (key_rows self.old) offset len }
     {
         of_keys!(self, keys => keys.slice(offset, len))

@@ -103,7 +103,7 @@ pub(super) fn null_bytes<O: Offset, K: ByteKind>(
     data_type: DataType,
     length: usize,
 ) -> Result<FlatArray<ByteRows<O, K>>, Error>
-    requires kind { IsCarriedAs (K.layout O.IS_LARGE) (type_of data_type) }
+    requires kind { IsCarriedAs (K.physical_type O.IS_LARGE) (type_of data_type) }
     requires empty { K.Allows [] }
     ensures same { IfOk result (λ array. array.arrow_type ≡ type_of data_type) }
     ensures rows { IfOk result (λ array. rows_by (byte_slots K.slot) array ≡ replicate length Null) }

@@ -1,9 +1,9 @@
 use Rattle.std.proofs.Common.{subst, Bor, Err, ap, sym, ◌∙◌}
-use Rattle.arrow_arrays.specs.Any.{any_array_rows, layout_of}
-use Rattle.arrow_growable.proofs.FlatLemmas.{source_is}
-use Rattle.arrow_growable.proofs.ResultLemmas.{passed_on}
-use Rattle.arrow_select.specs.Arrays.{IsFlat, layouts_in, rows_in}
-use Rattle.arrow_select.specs.Growing.{Holds}
+use Rattle.arrow_arrays.specs.Any.{any_array_rows, layout_of, layouts_in}
+use Rattle.arrow_flat_growable.proofs.FlatLemmas.{source_is}
+use Rattle.arrow_flat_growable.proofs.ResultLemmas.{passed_on}
+use Rattle.arrow_select.specs.Arrays.{IsFlat, rows_in}
+use Rattle.arrow_select.specs.Growing.{HasAppended}
 use Rattle.arrow_select.proofs.ArrayLemmas.{first_flat, joined_next, joined_around, slice_get-map_read}
 use Rattle.arrow_select.proofs.GrowLemmas.{holds_none, holds_more, refuses_whole, names_uncrowded, named, whole_source}
 use Rattle.arrow_select.proofs.concatenate.append_all.Goals as goal
@@ -33,4 +33,4 @@ loop-index-preserved g c =
     let first = first_flat (λ (a : Bor _). layout_of a.now) arrays i c.loop-index-test.true c.requires.flat in
     let read = slice_get-map_read (λ (a : Bor _). any_array_rows a.now) arrays i c.index-arrays-index.result c.loop-index-test.true c.index-arrays-index.is in
     let more = named layouts _ _ c.loop-index.invariant i 0 c.len.result ∙ whole_source layouts i c.index-arrays-index.result.now source c.len.result c.len.ensures in
-    subst (Holds layouts (g.G.Growable.state c.extend.new.self)) (sym (joined_next (rows_in arrays) i _ read)) (holds_more layouts _ _ c.loop-index.invariant _ _ _ first more c.in_ok-extend.ensures.ok c.in_ok-extend.ensures.fits)
+    subst (HasAppended layouts (g.G.Growable.state c.extend.new.self)) (sym (joined_next (rows_in arrays) i _ read)) (holds_more layouts _ _ c.loop-index.invariant _ _ _ first more c.in_ok-extend.ensures.ok c.in_ok-extend.ensures.fits)

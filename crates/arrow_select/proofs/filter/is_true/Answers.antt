@@ -16,10 +16,10 @@ value-requires c = within_bits c.args.filter.now.validity c.args.filter.now.valu
 pub returns-then-is_valid : goal.returns-then-is_valid
 returns-then-is_valid c =
     let row = bit_of_row c.args.filter.now.validity c.args.filter.now.values c.args.row c.value.result c.requires c.value.ensures in
-    row ∙ ap (λ v. Some (v && c.value.result)) (sym c.is_valid.ensures ∙ c.if-is_valid.true)
+    row ∙ ap (λ v. Some (v && c.value.result)) (sym c.is_valid.ensures.bit ∙ c.if-is_valid.true)
 
 pub returns-else-is_valid : goal.returns-else-is_valid
 returns-else-is_valid c =
     let within = within_bits c.args.filter.now.validity c.args.filter.now.values c.args.row c.requires in
     let row = bit_of_row c.args.filter.now.validity c.args.filter.now.values c.args.row _ c.requires (slice_get-get_or _ c.args.row false within) in
-    row ∙ ap (λ v. Some (v && slice_index_or c.args.filter.now.values c.args.row false)) (sym c.is_valid.ensures ∙ c.if-is_valid.false) ∙ ap Some (sym c.if-is_valid.false)
+    row ∙ ap (λ v. Some (v && slice_index_or c.args.filter.now.values c.args.row false)) (sym c.is_valid.ensures.bit ∙ c.if-is_valid.false) ∙ ap Some (sym c.if-is_valid.false)

@@ -2,7 +2,7 @@ use Rattle.std.proofs.Common.{◌-◌, [], ◌∷◌, Err, length, replicate, re
 use Rattle.arrow_types.specs.Slot.{null_slot}
 use Rattle.arrow_memory.specs.Sliced.{sliced}
 use Rattle.arrow_arrays.specs.Any.{any_array_type, any_array_rows, layout_of}
-use Rattle.arrow_growable.proofs.ResultLemmas.{passed_on}
+use Rattle.arrow_flat_growable.proofs.ResultLemmas.{passed_on}
 use Rattle.arrow_select.specs.Growing.{between}
 use Rattle.arrow_select.proofs.GrowLemmas.{holds_none, holds_more, holds_whole, refuses_last, refuses_whole, names_uncrowded, nulls, named}
 use Rattle.arrow_select.proofs.window.append_between.Goals as goal

@@ -5,8 +5,8 @@ use mir.Val.{SFits}
 use Rattle.arrow_types.specs.Fits.{Fits}
 use Rattle.arrow_types.specs.Rows.{shifted}
 use Rattle.arrow_arrays.specs.Any.{any_array_type, any_array_rows}
-use Rattle.arrow_growable.specs.Grown.{Grown}
-use Rattle.arrow_growable.proofs.ResultLemmas.{passed_on}
+use Rattle.arrow_flat_growable.specs.Grown.{Grown}
+use Rattle.arrow_flat_growable.proofs.ResultLemmas.{passed_on}
 use Rattle.arrow_select.specs.Growing.{between}
 use Rattle.arrow_select.proofs.ShiftLemmas.{shifted_back, shifted_forth}
 use Rattle.arrow_select.proofs.window.shift.Goals as goal

@@ -2,7 +2,7 @@ use Rattle.std.proofs.Common.{rules, arith, ◌≡◌, ℕ, zero, suc, Bor, List
 use Rattle.std.specs.List.{All}
 use Rattle.arrow_arrays.specs.Any.{layout_of}
 use Rattle.arrow_arrays.specs.Layout.{Layout, type_of_layout}
-use Rattle.arrow_growable.specs.Grown.{AreOfOneType}
+use Rattle.arrow_flat_growable.specs.Grown.{AreOfOneType}
 use Rattle.arrow_tests.proofs.growable.any.make.Goals as goal
 
 -- two of one type

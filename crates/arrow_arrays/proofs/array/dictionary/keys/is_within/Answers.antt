@@ -12,10 +12,10 @@ value-requires g c =
 
 pub returns-then-not-is_valid : goal.returns-then-not-is_valid
 returns-then-not-is_valid g c =
-    let null = null_row c.args.keys.now.validity _ c.args.i c.validity.ensures.fits c.requires c.if-not-is_valid.ensures in
+    let null = null_row c.args.keys.now.validity _ c.args.i c.validity.ensures.fits c.requires c.if-not-is_valid.ensures.bit in
     rw (null, c.if-not-is_valid.true) (λ _. tt, λ _. search rules)
 
 pub returns-else-not-is_valid : goal.returns-else-not-is_valid
 returns-else-not-is_valid g c =
-    let row = number_row g.K.NativeType.slot g.K.NativeOrd.number g.met.K.NativeOrd.slot_is_number c.args.keys.now.validity c.args.keys.now.values c.args.i c.value.result c.validity.ensures.fits c.requires c.if-not-is_valid.ensures c.value.ensures in
+    let row = number_row g.K.NativeType.slot g.K.NativeOrd.number g.met.K.NativeOrd.slot_is_number c.args.keys.now.validity c.args.keys.now.values c.args.i c.value.result c.validity.ensures.fits c.requires c.if-not-is_valid.ensures.bit c.value.ensures in
     key_in_range c.args.len _ _ c.in_range.result row c.in_range.ensures

@@ -1,0 +1,129 @@
+//! Arrays of nulls and arrays without rows.
+
+use crate::arrays::refused::check_refused;
+use crate::lent::check_same;
+use arrow_arrays::array::{AnyArray, new_empty_array, new_null_array};
+use arrow_arrays_fixture::arrays::{Shape, both, flat, make_union};
+use arrow_fixture::check;
+use arrow_fixture::read::read;
+use arrow_types::datatypes::DataType;
+use arrow_types::error::{Error, SpecPart};
+use std::alloc::Global;
+use std::process::Abort;
+
+/// Types of each layout, each with the number of nulls in two null rows of it.
+const TYPES: [(&str, usize); 20] = [
+    ("null", 2),
+    ("bool", 2),
+    ("i8", 2),
+    ("u64", 2),
+    ("decimal256:76:2", 2),
+    ("date32", 2),
+    ("utf8", 2),
+    ("large_utf8", 2),
+    ("binary", 2),
+    ("large_binary", 2),
+    ("fixed_binary:3", 2),
+    ("bool extension:named", 2),
+    ("i8 list", 2),
+    ("utf8 large_list", 2),
+    ("utf8 i8 struct map", 2),
+    ("i8 fixed_list:3 fixed_list:2", 2),
+    ("null i8 struct extension:named", 2),
+    ("utf8 dictionary:u16", 2),
+    // a row of a union is never null
+    ("i8 utf8 union:sparse:5,7", 0),
+    ("i8 utf8 union:dense:5,7", 0),
+];
+
+/// No row of a type, and two, of which so many are null.
+fn check_type(
+    rt: &(impl Abort + Alloc<A = Global>),
+    data_type: &DataType,
+    null_count: usize,
+) -> Result<(), Error> {
+    assert!(rt; data_type.is_carried());
+    let empty = new_empty_array(rt.alloc(), data_type.clone()?)?;
+    check!(rt; empty.len() == 0 && empty.data_type() == data_type);
+    let nulls = new_null_array(rt.alloc(), data_type.clone()?, 2)?;
+    check!(rt; nulls.len() == 2 && nulls.null_count() == null_count);
+    check!(rt; nulls.data_type() == data_type);
+    Ok(())
+}
+
+pub fn check_types(rt: &(impl Abort + Alloc<A = Global>)) -> Result<(), Error> {
+    for (text, null_count) in &TYPES {
+        check_type(rt, &read(rt.alloc(), text)?, *null_count)?;
+    }
+    Ok(())
+}
+
+/// So many null rows of a type.
+fn nulls(
+    rt: &(impl Abort + Alloc<A = Global>),
+    text: &str,
+    count: usize,
+) -> Result<AnyArray, Error> {
+    let data_type = read(rt.alloc(), text)?;
+    assert!(rt; data_type.is_carried());
+    new_null_array(rt.alloc(), data_type, count)
+}
+
+/// Null rows are equal to rows that are null, whatever lies beneath.
+pub fn check_equal(rt: &(impl Abort + Alloc<A = Global>)) -> Result<(), Error> {
+    for (text, shape) in [
+        ("null", Shape::Null),
+        ("bool", Shape::Boolean),
+        ("i32", Shape::Number),
+        ("utf8", Shape::Utf8),
+        ("fixed_binary:3", Shape::FixedSizeBinary),
+    ] {
+        let rows = flat(rt.alloc(), shape, b"AB")?;
+        check_same(rt, &nulls(rt, text, 2)?, &rows);
+    }
+    Ok(())
+}
+
+/// Items that are not counted: at two rows, and not at one.
+pub fn check_overflow(rt: &(impl Abort + Alloc<A = Global>)) -> Result<(), Error> {
+    let half = "null fixed_list:9223372036854775808";
+    check!(rt; nulls(rt, half, 1)?.len() == 1);
+    for text in [half, "fixed_binary:9223372036854775808"] {
+        match nulls(rt, text, 2) {
+            Err(Error::Overflow) => {}
+            Err(error) => return Err(error),
+            Ok(_) => rt.panic("no overflow"),
+        }
+    }
+    Ok(())
+}
+
+/// Null rows of a union are null rows of its first field, by the type id of that: at these places.
+pub fn check_unions(rt: &(impl Abort + Alloc<A = Global>)) -> Result<(), Error> {
+    for (text, place) in [
+        ("i8 utf8 union:sparse:5,7", 1),
+        ("i8 utf8 union:dense:5,7", 0),
+    ] {
+        let AnyArray::Union(array) = nulls(rt, text, 2)? else {
+            rt.panic("no union");
+        };
+        assert!(rt; array.len() == 2);
+        check!(rt; array.index(0) == (0, 0) && array.index(1) == (0, place));
+    }
+    Ok(())
+}
+
+/// A sparse union of numbers and texts, with these type ids and numbers. No text is null.
+fn union_of(alloc: Global, ids: &[i8], letters: &[u8]) -> Result<AnyArray, Error> {
+    let data_type = read(alloc, "i32 utf8 union:sparse:5,7")?;
+    let numbers = flat(alloc, Shape::Number, letters)?;
+    let texts = flat(alloc, Shape::Utf8, &letters.to_ascii_lowercase(alloc)?)?;
+    make_union(alloc, data_type, ids, both(alloc, numbers, texts)?, None)
+}
+
+/// The same rows, built from parts. A type id that no field has makes no union.
+pub fn check_built(rt: &(impl Abort + Alloc<A = Global>)) -> Result<(), Error> {
+    let rows = union_of(rt.alloc(), &[5, 5], b"AB")?;
+    check_same(rt, &nulls(rt, "i32 utf8 union:sparse:5,7", 2)?, &rows);
+    check_refused(rt, union_of(rt.alloc(), &[6], b"A"), SpecPart::TypeId)
+}

@@ -1,0 +1,326 @@
+-- Rows of bytes that come behind others.
+use Rattle.std.proofs.Common.{arith, ◌≡◌, ◌+◌, ◌-◌, ◌<◌, ◌≤◌, ℕ, zero, suc, pos, Bool, true, false, not, List, [], ◌∷◌, ◌++◌, length, map, replicate, take, drop, slice_index, if◌then◌else◌, refl, ap, sym, subst, ◌∙◌}
+use Rattle.std.specs.Prelude.{Result, Ok, Err, OnOk, OnErr, Some, slice_get}
+use Rattle.std.specs.Bool.{beq}
+use Rattle.std.specs.List.{All}
+use Rattle.std.proofs.Math.Seq.{drop-append-add, take-add}
+use Rattle.std.proofs.lemmas.Int.{ints}
+use Rattle.std.proofs.lemmas.List.{length-map, length-drop, length-append, length-replicate, append_assoc, drop-drop, take-append-le, drop-append-le, get_or-take, get_or-drop, get_or-replicate}
+use Rattle.std.proofs.lemmas.List.Sums.{sum_by-append, sum_by-cons}
+use Rattle.std.proofs.lemmas.List.Elements.{All-append, All-take, All-drop}
+use Rattle.arrow_memory.specs.Offsets.{IsOffsets, RisesFrom, last_of, with_rows, counted_on}
+use Rattle.arrow_memory.specs.Sliced.{sliced}
+use Rattle.arrow_memory.proofs.OffsetLemmas.{at_most_last, offsets_rise}
+use Rattle.arrow_memory.proofs.SlicedLemmas.{length-sliced, sliced-sliced}
+use Rattle.arrow_flat.specs.PieceLaws.{pieces-sliced}
+use Rattle.arrow_flat.specs.Pieces.{pieces, pieces_from}
+use Rattle.arrow_flat.proofs.PieceLemmas.{last_of_part, part_of_offsets}
+use Rattle.arrow_flat_growable.specs.Bytes.{AreGrownBytes, filled, total}
+
+-- the last of some offsets
+
+last_behind : (n m : ℕ) (os : List ℕ) → last_of (n ∷ m ∷ os) ≡ last_of (m ∷ os)
+last_behind n m os =
+    let last : length (n ∷ m ∷ os) - 1 ≡ suc (length (m ∷ os) - 1) = omega arith in
+    ap (λ i. slice_index (n ∷ m ∷ os) i) last
+
+last_more : (n : ℕ) (os more : List ℕ) → last_of (n ∷ os ++ more) ≡ last_of (last_of (n ∷ os) ∷ more)
+last_more n [] more = refl
+last_more n (m ∷ os) more =
+    last_behind n m (os ++ more) ∙ (last_more m os more ∙ ap (λ l. last_of (l ∷ more)) (sym (last_behind n m os)))
+
+last_same : (n k : ℕ) → last_of (n ∷ replicate k n) ≡ n
+last_same n zero = refl
+last_same n (suc k) = last_behind n n (replicate k n) ∙ last_same n k
+
+-- rows that come behind others
+
+pieces-more : (n : ℕ) (os more xs : List ℕ) → pieces_from n (os ++ more) xs ≡ pieces_from n os xs ++ pieces_from (last_of (n ∷ os)) more xs
+pieces-more n [] more xs = refl
+pieces-more n (m ∷ os) more xs =
+    ap (λ rows. sliced xs n (m - n) ∷ rows) (pieces-more m os more xs ∙ ap (λ l. pieces_from m os xs ++ pieces_from l more xs) (sym (last_behind n m os)))
+
+-- more bytes change no row before them
+pieces-within : (n : ℕ) (os xs ys : List ℕ) → n ≤ length xs → ((j : ℕ) → j < length os → slice_index os j ≤ length xs) → pieces_from n os (xs ++ ys) ≡ pieces_from n os xs
+pieces-within n [] xs ys low high = refl
+pieces-within n (m ∷ os) xs ys low high =
+    let end : m ≤ length xs = high 0 (omega arith) in
+    let here : sliced (xs ++ ys) n (m - n) ≡ sliced xs n (m - n) =
+    ap (take (m - n)) (drop-append-le n xs ys low) ∙ take-append-le (m - n) (drop n xs) ys (omega (arith, end, length-drop n xs)) in
+    λ i. here i ∷ pieces-within m os xs ys end (λ j within. high (suc j) (omega (arith, within))) i
+
+-- the same rows in a copy of the bytes from one place on
+pieces-moved : (bytes values : List ℕ) (first count n : ℕ) (ns : List ℕ) → first ≤ n → n ≤ first + count → ((j : ℕ) → j < length ns → (first ≤ slice_index ns j) × (slice_index ns j ≤ first + count)) → pieces_from (length bytes + (n - first)) (map (λ k. length bytes + (k - first)) ns) (bytes ++ sliced values first count) ≡ pieces_from n ns values
+pieces-moved bytes values first count n [] low high within = refl
+pieces-moved bytes values first count n (m ∷ ns) low high within =
+    let next = within 0 (omega arith) in
+    let long : length bytes + (m - first) - (length bytes + (n - first)) ≡ m - n = omega (arith, low, next.0) in
+    let back : first + (n - first) ≡ n = omega (arith, low) in
+    let here : sliced (bytes ++ sliced values first count) (length bytes + (n - first)) (length bytes + (m - first) - (length bytes + (n - first))) ≡ sliced values n (m - n) =
+    (λ i. take (long i) (drop-append-add bytes (sliced values first count) (n - first) i)) ∙ (sliced-sliced values first count (n - first) (m - n) (omega (arith, low, high, next.0, next.1)) ∙ ap (λ s. sliced values s (m - n)) back) in
+    λ i. here i ∷ pieces-moved bytes values first count m ns next.0 next.1 (λ j inside. within (suc j) (omega (arith, inside))) i
+
+pieces-empty : (n k : ℕ) (xs : List ℕ) → pieces_from n (replicate k n) xs ≡ replicate k []
+pieces-empty n zero xs = refl
+pieces-empty n (suc k) xs =
+    let none : n - n ≡ 0 = omega arith in
+    λ i. take (none i) (drop n xs) ∷ pieces-empty n k xs i
+
+-- the bytes of all rows
+
+total-from : (n : ℕ) (os xs : List ℕ) → RisesFrom (pos n) (map pos os) → last_of (n ∷ os) ≤ length xs → total (pieces_from n os xs) + n ≡ last_of (n ∷ os)
+total-from n [] xs rises within =
+    let last : last_of (n ∷ []) ≡ n = refl in
+    omega (arith, last)
+total-from n (m ∷ os) xs rises within =
+    let held : IsOffsets (m ∷ os) = record { some = omega arith; rises = (omega (arith, ints), rises.1) } in
+    let last = last_behind n m os in
+    let below : m ≤ last_of (m ∷ os) = at_most_last (m ∷ os) 0 held (omega arith) in
+    let up : n ≤ m = omega (arith, ints, rises.0) in
+    let rest = total-from m os xs rises.1 (omega (arith, within, last)) in
+    omega (arith, sum_by-cons length (sliced xs n (m - n)) (pieces_from m os xs), length-sliced xs n (m - n) (omega (arith, within, last, below, up)), rest, last, below, up)
+
+pub total_pieces : (os xs : List ℕ) → IsOffsets os → last_of os ≤ length xs → total (pieces os xs) + slice_index os 0 ≡ last_of os
+total_pieces [] xs held within = absurd (omega (arith, held.some))
+total_pieces (n ∷ os) xs held within = total-from n os xs held.rises.1 within
+
+-- rows of no bytes behind others
+
+pub empty_rows : (os bytes : List ℕ) (k : ℕ) → IsOffsets os → pieces (os ++ replicate k (last_of os)) bytes ≡ pieces os bytes ++ replicate k []
+empty_rows [] bytes k held = absurd (omega (arith, held.some))
+empty_rows (n ∷ os) bytes k held =
+    pieces-more n os (replicate k (last_of (n ∷ os))) bytes ∙ ap (λ rows. pieces_from n os bytes ++ rows) (pieces-empty (last_of (n ∷ os)) k bytes)
+
+pub empty_ends : (os : List ℕ) (k : ℕ) → IsOffsets os → last_of (os ++ replicate k (last_of os)) ≡ last_of os
+empty_ends [] k held = absurd (omega (arith, held.some))
+empty_ends (n ∷ os) k held = last_more n os (replicate k (last_of (n ∷ os))) ∙ last_same (last_of (n ∷ os)) k
+
+pub same_begin : (os more : List ℕ) → IsOffsets os → slice_index (os ++ more) 0 ≡ slice_index os 0
+same_begin [] more held = absurd (omega (arith, held.some))
+same_begin (n ∷ os) more held = refl
+
+-- rows of others behind one's own
+
+part_cut : (os : List ℕ) (start len : ℕ) → start < length os → sliced os start (len + 1) ≡ slice_index os start ∷ sliced os (start + 1) len
+part_cut [] start len within = absurd (omega (arith, within))
+part_cut (n ∷ os) zero len within =
+    let next : len + 1 ≡ suc len = omega arith in
+    rw next refl
+part_cut (n ∷ os) (suc start) len within =
+    let next : suc start + 1 ≡ suc (start + 1) = omega arith in
+    rw next (part_cut os start len (omega (arith, within)))
+
+mapped_at : (f : ℕ → ℕ) (xs : List ℕ) (i : ℕ) → i < length xs → slice_index (map f xs) i ≡ f (slice_index xs i)
+mapped_at f [] i within = absurd (omega (arith, within))
+mapped_at f (x ∷ xs) zero within = refl
+mapped_at f (x ∷ xs) (suc i) within = mapped_at f xs i (omega (arith, within))
+
+module _ (others values : List ℕ) (start len : ℕ) (held : IsOffsets others) (part : start + len < length others) (within : last_of others ≤ length values) where
+  rise : slice_index others start ≤ slice_index others (start + len)
+  rise = offsets_rise others start (start + len) held (omega arith) part
+
+  part_held : IsOffsets (sliced others start (len + 1))
+  part_held = part_of_offsets others start (len + 1) held (omega (arith, part)) (omega arith)
+
+  part_at : (j : ℕ) → j < len + 1 → slice_index (sliced others start (len + 1)) j ≡ slice_index others (start + j)
+  part_at j inside = get_or-take (len + 1) (drop start others) j 0 inside ∙ get_or-drop start others j 0
+
+  part_last : last_of (sliced others start (len + 1)) ≡ slice_index others (start + len)
+  part_last =
+      let long = length-sliced others start (len + 1) (omega (arith, part)) in
+      let last : length (sliced others start (len + 1)) - 1 ≡ len = omega (arith, long) in
+      ap (λ i. slice_index (sliced others start (len + 1)) i) last ∙ part_at len (omega arith)
+
+  -- the bytes of these rows
+  pub total_part : total (sliced (pieces others values) start len) ≡ slice_index others (start + len) - slice_index others start
+  total_part =
+      let none : start + 0 ≡ start = omega arith in
+      let begins : slice_index (sliced others start (len + 1)) 0 ≡ slice_index others start = part_at 0 (omega arith) ∙ ap (λ i. slice_index others i) none in
+      let all = total_pieces (sliced others start (len + 1)) values part_held (omega (arith, within, last_of_part others start len held (omega (arith, part)))) in
+      let same : total (pieces (sliced others start (len + 1)) values) ≡ total (sliced (pieces others values) start len) = ap total (pieces-sliced others values start len) in
+      omega (arith, all, same, begins, part_last)
+
+  part_rows : pieces_from (slice_index others start) (sliced others (start + 1) len) values ≡ sliced (pieces others values) start len
+  part_rows =
+      ap (λ os. pieces os values) (sym (part_cut others start len (omega (arith, part)))) ∙ pieces-sliced others values start len
+
+  next_at : (j : ℕ) → j < length (sliced others (start + 1) len) → (slice_index others start ≤ slice_index (sliced others (start + 1) len) j) × (slice_index (sliced others (start + 1) len) j ≤ slice_index others start + (slice_index others (start + len) - slice_index others start))
+  next_at j inside =
+      let long = length-sliced others (start + 1) len (omega (arith, part)) in
+      let read : slice_index (sliced others (start + 1) len) j ≡ slice_index others (start + 1 + j) = get_or-take len (drop (start + 1) others) j 0 (omega (arith, inside, long)) ∙ get_or-drop (start + 1) others j 0 in
+      let low = offsets_rise others start (start + 1 + j) held (omega arith) (omega (arith, inside, long, part)) in
+      let high = offsets_rise others (start + 1 + j) (start + len) held (omega (arith, inside, long)) part in
+      (omega (arith, read, low), omega (arith, read, high, rise))
+
+  pub part_moved : (os bytes : List ℕ) → IsOffsets os → last_of os ≡ length bytes → pieces (with_rows os others start len) (bytes ++ sliced values (slice_index others start) (slice_index others (start + len) - slice_index others start)) ≡ pieces os bytes ++ sliced (pieces others values) start len
+  part_moved [] bytes sound ends = absurd (omega (arith, sound.some))
+  part_moved (n ∷ os) bytes sound ends =
+      let first = slice_index others start in
+      let count = slice_index others (start + len) - slice_index others start in
+      let ns = sliced others (start + 1) len in
+      let all = bytes ++ sliced values first count in
+      let zero_first : length bytes + (first - first) ≡ length bytes = omega arith in
+      let place : last_of (n ∷ os) ≡ length bytes + (first - first) = ends ∙ sym zero_first in
+      let old : pieces_from n os all ≡ pieces_from n os bytes =
+      pieces-within n os bytes (sliced values first count) (omega (arith, ends, at_most_last (n ∷ os) 0 sound (omega arith))) (λ j inside. omega (arith, ends, at_most_last (n ∷ os) (suc j) sound (omega (arith, inside)))) in
+      let new : pieces_from (last_of (n ∷ os)) (counted_on (last_of (n ∷ os)) others start len) all ≡ sliced (pieces others values) start len =
+      (λ i. pieces_from (place i) (map (λ k. ends i + (k - first)) ns) all) ∙ (pieces-moved bytes values first count first ns (omega arith) (omega arith) next_at ∙ part_rows) in
+      pieces-more n os (counted_on (last_of (n ∷ os)) others start len) all ∙ (λ i. old i ++ new i)
+
+  pub part_ends : (os : List ℕ) → IsOffsets os → last_of (with_rows os others start len) ≡ last_of os + (slice_index others (start + len) - slice_index others start)
+  part_ends [] sound = absurd (omega (arith, sound.some))
+  part_ends (n ∷ os) sound =
+      let first = slice_index others start in
+      let last = last_of (n ∷ os) in
+      let counted : ℕ → ℕ = λ k. last + (k - first) in
+      let ns = sliced others (start + 1) len in
+      let begins : last ≡ counted first = omega arith in
+      let long = length-map (first ∷ ns) counted in
+      let end : length (map counted (first ∷ ns)) - 1 ≡ length (first ∷ ns) - 1 = omega (arith, long) in
+      let some : length (first ∷ ns) - 1 < length (first ∷ ns) = omega arith in
+      let read : last_of (map counted (first ∷ ns)) ≡ counted (last_of (first ∷ ns)) =
+      ap (λ i. slice_index (map counted (first ∷ ns)) i) end ∙ mapped_at counted (first ∷ ns) (length (first ∷ ns) - 1) some in
+      let cut : last_of (first ∷ ns) ≡ slice_index others (start + len) = ap last_of (sym (part_cut others start len (omega (arith, part)))) ∙ part_last in
+      last_more n os (counted_on last others start len) ∙ (ap (λ l. last_of (l ∷ map counted ns)) begins ∙ (read ∙ ap counted cut))
+
+-- what follows from either answer of a call
+pub on_either : {T E A B P : Type 0} (r : Result T E) → (A → P) → (B → P) → OnOk r A → OnErr r B → P
+on_either (Ok x) f h a b = f a
+on_either (Err e) f h a b = h b
+
+all_constant : {A : Type 0} (P : A → Type 0) (n : ℕ) (x : A) → P x → All P (replicate n x)
+all_constant P n x holds = λ k d within. subst P (sym (get_or-replicate n k x d (omega (arith, within, length-replicate n x)))) holds
+
+-- rows of bytes that grow
+module _ (Allows : List ℕ → Type 0) (os bytes : List ℕ) (grown : AreGrownBytes Allows (record { offsets = os; bytes = bytes })) (sound : IsOffsets os) where
+  pub total_grown : total (pieces os bytes) ≡ last_of os
+  total_grown =
+      omega (arith, total_pieces os bytes sound (omega (arith, grown.ends)), grown.begins)
+
+  pub same_grown : (new_os new_bytes : List ℕ) → (new_os ≡ os) × (new_bytes ≡ bytes) → AreGrownBytes Allows (record { offsets = new_os; bytes = new_bytes })
+  same_grown new_os new_bytes is =
+      subst {A = List ℕ × List ℕ} (λ p. AreGrownBytes Allows (record { offsets = p.0; bytes = p.1 })) (λ i. (sym is.0 i, sym is.1 i)) grown
+
+  pub empty_grown : Allows [] → (new_os : List ℕ) (k : ℕ) → new_os ≡ os ++ replicate k (last_of os) → AreGrownBytes Allows (record { offsets = new_os; bytes = bytes })
+  empty_grown empty new_os k is =
+      record {
+        begins = ap (λ ns. slice_index ns 0) is ∙ (same_begin os (replicate k (last_of os)) sound ∙ grown.begins);
+        ends = ap last_of is ∙ (empty_ends os k sound ∙ grown.ends);
+        rows = subst (All Allows) (sym (ap (λ ns. pieces ns bytes) is ∙ empty_rows os bytes k sound)) (All-append Allows (pieces os bytes) (replicate k []) grown.rows (all_constant Allows k [] empty));
+      }
+
+  module _ (others values : List ℕ) (start len : ℕ) (held : IsOffsets others) (part : start + len < length others) (within : last_of others ≤ length values) where
+    pub part_total : total (pieces os bytes ++ sliced (pieces others values) start len) ≡ last_of os + (slice_index others (start + len) - slice_index others start)
+    part_total =
+        omega (arith, sum_by-append length (pieces os bytes) (sliced (pieces others values) start len), total_grown, total_part others values start len held part within)
+
+    pub part_grown : All Allows (pieces others values) → (new_os new_bytes : List ℕ) → (new_os ≡ with_rows os others start len) × (new_bytes ≡ bytes ++ sliced values (slice_index others start) (slice_index others (start + len) - slice_index others start)) → AreGrownBytes Allows (record { offsets = new_os; bytes = new_bytes })
+    part_grown allowed new_os new_bytes is =
+        let first = slice_index others start in
+        let count = slice_index others (start + len) - first in
+        let high = at_most_last others (start + len) held part in
+        let low = offsets_rise others start (start + len) held (omega arith) part in
+        let long : length (sliced values first count) ≡ count = length-sliced values first count (omega (arith, high, low, within)) in
+        let last : last_of new_os ≡ last_of os + count = ap last_of is.0 ∙ part_ends others values start len held part within os sound in
+        let size : length new_bytes ≡ length bytes + count = ap length is.1 ∙ (length-append bytes (sliced values first count) ∙ ap (λ n. length bytes + n) long) in
+        let moved = part_moved others values start len held part within os bytes sound grown.ends in
+        record {
+          begins = ap (λ ns. slice_index ns 0) is.0 ∙ (same_begin os (counted_on (last_of os) others start len) sound ∙ grown.begins);
+          ends = last ∙ (ap (λ n. n + count) grown.ends ∙ sym size);
+          rows = subst (All Allows) (sym ((λ i. pieces (is.0 i) (is.1 i)) ∙ moved)) (All-append Allows (pieces os bytes) (sliced (pieces others values) start len) grown.rows (All-take Allows len _ (All-drop Allows start _ allowed)));
+        }
+
+-- runs of bits
+
+pub same_bit : (a b : Bool) → not (beq a b) ≡ false → a ≡ b
+same_bit true true is = refl
+same_bit true false is = cc
+same_bit false true is = cc
+same_bit false false is = refl
+
+pub run_next : (bits : List Bool) (n : ℕ) (b : Bool) → take n bits ≡ replicate n b → slice_get bits n ≡ Some b → take (n + 1) bits ≡ replicate (n + 1) b
+run_next [] n b same read = cc
+run_next (x ∷ bits) zero b same read =
+    let is : x ≡ b = cc in
+    ap (λ y. y ∷ []) is
+run_next (x ∷ bits) (suc n) b same read =
+    let next : suc n + 1 ≡ suc (n + 1) = omega arith in
+    let head : x ≡ b = cc (same) in
+    let tail : take n bits ≡ replicate n b = ap (drop 1) same in
+    rw next (λ i. head i ∷ run_next bits n b tail read i)
+
+pub get_dropped : (bits : List Bool) (start n : ℕ) → slice_get (drop start bits) n ≡ slice_get bits (start + n)
+get_dropped bits zero n =
+    let same : zero + n ≡ n = omega arith in
+    rw same refl
+get_dropped [] (suc start) n = refl
+get_dropped (x ∷ bits) (suc start) n =
+    let next : suc start + n ≡ suc (start + n) = omega arith in
+    rw next (get_dropped bits start n)
+
+-- bits that are one from a place up to another, and the bit there
+pub run_more : (bits : List Bool) (start place : ℕ) (b : Bool) → start ≤ place → sliced bits start (place - start) ≡ replicate (place - start) b → slice_get bits place ≡ Some b → sliced bits start (place + 1 - start) ≡ replicate (place + 1 - start) b
+run_more bits start place b order same read =
+    let at : start + (place - start) ≡ place = omega (arith, order) in
+    let next : place + 1 - start ≡ place - start + 1 = omega (arith, order) in
+    rw next (run_next (drop start bits) (place - start) b same (get_dropped bits start (place - start) ∙ (ap (slice_get bits) at ∙ read)))
+
+-- rows under their bits
+
+filled-append : (bits more : List Bool) (rows others : List (List ℕ)) → length bits ≡ length rows → filled (bits ++ more) (rows ++ others) ≡ filled bits rows ++ filled more others
+filled-append [] more [] others same = refl
+filled-append [] more (row ∷ rows) others same = absurd (omega (arith, same))
+filled-append (b ∷ bits) more [] others same = absurd (omega (arith, same))
+filled-append (b ∷ bits) more (row ∷ rows) others same =
+    ap (λ ys. (if b then row else []) ∷ ys) (filled-append bits more rows others (omega (arith, same)))
+
+filled-set : (n : ℕ) (rows : List (List ℕ)) → length rows ≡ n → filled (replicate n true) rows ≡ rows
+filled-set zero [] same = refl
+filled-set zero (row ∷ rows) same = absurd (omega (arith, same))
+filled-set (suc n) [] same = absurd (omega (arith, same))
+filled-set (suc n) (row ∷ rows) same = ap (λ ys. row ∷ ys) (filled-set n rows (omega (arith, same)))
+
+filled-unset : (n : ℕ) (rows : List (List ℕ)) → length rows ≡ n → filled (replicate n false) rows ≡ replicate n []
+filled-unset zero [] same = refl
+filled-unset zero (row ∷ rows) same = absurd (omega (arith, same))
+filled-unset (suc n) [] same = absurd (omega (arith, same))
+filled-unset (suc n) (row ∷ rows) same = ap (λ ys. [] ∷ ys) (filled-unset n rows (omega (arith, same)))
+
+pub run_set : (b : Bool) (rows : List (List ℕ)) (start len : ℕ) → b ≡ true → start + len ≤ length rows → filled (replicate len b) (sliced rows start len) ≡ sliced rows start len
+run_set b rows start len is within =
+    ap (λ c. filled (replicate len c) (sliced rows start len)) is ∙ filled-set len (sliced rows start len) (length-sliced rows start len within)
+
+pub run_unset : (b : Bool) (rows : List (List ℕ)) (start len : ℕ) → b ≡ false → start + len ≤ length rows → filled (replicate len b) (sliced rows start len) ≡ replicate len []
+run_unset b rows start len is within =
+    ap (λ c. filled (replicate len c) (sliced rows start len)) is ∙ filled-unset len (sliced rows start len) (length-sliced rows start len within)
+
+sliced-cut : {A : Type 0} (xs : List A) (start place end : ℕ) → start ≤ place → place ≤ end → sliced xs start (place - start) ++ sliced xs place (end - place) ≡ sliced xs start (end - start)
+sliced-cut xs start place end low high =
+    let at : start + (place - start) ≡ place = omega (arith, low) in
+    let all : end - start ≡ place - start + (end - place) = omega (arith, low, high) in
+    let behind : drop (place - start) (drop start xs) ≡ drop place xs = drop-drop (place - start) start xs ∙ ap (λ n. drop n xs) at in
+    rw all (sym (take-add (place - start) (end - place) (drop start xs) ∙ ap (λ ys. take (place - start) (drop start xs) ++ take (end - place) ys) behind))
+
+module _ (bits : List Bool) (rows : List (List ℕ)) (start : ℕ) (covered : length bits ≡ length rows) where
+  filled-cut : (place end : ℕ) → start ≤ place → place ≤ end → end ≤ length bits → filled (sliced bits start (place - start)) (sliced rows start (place - start)) ++ filled (sliced bits place (end - place)) (sliced rows place (end - place)) ≡ filled (sliced bits start (end - start)) (sliced rows start (end - start))
+  filled-cut place end low high within =
+      let bits_long = length-sliced bits start (place - start) (omega (arith, low, high, within)) in
+      let rows_long = length-sliced rows start (place - start) (omega (arith, low, high, within, covered)) in
+      sym (filled-append (sliced bits start (place - start)) (sliced bits place (end - place)) (sliced rows start (place - start)) (sliced rows place (end - place)) (bits_long ∙ sym rows_long)) ∙ (λ i. filled (sliced-cut bits start place end low high i) (sliced-cut rows start place end low high i))
+
+  -- one run more
+  pub runs_more : (old now new : List (List ℕ)) (place next : ℕ) (b : Bool) → start ≤ place → place < next → next ≤ length bits → sliced bits place (next - place) ≡ replicate (next - place) b → now ≡ old ++ filled (sliced bits start (place - start)) (sliced rows start (place - start)) → new ≡ now ++ filled (replicate (next - place) b) (sliced rows place (next - place)) → new ≡ old ++ filled (sliced bits start (next - start)) (sliced rows start (next - start))
+  runs_more old now new place next b low high within run before after =
+      let done = filled (sliced bits start (place - start)) (sliced rows start (place - start)) in
+      after ∙ ((λ i. before i ++ filled (sym run i) (sliced rows place (next - place))) ∙ (append_assoc old done (filled (sliced bits place (next - place)) (sliced rows place (next - place))) ∙ ap (λ ys. old ++ ys) (filled-cut place next low (omega (arith, high)) within)))
+
+  -- and what has too many bytes then has too many at the end
+  pub runs_pass : (greatest : ℕ) (old now : List (List ℕ)) (place next end : ℕ) (b : Bool) → start ≤ place → place < next → next ≤ end → end ≤ length bits → sliced bits place (next - place) ≡ replicate (next - place) b → now ≡ old ++ filled (sliced bits start (place - start)) (sliced rows start (place - start)) → greatest < total (now ++ filled (replicate (next - place) b) (sliced rows place (next - place))) → greatest < total (old ++ filled (sliced bits start (end - start)) (sliced rows start (end - start)))
+  runs_pass greatest old now place next end b low high order within run before passes =
+      let new = now ++ filled (replicate (next - place) b) (sliced rows place (next - place)) in
+      let part = filled (sliced bits start (next - start)) (sliced rows start (next - start)) in
+      let rest = filled (sliced bits next (end - next)) (sliced rows next (end - next)) in
+      let is : new ≡ old ++ part = runs_more old now new place next b low high (omega (arith, order, within)) run before refl in
+      let all : total (part ++ rest) ≡ total (filled (sliced bits start (end - start)) (sliced rows start (end - start))) = ap total (filled-cut next end (omega (arith, low, high)) order within) in
+      let seen : total new ≡ total (old ++ part) = ap total is in
+      omega (arith, passes, seen, all, sum_by-append length old part, sum_by-append length part rest, sum_by-append length old (filled (sliced bits start (end - start)) (sliced rows start (end - start))))

@@ -1,0 +1,43 @@
+-- Which rows fit a type by their count alone.
+use Rattle.std.proofs.Common.{◌≡◌, ◌*◌, ◌<◌, ◌^◌, Bool, true, false, List, length, refl, arith}
+use Rattle.arrow_types.specs.declared.datatypes.physical_type.PhysicalType.{PhysicalType}
+use Rattle.arrow_types.specs.declared.datatypes.physical_type.PhysicalType.TheVariants as physical
+use Rattle.arrow_types.specs.ArrowType.{ArrowType, PlainType, plain, list, struct, union, dictionary, extension, null, binary, large_binary, utf8, large_utf8, fixed_size_binary, small, large, fixed_size, mapped}
+use Rattle.arrow_types.specs.Fits.{Fits}
+use Rattle.arrow_types.specs.Physical.{physical_type_of, plain_physical_type}
+use Rattle.arrow_types.specs.Slot.{Slot}
+use Rattle.arrow_flat.specs.FixedRows.{fixed_size_in}
+use Rattle.arrow_flat_growable.specs.FlatLaws.{is_counted, fits_counted}
+
+-- whether rows that lie so fit by nothing but their count
+abbrev pub is_only_counted : PhysicalType → Bool
+is_only_counted physical.Boolean = true
+is_only_counted (physical.Primitive element) = true
+is_only_counted _ = false
+
+plain_without_bytes : (p : PlainType) → is_only_counted (plain_physical_type p) ≡ true → (fixed_size_in (plain p) ≡ 0) × (is_counted (plain_physical_type p) ≡ true)
+plain_without_bytes null kind = cc
+plain_without_bytes utf8 kind = cc
+plain_without_bytes binary kind = cc
+plain_without_bytes large_utf8 kind = cc
+plain_without_bytes large_binary kind = cc
+plain_without_bytes (fixed_size_binary s) kind = cc
+plain_without_bytes _ kind = (refl, refl)
+
+without_bytes : (t : ArrowType) → is_only_counted (physical_type_of t) ≡ true → (fixed_size_in t ≡ 0) × (is_counted (physical_type_of t) ≡ true)
+without_bytes (plain p) kind = plain_without_bytes p kind
+without_bytes (list small f) kind = cc
+without_bytes (list large f) kind = cc
+without_bytes (list (fixed_size s) f) kind = cc
+without_bytes (list (mapped sorted) f) kind = cc
+without_bytes (struct fs) kind = cc
+without_bytes (union mode ids fs) kind = cc
+without_bytes (dictionary keys ordered t) kind = cc
+without_bytes (extension name metadata t) kind = without_bytes t kind
+
+-- then rows fit where they are counted
+pub fits_only_counted : (t : ArrowType) (xs : List Slot) → is_only_counted (physical_type_of t) ≡ true → length xs < 2 ^ 64 → Fits t xs
+fits_only_counted t xs kind count =
+    let plain = without_bytes t kind in
+    let none : fixed_size_in t * length xs ≡ 0 = rw plain.0 (omega arith) in
+    fits_counted t xs plain.1 count (omega (arith, none))

@@ -1,0 +1,50 @@
+-- A flat array under construction: what is stored and its bits, one part behind the other.
+use Rattle.std.proofs.Common.{arith, ◌≡◌, ◌+◌, ◌≤◌, ◌<◌, ◌^◌, ℕ, Bool, false, List, [], ◌∷◌, ◌++◌, length, map, get_or, ap, sym, ◌∙◌}
+use Rattle.std.specs.List.{All}
+use Rattle.std.proofs.lemmas.List.{length-append, get_or-map}
+use Rattle.arrow_types.specs.ArrowType.{ArrowType}
+use Rattle.arrow_types.specs.Carried.{IsCarried}
+use Rattle.arrow_types.specs.Fits.{Fits}
+use Rattle.arrow_types.specs.Rows.{mask}
+use Rattle.arrow_types.specs.Slot.{Slot}
+use Rattle.arrow_arrays.specs.Layout.{Layout, type_of_layout}
+use Rattle.arrow_types.proofs.FitsLemmas.{Fits-nil}
+use Rattle.arrow_types.proofs.RowsLemmas.{length-mask}
+use Rattle.arrow_flat_growable.specs.Flat.{IsGrownFlat}
+use Rattle.arrow_flat_growable.specs.FlatLaws.{fits_count}
+use Rattle.arrow_flat_growable.specs.Grown.{first_type, source_at}
+use Rattle.arrow_flat_growable.specs.MaskLaws.{mask-append}
+
+-- the layout of an array that is bound
+pub source_is : {A : Type 0} (f : A → Layout) (arrays : List A) (i : ℕ) (x : A) → i < length arrays → x ≡ get_or arrays i x → source_at (map f arrays) i ≡ f x
+source_is f arrays i x bound read = get_or-map f arrays i x _ bound ∙ ap f (sym read)
+
+-- rows under bits, and more of both behind them
+pub appended_rows : (bits more : List Bool) (stored part ys : List Slot) → length bits ≡ length stored → mask more part ≡ ys → mask (bits ++ more) (stored ++ part) ≡ mask bits stored ++ ys
+appended_rows bits more stored part ys same is =
+    mask-append bits more stored part same ∙ ap (λ zs. mask bits stored ++ zs) is
+
+-- as many of both
+pub appended_lengths : (bits more : List Bool) (stored part : List Slot) (n : ℕ) → length bits ≡ length stored → length more ≡ n → length part ≡ n → length (bits ++ more) ≡ length (stored ++ part)
+appended_lengths bits more stored part n same bits_more part_more =
+    omega (arith, same, bits_more, part_more, length-append bits more, length-append stored part)
+
+-- what is stored in one without rows
+pub sound_empty : {G : Type 0} (slots : G → List Slot) (are_of : G → ArrowType → Type 0) (spares : List Bool → List Slot → Type 0) (values : G) (bits : List Bool) (layouts : List Layout) (t : ArrowType) → IsCarried t → All (λ l. type_of_layout l ≡ t) layouts → are_of values t → slots values ≡ [] → bits ≡ [] → spares [] [] → IsGrownFlat slots are_of spares values bits 0 layouts t false
+sound_empty slots are_of spares values bits layouts t carried one_type kind stored none spared =
+    record { carried = carried; one_type = one_type; kind = kind; counted = λ sound. ap length none; covers = λ sound. record { covered = ap length none ∙ sym (ap length stored); spared = rw (none, stored) spared }; fits = λ sound. rw stored (Fits-nil t) }
+
+-- one that has not failed counts its rows
+pub counts_rows : {G : Type 0} (slots : G → List Slot) (are_of : G → ArrowType → Type 0) (spares : List Bool → List Slot → Type 0) (values : G) (bits : List Bool) (len : ℕ) (layouts : List Layout) (t : ArrowType) (failed : Bool) → IsGrownFlat slots are_of spares values bits len layouts t failed → failed ≡ false → len ≡ length (mask bits (slots values))
+counts_rows slots are_of spares values bits len layouts t failed sound well =
+    sym (length-mask bits (slots values) ((sound.covers well).covered) ∙ (sym ((sound.covers well).covered) ∙ sound.counted well))
+
+-- rows that fit are not more than can be counted
+pub too_many : (t : ArrowType) (xs more : List Slot) (len n : ℕ) → Fits t (xs ++ more) → len ≡ length xs → length more ≡ n → 2 ^ 64 ≤ len + n → ⊥
+too_many t xs more len n fits count many over =
+    omega (arith, fits_count t (xs ++ more) fits, length-append xs more, count, many, over)
+
+-- the type of the first of some arrays that are bound
+pub first_is : {A : Type 0} (f : A → Layout) (arrays : List A) (x : A) → 0 < length arrays → x ≡ get_or arrays 0 x → first_type (map f arrays) ≡ type_of_layout (f x)
+first_is f [] x some read = absurd (omega (arith, some))
+first_is f (y ∷ arrays) x some read = ap (λ z. type_of_layout (f z)) (sym read)

@@ -1,0 +1,9 @@
+pub mod ByteLemmas
+pub mod FitsLemmas
+pub mod FixedRowsLemmas
+pub mod FlatLemmas
+pub mod MaskLemmas
+pub mod NullLemmas
+pub mod ResultLemmas
+pub mod StoreLemmas
+pub mod ValidityLemmas

@@ -1,0 +1,334 @@
+//! What texts and bytes under construction share.
+
+ghost use Rattle.std.specs.Prelude.{◌≡◌, ◌+◌, ◌-◌, ◌<◌, ◌≤◌, [], ◌++◌, Bool, List, ℕ, length, map, replicate, slice_index, Err, IfOk, IfErr, OnOk, OnErr, IsOkUnless, refl};
+ghost use Rattle.std.specs.List.{All};
+ghost use Rattle.arrow_types.specs.declared.error.Error.{Error};
+ghost use Rattle.arrow_types.specs.Fits.{byte_count};
+ghost use Rattle.arrow_types.specs.Physical.{physical_type_of};
+ghost use Rattle.arrow_memory.specs.Grown.{IsGrowthError};
+ghost use Rattle.arrow_memory.specs.Offsets.{IsOffsets, last_of, with_rows};
+ghost use Rattle.arrow_memory.specs.Sliced.{sliced};
+ghost use Rattle.arrow_flat.specs.ByteRows.{byte_slots, row_bytes};
+ghost use Rattle.arrow_flat.specs.Pieces.{pieces};
+ghost use Rattle.arrow_flat_growable.specs.Bytes.{IsBytesType, SparesBytes, filled, stored_rows, total};
+
+use crate::growable::flat::GrowableValues;
+use arrow_arrays::array::{AnyArray, AnyOffset, AnyRows};
+use arrow_flat::array::{ByteKind, ByteRows, FlatArray};
+use arrow_memory::bitmap::Bitmap;
+use arrow_memory::buffer::Buffer;
+use arrow_memory::offset::{Offsets, OffsetsBuffer};
+use arrow_types::datatypes::DataType;
+use arrow_types::error::Error;
+use arrow_types::types::Offset;
+use std::alloc::Global;
+use std::marker::{Model, PhantomData};
+
+/// Which rows of bytes can grow.
+pub trait GrowableKind: AnyRows {
+    // a row may be without bytes
+    ghost allows_empty: { Self.Allows [] };
+
+    // a row has the bytes that are counted
+    ghost counts: { (bytes : List ℕ) → byte_count (Self.slot bytes) ≡ length bytes };
+
+    // arrays of them lie in memory as texts or bytes
+    ghost lies_as_bytes: { (is_large : Bool) → IsBytesType is_large (Self.physical_type is_large) };
+}
+
+/// Rows of bytes that lie one behind the other, and that rows are appended to. A null row has no bytes.
+#[derive(Drop)]
+pub struct GrowableBytes<O: Offset, K: ByteKind> {
+    offsets: Offsets<O>,
+    bytes: Vec<u8>,
+    kind: PhantomData<K>,
+}
+
+impl<O: Offset, K: ByteKind> Model for GrowableBytes<O, K> {
+    ghost use Rattle.arrow_flat.specs.ByteRows.{ByteParts, byte_parts_code};
+    ghost use Rattle.arrow_flat_growable.specs.Bytes.{AreGrownBytes};
+
+    ghost Value = { ByteParts };
+
+    ghost coded = { byte_parts_code };
+
+    ghost view = { λ a. record { offsets = a.offsets; bytes = a.bytes.items } };
+
+    ghost invariant = { λ a. AreGrownBytes K.Allows (record { offsets = a.offsets; bytes = a.bytes.items }) };
+}
+
+impl<O: Offset, K: GrowableKind> GrowableBytes<O, K> {
+    /// No rows, and room for so many, but for their bytes.
+    fn empty(alloc: Global, capacity: usize) -> Result<GrowableBytes<O, K>, Error>
+        ensures ok { IfOk result (λ rows. row_bytes rows ≡ []) }
+        ensures err { IsOkUnless result Error.OutOfMemory }
+    {
+        Ok(GrowableBytes {
+            offsets: Offsets::with_capacity(alloc, capacity)?,
+            bytes: Vec::new(alloc),
+            kind: PhantomData,
+        })
+    }
+
+    /// How many rows there are.
+    fn len(&self) -> usize
+        ensures rows { result ≡ length (row_bytes self.now) }
+        ensures bytes { total (row_bytes self.now) ≤ O.greatest }
+    {
+        // The last offset is the count of all bytes, and at most the greatest of its type.
+        let _ = self.offsets.last().to_usize();
+        self.offsets.len() - 1
+    }
+
+    /// Appends so many rows of no bytes.
+    fn append_empty(&mut self, additional: usize) -> Result<(), Error>
+        ensures ok { OnOk result (row_bytes self.new ≡ row_bytes self.old ++ replicate additional []) }
+        ensures err { IsOkUnless result Error.OutOfMemory }
+    {
+        prove!(0 < self.offsets.len());
+        self.offsets.extend_constant(additional)
+    }
+
+    /// Appends rows of an array, null or not, with their bytes.
+    fn append_all(
+        &mut self,
+        array: &FlatArray<ByteRows<O, K>>,
+        start: usize,
+        len: usize,
+    ) -> Result<(), Error>
+        requires some { 0 < len }
+        requires part { start + len ≤ length (row_bytes array.now.values) }
+        ensures ok { OnOk result (row_bytes self.new ≡ row_bytes self.old ++ sliced (row_bytes array.now.values) start len) }
+        ensures overflow { result ≡ Err Error.Overflow → O.greatest < total (row_bytes self.old ++ sliced (row_bytes array.now.values) start len) }
+        ensures others { IfErr result IsGrowthError }
+    {
+        let (rows, values) = parts(array);
+        copy_rows(&mut self.offsets, &mut self.bytes, rows, values, start, len)
+    }
+
+    /// Appends a run of rows of an array that are all valid or all null.
+    fn append_run(
+        &mut self,
+        array: &FlatArray<ByteRows<O, K>>,
+        is_valid: bool,
+        start: usize,
+        len: usize,
+    ) -> Result<(), Error>
+        requires some { 0 < len }
+        requires part { start + len ≤ length (row_bytes array.now.values) }
+        ensures ok { OnOk result (row_bytes self.new ≡ row_bytes self.old ++ filled (replicate len is_valid) (sliced (row_bytes array.now.values) start len)) }
+        ensures overflow { result ≡ Err Error.Overflow → O.greatest < total (row_bytes self.old ++ filled (replicate len is_valid) (sliced (row_bytes array.now.values) start len)) }
+        ensures others { IfErr result IsGrowthError }
+    {
+        if is_valid {
+            self.append_all(array, start, len)
+        } else {
+            self.append_empty(len)
+        }
+    }
+
+    /// Appends rows of an array under its validity, a run at a time.
+    fn append_runs(
+        &mut self,
+        array: &FlatArray<ByteRows<O, K>>,
+        validity: &Bitmap,
+        start: usize,
+        end: usize,
+    ) -> Result<(), Error>
+        requires order { start ≤ end }
+        requires covered { length validity.now ≡ length (row_bytes array.now.values) }
+        requires part { end ≤ length validity.now }
+        ensures ok { OnOk result (row_bytes self.new ≡ row_bytes self.old ++ filled (sliced validity.now start (end - start)) (sliced (row_bytes array.now.values) start (end - start))) }
+        ensures overflow { result ≡ Err Error.Overflow → O.greatest < total (row_bytes self.old ++ filled (sliced validity.now start (end - start)) (sliced (row_bytes array.now.values) start (end - start))) }
+        ensures others { IfErr result IsGrowthError }
+    {
+        let mut row = start;
+        while row < end {
+            let (is_valid, next) = validity.run_at(row, end);
+            self.append_run(array, is_valid, row, next - row)?;
+            row = next;
+        }
+        Ok(())
+    }
+
+    /// Appends rows of an array, those that are null without bytes.
+    fn append(
+        &mut self,
+        array: &FlatArray<ByteRows<O, K>>,
+        start: usize,
+        len: usize,
+    ) -> Result<(), Error>
+        requires { start + len ≤ length (row_bytes array.now.values) }
+        ensures ok { OnOk result (row_bytes self.new ≡ row_bytes self.old ++ stored_rows array.now.validity array.now.values start len) }
+        ensures overflow { result ≡ Err Error.Overflow → O.greatest < total (row_bytes self.old ++ stored_rows array.now.validity array.now.values start len) }
+        ensures others { IfErr result IsGrowthError }
+    {
+        if len == 0 {
+            return Ok(());
+        }
+        prove!(len <= array.len());
+        match array.validity() {
+            None => self.append_run(array, true, start, len),
+            Some(validity) => self.append_runs(array, validity, start, start + len),
+        }
+    }
+}
+
+/// Where the rows of an array lie, and the bytes that they lie in.
+fn parts<O: Offset, K: ByteKind>(array: &FlatArray<ByteRows<O, K>>) -> (&OffsetsBuffer<O>, &[u8])
+    ensures rows { row_bytes array.now.values ≡ pieces result.0.now result.1.now }
+    ensures within { last_of result.0.now ≤ length result.1.now }
+    ensures allowed { All K.Allows (pieces result.0.now result.1.now) }
+{
+    (array.offsets(), array.values().as_slice())
+}
+
+/// Where the bytes of `len` rows from row `start` on begin and end.
+fn span<O: Offset>(rows: &OffsetsBuffer<O>, start: usize, len: usize) -> (usize, usize)
+    requires some { 0 < len }
+    requires part { start + len < length rows.now }
+    ensures start { result.0 ≡ slice_index rows.now start }
+    ensures end { result.1 ≡ slice_index rows.now (start + len) }
+    ensures rises { result.0 ≤ result.1 }
+    ensures within { result.1 ≤ last_of rows.now }
+    ensures sound { IsOffsets rows.now }
+{
+    prove!(start < rows.len());
+    let (first, _) = rows.start_end(start);
+    let (_, end) = rows.start_end(start + (len - 1));
+    (first, end)
+}
+
+/// Appends rows that others name in their bytes. Where that is refused, all is as before.
+fn copy_rows<O: Offset>(
+    offsets: &mut Offsets<O>,
+    bytes: &mut Vec<u8>,
+    rows: &OffsetsBuffer<O>,
+    values: &[u8],
+    start: usize,
+    len: usize,
+) -> Result<(), Error>
+    requires some { 0 < len }
+    requires part { start + len < length rows.now }
+    requires within { last_of rows.now ≤ length values.now }
+    ensures sound { IsOffsets offsets.old }
+    ensures rows_sound { IsOffsets rows.now }
+    ensures ok { OnOk result ((offsets.new ≡ with_rows offsets.old rows.now start len) × (bytes.new.items ≡ bytes.old.items ++ sliced values.now (slice_index rows.now start) (slice_index rows.now (start + len) - slice_index rows.now start))) }
+    ensures overflow { result ≡ Err Error.Overflow → O.greatest < last_of offsets.old + (slice_index rows.now (start + len) - slice_index rows.now start) }
+    ensures others { IfErr result IsGrowthError }
+    ensures unchanged { OnErr result ((offsets.new ≡ offsets.old) × (bytes.new.items ≡ bytes.old.items)) }
+{
+    prove!(0 < offsets.len());
+    let (first, end) = span(rows, start, len);
+    let part = &values[first..end];
+    bytes.reserve(part.len())?;
+    offsets.try_extend_from_slice(rows, start, len)?;
+    let Ok(()) = bytes.extend_from_slice(part) else {
+        unreachable!();
+    };
+    Ok(())
+}
+
+impl<O: AnyOffset, K: GrowableKind> GrowableValues for GrowableBytes<O, K> {
+    ghost use Rattle.std.proofs.lemmas.List.{length-replicate};
+    ghost use Rattle.arrow_flat_growable.specs.ByteLaws as laws;
+
+    type Array = FlatArray<ByteRows<O, K>>;
+
+    ghost type_in = { λ array. array.arrow_type };
+
+    ghost bits_in = { λ array. array.validity };
+
+    ghost stored_in = { λ array. byte_slots K.slot array.values };
+
+    ghost slots = { byte_slots K.slot };
+
+    ghost are_of = { λ rows t. physical_type_of t ≡ K.physical_type O.IS_LARGE };
+
+    ghost kind = { K.any_kind O.IS_LARGE };
+
+    ghost stored_slice = { λ array start len. map K.slot (stored_rows array.validity array.values start len) };
+
+    ghost blanks = { λ rows n. replicate n (K.slot []) };
+
+    ghost spares = { SparesBytes };
+
+    fn data_type(array: &FlatArray<ByteRows<O, K>>) -> &DataType {
+        array.data_type()
+    }
+
+    fn validity(array: &FlatArray<ByteRows<O, K>>) -> Option<&Bitmap> {
+        array.validity()
+    }
+
+    fn with_capacity(
+        alloc: Global,
+        array: &FlatArray<ByteRows<O, K>>,
+        capacity: usize,
+    ) -> Result<GrowableBytes<O, K>, Error> {
+        // That rows of the type are stored so follows from the array.
+        let _ = array.data_type();
+        GrowableBytes::empty(alloc, capacity)
+    }
+
+    fn fresh(&self) -> Result<GrowableBytes<O, K>, Error> {
+        GrowableBytes::empty(*self.bytes.allocator(), 0)
+    }
+
+    fn extend(
+        &mut self,
+        array: &FlatArray<ByteRows<O, K>>,
+        start: usize,
+        len: usize,
+    ) -> Result<(), Error> {
+        self.append(array, start, len)?;
+        // The bytes are then at most the greatest offset, so the rows fit.
+        let _ = self.len();
+        Ok(())
+    }
+
+    fn extend_nulls(&mut self, additional: usize) -> Result<(), Error> {
+        self.append_empty(additional)?;
+        // The bytes are then at most the greatest offset, so the rows fit.
+        let _ = self.len();
+        Ok(())
+    }
+
+    fn into_array(
+        self,
+        data_type: DataType,
+        validity: Option<Bitmap>,
+    ) -> Result<FlatArray<ByteRows<O, K>>, Error> {
+        let alloc = *self.bytes.allocator();
+        let GrowableBytes { offsets, bytes, .. } = self;
+        let offsets = offsets.into_buffer()?;
+        let bytes = Buffer::from_vec(alloc, bytes)?;
+        Ok(FlatArray::<ByteRows<O, K>>::new(data_type, offsets, bytes, validity))
+    }
+
+    fn of_any(array: &AnyArray) -> &FlatArray<ByteRows<O, K>> {
+        K::of_any(array)
+    }
+
+    fn into_any(array: FlatArray<ByteRows<O, K>>) -> Result<AnyArray, Error> {
+        K::to_any(&array)
+    }
+
+    ghost rows_of_slice = { λ a start len fits within. laws.rows_of_slice K.slot a.validity a.values start len fits within };
+
+    ghost length_of_slice = { λ a start len fits within. laws.length_of_slice K.slot a.validity a.values start len fits within };
+
+    ghost length_of_blanks = { λ x n. length-replicate n (K.slot []) };
+
+    ghost null_of = { λ x t kind. laws.null_of O.IS_LARGE t (K.physical_type O.IS_LARGE) (K.lies_as_bytes O.IS_LARGE) kind };
+
+    ghost spares_none = { refl };
+
+    ghost spares_slice = { λ bits stored a start len fits within spares same. laws.spares_slice K.slot K.counts bits stored a.validity a.values start len fits within spares same };
+
+    ghost spares_blanks = { λ bits stored x n spares same. laws.spares_blanks (K.slot []) (K.counts []) bits stored n spares same };
+
+    ghost fits_stored = { λ x t bits stored kind spares same fits. laws.fits_stored O.IS_LARGE t (K.physical_type O.IS_LARGE) (K.lies_as_bytes O.IS_LARGE) kind bits stored spares same fits };
+
+    ghost fits_rows = { λ x t bits stored kind same fits. laws.fits_rows O.IS_LARGE t (K.physical_type O.IS_LARGE) (K.lies_as_bytes O.IS_LARGE) kind bits stored same fits };
+}

@@ -1,6 +1,0 @@
-use Rattle.arrow_growable.proofs.FlatLemmas.{counts_rows}
-use Rattle.arrow_growable.proofs.growable.flat.FlatGrowableGrowable.len.Goals as goal
-
-pub returns-clause-rows : goal.returns-clause-rows
-returns-clause-rows g c =
-    rw (← c.self.view_is) (counts_rows _ _ _ _ _ _ _ _ _ c.self.invariant)
