@@ -27,7 +27,7 @@ use Rattle.arrow_arrays.specs.Layout.{Layout, rows, items_row, list_items, fixed
 use Rattle.arrow_arrays.specs.Nulls.{nulls_of, null_columns_of}
 use Rattle.arrow_arrays.specs.StructParts.{HaveRows, row_count, FitsColumns}
 use Rattle.arrow_arrays.specs.TypeParts.{field_types}
-use Rattle.arrow_arrays.specs.UnionParts.{IsKnown, IsInside, FitsMode, FitsOffsets, rows_of_id, place_of}
+use Rattle.arrow_arrays.specs.UnionParts.{IsKnown, IsInside, FitsMode, FitsOffsets, rows_of_id, child_row_of}
 use Rattle.arrow_arrays.proofs.FitNullLemmas.{whole_product}
 use Rattle.arrow_arrays.proofs.NullLemmas.{map_constant, all_constant, rows_null, last_zero}
 use Rattle.arrow_arrays.proofs.ShapeLemmas.{list_shape, struct_shape, union_shape, dictionary_shape, shape_of, shape_in, plain_shape, list_shaped, null_slot-shape}
@@ -122,15 +122,15 @@ told_same id = (Decides-int_eq id id).1 refl
 first_column : (ids : Option (List ℤ)) (c : List Slot) (cs : List (List Slot)) → column_of_id ids 0 (id_at ids 0) (c ∷ cs) ≡ c
 first_column ids c cs = rw (told_same (id_at ids 0)) refl
 
-one_variant : (ids : Option (List ℤ)) (c : List Slot) (cs : List (List Slot)) (place : ℕ) (s : Slot) → get_or c place Null ≡ s → variant_at ids (c ∷ cs) (id_at ids 0) place ≡ Variant (id_at ids 0) s
-one_variant ids c cs place s is = ap (Variant (id_at ids 0)) (ap (λ column. get_or column place Null) (first_column ids c cs) ∙ is)
+one_variant : (ids : Option (List ℤ)) (c : List Slot) (cs : List (List Slot)) (child_row : ℕ) (s : Slot) → get_or c child_row Null ≡ s → variant_at ids (c ∷ cs) (id_at ids 0) child_row ≡ Variant (id_at ids 0) s
+one_variant ids c cs child_row s is = ap (Variant (id_at ids 0)) (ap (λ column. get_or column child_row Null) (first_column ids c cs) ∙ is)
 
-same_variants : (ids : Option (List ℤ)) (c : List Slot) (cs : List (List Slot)) (s : Slot) (n : ℕ) (places : List ℕ) → length places ≡ n → All (λ place. get_or c place Null ≡ s) places → union_items ids (c ∷ cs) (replicate n (id_at ids 0)) places ≡ replicate n (Variant (id_at ids 0) s)
-same_variants ids c cs s zero places long all = refl
+same_variants : (ids : Option (List ℤ)) (c : List Slot) (cs : List (List Slot)) (s : Slot) (n : ℕ) (child_rows : List ℕ) → length child_rows ≡ n → All (λ child_row. get_or c child_row Null ≡ s) child_rows → union_items ids (c ∷ cs) (replicate n (id_at ids 0)) child_rows ≡ replicate n (Variant (id_at ids 0) s)
+same_variants ids c cs s zero child_rows long all = refl
 same_variants ids c cs s (suc n) [] long all = absurd (omega (arith, long))
-same_variants ids c cs s (suc n) (place ∷ places) long all =
-    let first = one_variant ids c cs place s (all 0 place (omega arith)) in
-    let rest = same_variants ids c cs s n places (omega (arith, long)) (λ k d within. all (suc k) d (omega (arith, within))) in
+same_variants ids c cs s (suc n) (child_row ∷ child_rows) long all =
+    let first = one_variant ids c cs child_row s (all 0 child_row (omega arith)) in
+    let rest = same_variants ids c cs s n child_rows (omega (arith, long)) (λ k d within. all (suc k) d (omega (arith, within))) in
     λ i. first i ∷ rest i
 
 get_or-copy : {A : Type 0} (n k : ℕ) (x d : A) → k < n → get_or (replicate n x) k d ≡ x
@@ -150,7 +150,7 @@ union_null (union mode ids (more_fields (field name t nullable) fs)) u us shape 
 union_null (dictionary keys ordered t) u us shape is = cc
 union_null (extension name metadata t) u us shape is = union_null t u us shape is
 
-rows_in_order : (n : ℕ) (s : Slot) → All (λ place. get_or (replicate n s) place Null ≡ s) (range_with_len 0 n)
+rows_in_order : (n : ℕ) (s : Slot) → All (λ child_row. get_or (replicate n s) child_row Null ≡ s) (range_with_len 0 n)
 rows_in_order n s =
     λ k d within.
     let short : k < n = omega (arith, within, length-range_with_len 0 n) in
@@ -158,7 +158,7 @@ rows_in_order n s =
     let here : get_or (range_with_len 0 n) k d ≡ k = get_or-range_with_len 0 n k d short ∙ plain in
     rw here (get_or-copy n k s Null short)
 
-one_row : (n : ℕ) (s : Slot) → All (λ place. get_or (replicate (min n 1) s) place Null ≡ s) (replicate n 0)
+one_row : (n : ℕ) (s : Slot) → All (λ child_row. get_or (replicate (min n 1) s) child_row Null ≡ s) (replicate n 0)
 one_row n s =
     λ k d within.
     let some : k < n = omega (arith, within, length-replicate {A = ℕ} n 0) in
@@ -181,8 +181,8 @@ sparse_rows_null t xs types n shape some nulls is =
     let long : length types ≡ n = ap length is ∙ length-replicate n (id_at (field_ids t) 0) in
     rw long (rw is (sparse_by t (columns_of (to_layouts (map layout_of xs))) (field_types t) n shape refl some (columns_of_arrays xs ∙ nulls)))
 
-pub dense_rows_null : (t : ArrowType) (xs : List AnyArray) (types : List ℤ) (places : List ℕ) (n : ℕ) → shape_in t ≡ union_shape → 0 < length (field_types t) → map any_array_rows xs ≡ null_columns_of (min n 1) 0 (field_types t) → types ≡ replicate n (id_at (field_ids t) 0) → places ≡ replicate n 0 → union_items (field_ids t) (columns_of (to_layouts (map layout_of xs))) types places ≡ nulls_of t n
-dense_rows_null t xs types places n shape some nulls is zeros =
+pub dense_rows_null : (t : ArrowType) (xs : List AnyArray) (types : List ℤ) (child_rows : List ℕ) (n : ℕ) → shape_in t ≡ union_shape → 0 < length (field_types t) → map any_array_rows xs ≡ null_columns_of (min n 1) 0 (field_types t) → types ≡ replicate n (id_at (field_ids t) 0) → child_rows ≡ replicate n 0 → union_items (field_ids t) (columns_of (to_layouts (map layout_of xs))) types child_rows ≡ nulls_of t n
+dense_rows_null t xs types child_rows n shape some nulls is zeros =
     rw (is, zeros) (dense_by t (columns_of (to_layouts (map layout_of xs))) (field_types t) n shape refl some (columns_of_arrays xs ∙ nulls))
 
 -- all rows are of a known id
@@ -237,5 +237,5 @@ dense_mode_fits mode types offsets xs id n is same zeros =
     let count : length offsets ≡ n = ap length zeros ∙ length-replicate n (pos 0) in
     subst (λ m. FitsMode m types (Some offsets) (map layout_of xs)) (sym is) (count ∙ sym long)
 
-pub zero_places : (offsets : List ℤ) (n : ℕ) → offsets ≡ replicate n (pos 0) → map place_of offsets ≡ replicate n 0
-zero_places offsets n zeros = ap (map place_of) zeros ∙ map_constant place_of n (pos 0)
+pub zero_child_rows : (offsets : List ℤ) (n : ℕ) → offsets ≡ replicate n (pos 0) → map child_row_of offsets ≡ replicate n 0
+zero_child_rows offsets n zeros = ap (map child_row_of) zeros ∙ map_constant child_row_of n (pos 0)

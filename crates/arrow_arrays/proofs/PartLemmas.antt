@@ -23,7 +23,7 @@ type_of_part (listed t v offsets c) offset len = refl
 type_of_part (fixed t v s c) offset len = refl
 type_of_part (fielded t v cs) offset len = refl
 type_of_part (sparse t ids start cs) offset len = refl
-type_of_part (dense t ids places cs) offset len = refl
+type_of_part (dense t ids child_rows cs) offset len = refl
 type_of_part (keyed t keys c) offset len = refl
 
 -- no more rows than are stored
@@ -159,9 +159,9 @@ struct_items-sliced (c ∷ cs) offset len within =
     ap (λ n. map Parts (across n (cut offset len (c ∷ cs)))) column ∙ (ap (map Parts) (across-sliced (c ∷ cs) (length c) offset len (across_within (c ∷ cs) (length c) (offset + len) across_all)) ∙ map_sliced Parts _ offset len)
 
 -- the rows of a union
-pub union_items-sliced : (ids : Option (List ℤ)) (columns : List (List Slot)) (types : List ℤ) (places : List ℕ) (offset len : ℕ) → union_items ids columns (sliced types offset len) (sliced places offset len) ≡ sliced (union_items ids columns types places) offset len
-union_items-sliced ids columns types places offset len =
-    ap (map (λ row. variant_at ids columns row.0 row.1)) (zip-sliced types places offset len) ∙ map_sliced (λ row. variant_at ids columns row.0 row.1) (zip types places) offset len
+pub union_items-sliced : (ids : Option (List ℤ)) (columns : List (List Slot)) (types : List ℤ) (child_rows : List ℕ) (offset len : ℕ) → union_items ids columns (sliced types offset len) (sliced child_rows offset len) ≡ sliced (union_items ids columns types child_rows) offset len
+union_items-sliced ids columns types child_rows offset len =
+    ap (map (λ row. variant_at ids columns row.0 row.1)) (zip-sliced types child_rows offset len) ∙ map_sliced (λ row. variant_at ids columns row.0 row.1) (zip types child_rows) offset len
 
 -- a part of an array has that part of the rows
 mutual
@@ -184,11 +184,11 @@ mutual
       let all : offset + len ≤ length (across (column_length (columns_of cs)) (columns_of cs)) = omega (arith, among, length-map (across (column_length (columns_of cs)) (columns_of cs)) Parts) in
       ap (λ columns. masked (validity_of_slice v offset len) (struct_items columns)) (columns_of_parts cs (column_length (columns_of cs)) offset len all) ∙ (ap (masked (validity_of_slice v offset len)) (struct_items-sliced (columns_of cs) offset len among) ∙ masked-sliced v (struct_items (columns_of cs)) offset len)
   rows_of_slice (sparse t ids start cs) offset len within =
-      let places = range_with_len start (length ids) in
-      let pairs = length-zip ids places in
-      let among : offset + len ≤ length ids = omega (arith, within, length-map (zip ids places) (λ row. variant_at (field_ids t) (columns_of cs) row.0 row.1), pairs, length-range_with_len start (length ids)) in
-      rw (length-sliced ids offset len among, ← range-sliced start (length ids) offset len among) (union_items-sliced (field_ids t) (columns_of cs) ids places offset len)
-  rows_of_slice (dense t ids places cs) offset len within = union_items-sliced (field_ids t) (columns_of cs) ids places offset len
+      let child_rows = range_with_len start (length ids) in
+      let pairs = length-zip ids child_rows in
+      let among : offset + len ≤ length ids = omega (arith, within, length-map (zip ids child_rows) (λ row. variant_at (field_ids t) (columns_of cs) row.0 row.1), pairs, length-range_with_len start (length ids)) in
+      rw (length-sliced ids offset len among, ← range-sliced start (length ids) offset len among) (union_items-sliced (field_ids t) (columns_of cs) ids child_rows offset len)
+  rows_of_slice (dense t ids child_rows cs) offset len within = union_items-sliced (field_ids t) (columns_of cs) ids child_rows offset len
   rows_of_slice (keyed t keys c) offset len within = map_sliced (keyed_item (rows c)) keys offset len
 
   columns_of_parts : (ls : Layouts) (n offset len : ℕ) → offset + len ≤ length (across n (columns_of ls)) → columns_of (slices_of ls offset len) ≡ cut offset len (columns_of ls)

@@ -159,15 +159,15 @@ union_of t fs ids mode is =
     let seen : type_of t ≡ union mode (ids_of ids) (fields_of fs.items) = ap type_of is ∙ type_of-Union fs ids mode in
     (ap field_ids seen, ap (λ s. length (field_types s)) seen ∙ (ap length (sym (types_of_fields fs.items)) ∙ length-map fs.items (λ f. type_in (field_of f))))
 
--- the place that an id is, where no ids are given
-pub finds_below : (t : DataType) (fs : Vec Field Global) (ids : Option (Vec ℤ Global)) (mode : UnionMode) (count : ℕ) (id : ℤ) (place : Option ℕ) → t ≡ Union fs ids mode → ids ≡ None → count ≡ length fs.items → FindsField None count id place → FindsField (field_ids (type_of t)) (length (field_types (type_of t))) id place
-finds_below t fs ids mode count id place is none counted found =
+-- the position that an id is, where no ids are given
+pub finds_below : (t : DataType) (fs : Vec Field Global) (ids : Option (Vec ℤ Global)) (mode : UnionMode) (count : ℕ) (id : ℤ) (position : Option ℕ) → t ≡ Union fs ids mode → ids ≡ None → count ≡ length fs.items → FindsField None count id position → FindsField (field_ids (type_of t)) (length (field_types (type_of t))) id position
+finds_below t fs ids mode count id position is none counted found =
     let seen = union_of t fs ids mode is in
     rw (seen.0, none, seen.1, ← counted) found
 
--- and the place of an id among those that are given
-pub finds_given : (t : DataType) (fs : Vec Field Global) (ids : Option (Vec ℤ Global)) (mode : UnionMode) (given : Vec ℤ Global) (listed : List ℤ) (id : ℤ) (place : Option ℕ) → IsCarriedAs physical.Union (type_of t) → t ≡ Union fs ids mode → ids ≡ Some given → listed ≡ given.items → FindsField (Some listed) (length listed) id place → FindsField (field_ids (type_of t)) (length (field_types (type_of t))) id place
-finds_given t fs ids mode given listed id place kind is some read found =
+-- and the position of an id among those that are given
+pub finds_given : (t : DataType) (fs : Vec Field Global) (ids : Option (Vec ℤ Global)) (mode : UnionMode) (given : Vec ℤ Global) (listed : List ℤ) (id : ℤ) (position : Option ℕ) → IsCarriedAs physical.Union (type_of t) → t ≡ Union fs ids mode → ids ≡ Some given → listed ≡ given.items → FindsField (Some listed) (length listed) id position → FindsField (field_ids (type_of t)) (length (field_types (type_of t))) id position
+finds_given t fs ids mode given listed id position kind is some read found =
     let count = length (field_types (type_of t)) in
     let ids_are : field_ids (type_of t) ≡ Some listed = (union_of t fs ids mode is).0 ∙ (ap ids_of some ∙ ap Some (sym read)) in
     let ids_fit : AreTypeIds (Some listed) count = subst (λ x. AreTypeIds x count) ids_are (has_ids (type_of t) kind.0 kind.1).1 in
@@ -179,19 +179,19 @@ id_of_list [] f within = absurd (omega (arith, within))
 id_of_list (id ∷ ids) zero within = refl
 id_of_list (id ∷ ids) (suc f) within = id_of_list ids f (omega (arith, within))
 
--- the first place of an id
-pub place_found : (ids : List ℤ) (i : ℕ) (id : ℤ) → i < length ids → get_or ids i (pos 0) ≡ id → ((e : ℕ) → e < i → id_at (Some ids) e ≡ id → ⊥) → FindsField (Some ids) (length ids) id (Some i)
-place_found ids i id within is first = (within, id_of_list ids i within ∙ is, first)
+-- the first position of an id
+pub position_found : (ids : List ℤ) (i : ℕ) (id : ℤ) → i < length ids → get_or ids i (pos 0) ≡ id → ((e : ℕ) → e < i → id_at (Some ids) e ≡ id → ⊥) → FindsField (Some ids) (length ids) id (Some i)
+position_found ids i id within is first = (within, id_of_list ids i within ∙ is, first)
 
-pub place_next : (ids : List ℤ) (i : ℕ) (id : ℤ) → i < length ids → (get_or ids i (pos 0) ≡ id → ⊥) → ((e : ℕ) → e < i → id_at (Some ids) e ≡ id → ⊥) → (e : ℕ) → e < i + 1 → id_at (Some ids) e ≡ id → ⊥
-place_next ids i id within other first =
+pub position_next : (ids : List ℤ) (i : ℕ) (id : ℤ) → i < length ids → (get_or ids i (pos 0) ≡ id → ⊥) → ((e : ℕ) → e < i → id_at (Some ids) e ≡ id → ⊥) → (e : ℕ) → e < i + 1 → id_at (Some ids) e ≡ id → ⊥
+position_next ids i id within other first =
     below_more (λ e. id_at (Some ids) e ≡ id → ⊥) i first (λ is. other (sym (id_of_list ids i within) ∙ is))
 
 -- numbers that are stored alike are the same
 pub same_stored : (a b : ℤ) → SFits w32 a → SFits w32 b → of_z w32 a ≡ of_z w32 b → a ≡ b
 same_stored a b fits other_fits same = sym (to_z-of_z w32 a fits) ∙ (ap (to_z w32) same ∙ to_z-of_z w32 b other_fits)
 
--- two lists are seen as one, as far as place i
+-- two lists are seen as one, as far as position i
 read_at : {A C : Type 0} (f : A → C) (xs : List A) (i : ℕ) (x : A) (d : C) → i < length xs → x ≡ get_or xs i x → get_or (map f xs) i d ≡ f x
 read_at f xs i x d within read = get_or-map f xs i x d within ∙ ap f (sym read)
 

@@ -26,37 +26,37 @@ use Rattle.arrow_arrays.specs.declared.array.any.AnyArray.{AnyArray}
 use Rattle.arrow_arrays.specs.Layout.{Layout, flat, rows, type_of_layout, field_ids, column_of_id, variant_at, union_items}
 use Rattle.arrow_arrays.specs.TypeParts.{field_types, mode_in}
 use Rattle.arrow_arrays.specs.StructParts.{HaveRows}
-use Rattle.arrow_arrays.specs.UnionParts.{HoldsUnion, FitsMode, FitsOffsets, UnionParts, IsUnion, IsKnown, IsInside, ArePlaced, SpansRows, FindsField, place_of, places_of, places_by, mode_by, rows_of_field, rows_of_id, row_in, start_of_part, union_layout_by, union_rows, union_slice}
+use Rattle.arrow_arrays.specs.UnionParts.{HoldsUnion, FitsMode, FitsOffsets, UnionParts, IsUnion, IsKnown, IsInside, ArePlaced, SpansRows, FindsField, child_row_of, child_rows_of, child_rows_by, mode_by, rows_of_field, rows_of_id, row_in, start_of_part, union_layout_by, union_rows, union_slice}
 use Rattle.arrow_arrays.proofs.StructLemmas.{columns_of-to_layouts}
 use Rattle.arrow_arrays.proofs.TypeLemmas.{union_has_field}
 use Rattle.arrow_arrays.proofs.PartLemmas.{zip-sliced, range-sliced, union_items-sliced}
 
--- the rows, by type ids and places
-rows_by_places : (t : ArrowType) (types : List ℤ) (places : Option (List ℕ)) (start : ℕ) (children : List Layout) → rows (union_layout_by t types places start children) ≡ union_items (field_ids t) (map rows children) types (places_by places start (length types))
-rows_by_places t types None start children =
+-- the rows, by type ids and child_rows
+rows_by_child_rows : (t : ArrowType) (types : List ℤ) (child_rows : Option (List ℕ)) (start : ℕ) (children : List Layout) → rows (union_layout_by t types child_rows start children) ≡ union_items (field_ids t) (map rows children) types (child_rows_by child_rows start (length types))
+rows_by_child_rows t types None start children =
     ap (λ cs. union_items (field_ids t) cs types (range_with_len start (length types))) (columns_of-to_layouts children)
-rows_by_places t types (Some places) start children =
-    ap (λ cs. union_items (field_ids t) cs types places) (columns_of-to_layouts children)
+rows_by_child_rows t types (Some child_rows) start children =
+    ap (λ cs. union_items (field_ids t) cs types child_rows) (columns_of-to_layouts children)
 
-union_rows_are : (p : UnionParts) → union_rows p ≡ union_items (field_ids p.arrow_type) (map rows p.children) p.types (places_by p.places p.start (length p.types))
-union_rows_are p = rows_by_places p.arrow_type p.types p.places p.start p.children
+union_rows_are : (p : UnionParts) → union_rows p ≡ union_items (field_ids p.arrow_type) (map rows p.children) p.types (child_rows_by p.child_rows p.start (length p.types))
+union_rows_are p = rows_by_child_rows p.arrow_type p.types p.child_rows p.start p.children
 
--- a place for each row
-length-places : (places : Option (List ℕ)) (start count : ℕ) (children : List Layout) → SpansRows places start count children → length (places_by places start count) ≡ count
-length-places None start count children spans = length-range_with_len start count
-length-places (Some places) start count children spans = spans.0
+-- a child row for each row
+length-child_rows : (child_rows : Option (List ℕ)) (start count : ℕ) (children : List Layout) → SpansRows child_rows start count children → length (child_rows_by child_rows start count) ≡ count
+length-child_rows None start count children spans = length-range_with_len start count
+length-child_rows (Some child_rows) start count children spans = spans.0
 
-places_fit : {offsets : Option (List ℤ)} (p : UnionParts) → IsUnion offsets p → length (places_by p.places p.start (length p.types)) ≡ length p.types
-places_fit p union = length-places p.places p.start (length p.types) p.children union.spans
+child_rows_fit : {offsets : Option (List ℤ)} (p : UnionParts) → IsUnion offsets p → length (child_rows_by p.child_rows p.start (length p.types)) ≡ length p.types
+child_rows_fit p union = length-child_rows p.child_rows p.start (length p.types) p.children union.spans
 
 -- as many rows as type ids
-length-union_items : (ids : Option (List ℤ)) (columns : List (List Slot)) (types : List ℤ) (places : List ℕ) → length places ≡ length types → length (union_items ids columns types places) ≡ length types
-length-union_items ids columns types places fit =
-    length-map (zip types places) (λ row. variant_at ids columns row.0 row.1) ∙ omega (arith, fit, length-zip types places)
+length-union_items : (ids : Option (List ℤ)) (columns : List (List Slot)) (types : List ℤ) (child_rows : List ℕ) → length child_rows ≡ length types → length (union_items ids columns types child_rows) ≡ length types
+length-union_items ids columns types child_rows fit =
+    length-map (zip types child_rows) (λ row. variant_at ids columns row.0 row.1) ∙ omega (arith, fit, length-zip types child_rows)
 
 pub length-union_rows : {offsets : Option (List ℤ)} (p : UnionParts) → IsUnion offsets p → length (union_rows p) ≡ length p.types
 length-union_rows p union =
-    ap length (union_rows_are p) ∙ length-union_items _ _ p.types _ (places_fit p union)
+    ap length (union_rows_are p) ∙ length-union_items _ _ p.types _ (child_rows_fit p union)
 
 -- no row of a union is null
 pub union_values : (p : UnionParts) → All IsValue (union_rows p)
@@ -87,34 +87,34 @@ column_found ids id children f found =
     column_at ids 0 id (map rows children) f f (omega arith) (omega (arith, found.0, length-map children rows)) found.1 (λ e from below. found.2 e below)
 
 -- one row: that of the field that is found
-row_at : (ids : Option (List ℤ)) (columns : List (List Slot)) (types : List ℤ) (places : List ℕ) (i : ℕ) → i < length types → i < length places → get_or (union_items ids columns types places) i Null ≡ variant_at ids columns (get_or types i (pos 0)) (get_or places i 0)
-row_at ids columns types places i typed placed =
-    let pair = get_or-zip types places i (pos 0, 0) typed placed in
-    get_or-map (λ row. variant_at ids columns row.0 row.1) (zip types places) i (pos 0, 0) Null (omega (arith, typed, placed, length-zip types places)) ∙ ap (λ row. variant_at ids columns row.0 row.1) pair
+row_at : (ids : Option (List ℤ)) (columns : List (List Slot)) (types : List ℤ) (child_rows : List ℕ) (i : ℕ) → i < length types → i < length child_rows → get_or (union_items ids columns types child_rows) i Null ≡ variant_at ids columns (get_or types i (pos 0)) (get_or child_rows i 0)
+row_at ids columns types child_rows i typed placed =
+    let pair = get_or-zip types child_rows i (pos 0, 0) typed placed in
+    get_or-map (λ row. variant_at ids columns row.0 row.1) (zip types child_rows) i (pos 0, 0) Null (omega (arith, typed, placed, length-zip types child_rows)) ∙ ap (λ row. variant_at ids columns row.0 row.1) pair
 
-pub row_is : {offsets : Option (List ℤ)} (p : UnionParts) (i f place : ℕ) → IsUnion offsets p → i < length p.types → FindsField (field_ids p.arrow_type) (length p.children) (slice_index_or p.types i (pos 0)) (Some f) → slice_get (places_by p.places p.start (length p.types)) i ≡ Some place → get_or (union_rows p) i Null ≡ Variant (slice_index_or p.types i (pos 0)) (row_in p.children f place)
-row_is p i f place union within found read =
+pub row_is : {offsets : Option (List ℤ)} (p : UnionParts) (i f child_row : ℕ) → IsUnion offsets p → i < length p.types → FindsField (field_ids p.arrow_type) (length p.children) (slice_index_or p.types i (pos 0)) (Some f) → slice_get (child_rows_by p.child_rows p.start (length p.types)) i ≡ Some child_row → get_or (union_rows p) i Null ≡ Variant (slice_index_or p.types i (pos 0)) (row_in p.children f child_row)
+row_is p i f child_row union within found read =
     let id = slice_index_or p.types i (pos 0) in
     let column = column_found (field_ids p.arrow_type) id p.children f found in
-    let at = get_or_from_slice_get (places_by p.places p.start (length p.types)) i place 0 read in
-    ap (λ xs. get_or xs i Null) (union_rows_are p) ∙ (row_at (field_ids p.arrow_type) (map rows p.children) p.types _ i within (omega (arith, within, places_fit p union)) ∙ (λ j. Variant id (get_or (column j) (at j) Null)))
+    let at = get_or_from_slice_get (child_rows_by p.child_rows p.start (length p.types)) i child_row 0 read in
+    ap (λ xs. get_or xs i Null) (union_rows_are p) ∙ (row_at (field_ids p.arrow_type) (map rows p.children) p.types _ i within (omega (arith, within, child_rows_fit p union)) ∙ (λ j. Variant id (get_or (column j) (at j) Null)))
 
 -- which lies inside its child
-pub row_within : {offsets : Option (List ℤ)} (p : UnionParts) (i f place : ℕ) → IsUnion offsets p → i < length p.types → FindsField (field_ids p.arrow_type) (length p.children) (slice_index_or p.types i (pos 0)) (Some f) → slice_get (places_by p.places p.start (length p.types)) i ≡ Some place → place < length (rows_of_field p.children f)
-row_within p i f place union within found read =
+pub row_within : {offsets : Option (List ℤ)} (p : UnionParts) (i f child_row : ℕ) → IsUnion offsets p → i < length p.types → FindsField (field_ids p.arrow_type) (length p.children) (slice_index_or p.types i (pos 0)) (Some f) → slice_get (child_rows_by p.child_rows p.start (length p.types)) i ≡ Some child_row → child_row < length (rows_of_field p.children f)
+row_within p i f child_row union within found read =
     let ids = field_ids p.arrow_type in
-    let places = places_by p.places p.start (length p.types) in
-    let fit = places_fit p union in
-    let placed : i < length places = omega (arith, within, fit) in
+    let child_rows = child_rows_by p.child_rows p.start (length p.types) in
+    let fit = child_rows_fit p union in
+    let placed : i < length child_rows = omega (arith, within, fit) in
     let column = column_found ids (slice_index_or p.types i (pos 0)) p.children f found in
-    let at = get_or_from_slice_get places i place 0 read in
-    let inside = subst (λ row. row.1 < rows_of_id ids p.children row.0) (get_or-zip p.types places i (pos 0, 0) within placed) (union.placed i (pos 0, 0) (omega (arith, within, placed, length-zip p.types places))) in
+    let at = get_or_from_slice_get child_rows i child_row 0 read in
+    let inside = subst (λ row. row.1 < rows_of_id ids p.children row.0) (get_or-zip p.types child_rows i (pos 0, 0) within placed) (union.placed i (pos 0, 0) (omega (arith, within, placed, length-zip p.types child_rows))) in
     rw (← column, ← at) inside
 
 -- a slice
-places_of_part : (places : Option (List ℕ)) (start count offset len : ℕ) → offset + len ≤ count → places_by (option_map (λ ns. sliced ns offset len) places) (start_of_part places start offset) len ≡ sliced (places_by places start count) offset len
-places_of_part None start count offset len within = sym (range-sliced start count offset len within)
-places_of_part (Some places) start count offset len within = refl
+child_rows_of_part : (child_rows : Option (List ℕ)) (start count offset len : ℕ) → offset + len ≤ count → child_rows_by (option_map (λ ns. sliced ns offset len) child_rows) (start_of_part child_rows start offset) len ≡ sliced (child_rows_by child_rows start count) offset len
+child_rows_of_part None start count offset len within = sym (range-sliced start count offset len within)
+child_rows_of_part (Some child_rows) start count offset len within = refl
 
 part_within : {offsets : Option (List ℤ)} (p : UnionParts) (offset len : ℕ) → IsUnion offsets p → offset + len ≤ length (union_rows p) → offset + len ≤ length p.types
 part_within p offset len union within = omega (arith, within, length-union_rows p union)
@@ -125,54 +125,54 @@ union_part_rows p offset len union within =
     let ids = field_ids p.arrow_type in
     let columns = map rows p.children in
     let count = length-sliced p.types offset len among in
-    let places = places_of_part p.places p.start (length p.types) offset len among in
-    union_rows_are (union_slice p offset len) ∙ (ap (λ n. union_items ids columns (sliced p.types offset len) (places_by (option_map (λ ns. sliced ns offset len) p.places) (start_of_part p.places p.start offset) n)) count ∙ (ap (union_items ids columns (sliced p.types offset len)) places ∙ (union_items-sliced ids columns p.types _ offset len ∙ ap (λ xs. sliced xs offset len) (sym (union_rows_are p)))))
+    let child_rows = child_rows_of_part p.child_rows p.start (length p.types) offset len among in
+    union_rows_are (union_slice p offset len) ∙ (ap (λ n. union_items ids columns (sliced p.types offset len) (child_rows_by (option_map (λ ns. sliced ns offset len) p.child_rows) (start_of_part p.child_rows p.start offset) n)) count ∙ (ap (union_items ids columns (sliced p.types offset len)) child_rows ∙ (union_items-sliced ids columns p.types _ offset len ∙ ap (λ xs. sliced xs offset len) (sym (union_rows_are p)))))
 
-mode_of_part : (places : Option (List ℕ)) (offset len : ℕ) → mode_by (option_map (λ ns. sliced ns offset len) places) ≡ mode_by places
+mode_of_part : (child_rows : Option (List ℕ)) (offset len : ℕ) → mode_by (option_map (λ ns. sliced ns offset len) child_rows) ≡ mode_by child_rows
 mode_of_part None offset len = refl
-mode_of_part (Some places) offset len = refl
+mode_of_part (Some child_rows) offset len = refl
 
-seen_of_part : (places : Option (List ℕ)) (offset len : ℕ) → option_map (λ zs. sliced zs offset len) (option_map (map pos) places) ≡ option_map (map pos) (option_map (λ ns. sliced ns offset len) places)
+seen_of_part : (child_rows : Option (List ℕ)) (offset len : ℕ) → option_map (λ zs. sliced zs offset len) (option_map (map pos) child_rows) ≡ option_map (map pos) (option_map (λ ns. sliced ns offset len) child_rows)
 seen_of_part None offset len = refl
-seen_of_part (Some places) offset len = ap Some (sym (map_sliced pos places offset len))
+seen_of_part (Some child_rows) offset len = ap Some (sym (map_sliced pos child_rows offset len))
 
-spans_of_part : (places : Option (List ℕ)) (start count offset len : ℕ) (children : List Layout) → SpansRows places start count children → offset + len ≤ count → SpansRows (option_map (λ ns. sliced ns offset len) places) (start_of_part places start offset) len children
+spans_of_part : (child_rows : Option (List ℕ)) (start count offset len : ℕ) (children : List Layout) → SpansRows child_rows start count children → offset + len ≤ count → SpansRows (option_map (λ ns. sliced ns offset len) child_rows) (start_of_part child_rows start offset) len children
 spans_of_part None start count offset len children spans within = λ k d inside. omega (arith, within, spans k d inside)
-spans_of_part (Some places) start count offset len children spans within = (length-sliced places offset len (omega (arith, within, spans.0)), spans.1)
+spans_of_part (Some child_rows) start count offset len children spans within = (length-sliced child_rows offset len (omega (arith, within, spans.0)), spans.1)
 
-start_below : (places : Option (List ℕ)) (start count offset len : ℕ) (n : ℕ) → start + count < n → offset + len ≤ count → start_of_part places start offset + len < n
+start_below : (child_rows : Option (List ℕ)) (start count offset len : ℕ) (n : ℕ) → start + count < n → offset + len ≤ count → start_of_part child_rows start offset + len < n
 start_below None start count offset len n fits within = omega (arith, fits, within)
-start_below (Some places) start count offset len n fits within = omega (arith, fits, within)
+start_below (Some child_rows) start count offset len n fits within = omega (arith, fits, within)
 
 -- and it is a union again
 pub union_part_is : {offsets : Option (List ℤ)} (p : UnionParts) (offset len : ℕ) → IsUnion offsets p → offset + len ≤ length (union_rows p) → IsUnion (option_map (λ zs. sliced zs offset len) offsets) (union_slice p offset len)
 union_part_is p offset len union within =
     let among = part_within p offset len union within in
     let count = length-sliced p.types offset len among in
-    let places = places_of_part p.places p.start (length p.types) offset len among in
-    let pairs = zip-sliced p.types (places_by p.places p.start (length p.types)) offset len in
+    let child_rows = child_rows_of_part p.child_rows p.start (length p.types) offset len among in
+    let pairs = zip-sliced p.types (child_rows_by p.child_rows p.start (length p.types)) offset len in
     let known = IsKnown (field_ids p.arrow_type) (length p.children) in
     let inside = λ (row : ℤ × ℕ). row.1 < rows_of_id (field_ids p.arrow_type) p.children row.0 in
     record {
       kind = union.kind;
-      mode = union.mode ∙ sym (mode_of_part p.places offset len);
+      mode = union.mode ∙ sym (mode_of_part p.child_rows offset len);
       children = union.children;
       some = union.some;
-      seen = ap (option_map (λ zs. sliced zs offset len)) union.seen ∙ seen_of_part p.places offset len;
-      spans = rw count (spans_of_part p.places p.start (length p.types) offset len p.children union.spans among);
+      seen = ap (option_map (λ zs. sliced zs offset len)) union.seen ∙ seen_of_part p.child_rows offset len;
+      spans = rw count (spans_of_part p.child_rows p.start (length p.types) offset len p.children union.spans among);
       known = All-take known len _ (All-drop known offset p.types union.known);
-      fits = rw count (start_below p.places p.start (length p.types) offset len (2 ^ 64) union.fits among);
-      placed = rw (count, places, pairs) (All-take inside len _ (All-drop inside offset _ union.placed));
+      fits = rw count (start_below p.child_rows p.start (length p.types) offset len (2 ^ 64) union.fits among);
+      placed = rw (count, child_rows, pairs) (All-take inside len _ (All-drop inside offset _ union.placed));
     }
 
 -- the parts of an array, by what it stores
 abbrev pub stored : ArrowType → List ℤ → Option (List ℤ) → ℕ → List Layout → UnionParts
 stored t types offsets start children =
-    record { arrow_type = t; types = types; places = places_of offsets; start = start; children = children }
+    record { arrow_type = t; types = types; child_rows = child_rows_of offsets; start = start; children = children }
 
-places_of-sliced : (offsets : Option (List ℤ)) (offset len : ℕ) → places_of (option_map (λ zs. sliced zs offset len) offsets) ≡ option_map (λ ns. sliced ns offset len) (places_of offsets)
-places_of-sliced None offset len = refl
-places_of-sliced (Some zs) offset len = ap Some (map_sliced place_of zs offset len)
+child_rows_of-sliced : (offsets : Option (List ℤ)) (offset len : ℕ) → child_rows_of (option_map (λ zs. sliced zs offset len) offsets) ≡ option_map (λ ns. sliced ns offset len) (child_rows_of offsets)
+child_rows_of-sliced None offset len = refl
+child_rows_of-sliced (Some zs) offset len = ap Some (map_sliced child_row_of zs offset len)
 
 -- what is stored is a part of an array, has that part of its rows, and is an array
 pub record KeepsPart (p : UnionParts) (offset len : ℕ) (offsets : Option (List ℤ)) (q : UnionParts) : Type 0 where
@@ -184,11 +184,11 @@ pub types_within : {offsets : Option (List ℤ)} (p q : UnionParts) (offset len 
 types_within p q offset len union seen within =
     part_within p offset len union (subst (λ r. offset + len ≤ length (union_rows r)) (sym seen) within)
 
-keeps_part : (t : ArrowType) (types : List ℤ) (offsets : Option (List ℤ)) (start : ℕ) (children : List Layout) (p : UnionParts) (offset len : ℕ) → stored t types offsets start children ≡ p → IsUnion offsets (stored t types offsets start children) → offset + len ≤ length (union_rows p) → (new_types : List ℤ) (new_offsets : Option (List ℤ)) (new_start : ℕ) → new_types ≡ sliced types offset len → new_offsets ≡ option_map (λ zs. sliced zs offset len) offsets → new_start ≡ start_of_part (places_of offsets) start offset → KeepsPart p offset len new_offsets (stored t new_types new_offsets new_start children)
+keeps_part : (t : ArrowType) (types : List ℤ) (offsets : Option (List ℤ)) (start : ℕ) (children : List Layout) (p : UnionParts) (offset len : ℕ) → stored t types offsets start children ≡ p → IsUnion offsets (stored t types offsets start children) → offset + len ≤ length (union_rows p) → (new_types : List ℤ) (new_offsets : Option (List ℤ)) (new_start : ℕ) → new_types ≡ sliced types offset len → new_offsets ≡ option_map (λ zs. sliced zs offset len) offsets → new_start ≡ start_of_part (child_rows_of offsets) start offset → KeepsPart p offset len new_offsets (stored t new_types new_offsets new_start children)
 keeps_part t types offsets start children p offset len seen union within new_types new_offsets new_start types_are offsets_are start_is =
     let union_p : IsUnion offsets p = subst (IsUnion offsets) seen union in
-    let places_are : places_of new_offsets ≡ option_map (λ ns. sliced ns offset len) (places_of offsets) = ap places_of offsets_are ∙ places_of-sliced offsets offset len in
-    let same : stored t new_types new_offsets new_start children ≡ union_slice (stored t types offsets start children) offset len = λ j. record { arrow_type = t; types = types_are j; places = places_are j; start = start_is j; children = children } in
+    let child_rows_are : child_rows_of new_offsets ≡ option_map (λ ns. sliced ns offset len) (child_rows_of offsets) = ap child_rows_of offsets_are ∙ child_rows_of-sliced offsets offset len in
+    let same : stored t new_types new_offsets new_start children ≡ union_slice (stored t types offsets start children) offset len = λ j. record { arrow_type = t; types = types_are j; child_rows = child_rows_are j; start = start_is j; children = children } in
     let part = same ∙ ap (λ r. union_slice r offset len) seen in
     record {
       part = part;
@@ -201,7 +201,7 @@ pub keeps_part_sparse : (t : ArrowType) (types : List ℤ) (offsets : Option (Li
 keeps_part_sparse t types offsets start children p offset len seen union within new_types none types_are =
     let cut = λ (os : Option (List ℤ)). option_map (λ zs. sliced zs offset len) os in
     let offsets_are : offsets ≡ cut offsets = none ∙ sym (ap cut none) in
-    let start_is : start + offset ≡ start_of_part (places_of offsets) start offset = sym (ap (λ os. start_of_part (places_of os) start offset) none) in
+    let start_is : start + offset ≡ start_of_part (child_rows_of offsets) start offset = sym (ap (λ os. start_of_part (child_rows_of os) start offset) none) in
     keeps_part t types offsets start children p offset len seen union within new_types offsets (start + offset) types_are offsets_are start_is
 
 -- in a dense one the offsets do
@@ -209,19 +209,19 @@ pub keeps_part_dense : (t : ArrowType) (types : List ℤ) (offsets : Option (Lis
 keeps_part_dense t types offsets start children p offset len seen union within new_types zs new_zs some types_are zs_are =
     let cut = λ (os : Option (List ℤ)). option_map (λ ns. sliced ns offset len) os in
     let offsets_are : Some new_zs ≡ cut offsets = ap Some zs_are ∙ sym (ap cut some) in
-    let start_is : start ≡ start_of_part (places_of offsets) start offset = sym (ap (λ os. start_of_part (places_of os) start offset) some) in
+    let start_is : start ≡ start_of_part (child_rows_of offsets) start offset = sym (ap (λ os. start_of_part (child_rows_of os) start offset) some) in
     keeps_part t types offsets start children p offset len seen union within new_types (Some new_zs) start types_are offsets_are start_is
 
-length-offsets : (offsets : Option (List ℤ)) (zs : List ℤ) (places : Option (List ℕ)) (start count : ℕ) (children : List Layout) → offsets ≡ option_map (map pos) places → SpansRows places start count children → offsets ≡ Some zs → length zs ≡ count
+length-offsets : (offsets : Option (List ℤ)) (zs : List ℤ) (child_rows : Option (List ℕ)) (start count : ℕ) (children : List Layout) → offsets ≡ option_map (map pos) child_rows → SpansRows child_rows start count children → offsets ≡ Some zs → length zs ≡ count
 length-offsets offsets zs None start count children seen spans some = cc
-length-offsets offsets zs (Some places) start count children seen spans some =
-    let same : zs ≡ map pos places = cc in
-    ap length same ∙ (length-map places pos ∙ spans.0)
+length-offsets offsets zs (Some child_rows) start count children seen spans some =
+    let same : zs ≡ map pos child_rows = cc in
+    ap length same ∙ (length-map child_rows pos ∙ spans.0)
 
 -- as many offsets as rows
 pub offsets_fit : {offsets : Option (List ℤ)} (p : UnionParts) (zs : List ℤ) → IsUnion offsets p → offsets ≡ Some zs → length zs ≡ length p.types
 offsets_fit {offsets} p zs union some =
-    length-offsets offsets zs p.places p.start (length p.types) p.children union.seen union.spans some
+    length-offsets offsets zs p.child_rows p.start (length p.types) p.children union.seen union.spans some
 
 -- a child for each field
 count_fields : {offsets : Option (List ℤ)} (p : UnionParts) → IsUnion offsets p → length (field_types p.arrow_type) ≡ length p.children
@@ -235,16 +235,16 @@ pub finds_none : {offsets : Option (List ℤ)} (p : UnionParts) (i : ℕ) (id : 
 finds_none p i id union within is none =
     none (subst (λ z. IsKnown (field_ids p.arrow_type) (length (field_types p.arrow_type)) z) (sym is) (subst (λ n. IsKnown (field_ids p.arrow_type) n (slice_index_or p.types i (pos 0))) (sym (count_fields p union)) (union.known i (pos 0) within)))
 
--- the place of each row
-pub place_sparse : (offsets : Option (List ℤ)) (start count i : ℕ) → offsets ≡ None → i < count → slice_get (places_by (places_of offsets) start count) i ≡ Some (start + i)
-place_sparse offsets start count i none within =
+-- the row of its child that each row is
+pub child_row_sparse : (offsets : Option (List ℤ)) (start count i : ℕ) → offsets ≡ None → i < count → slice_get (child_rows_by (child_rows_of offsets) start count) i ≡ Some (start + i)
+child_row_sparse offsets start count i none within =
     rw none (slice_get-get_or (range_with_len start count) i 0 (omega (arith, within, length-range_with_len start count)) ∙ ap Some (get_or-range_with_len start count i 0 within))
 
-pub place_dense : (offsets : Option (List ℤ)) (zs : List ℤ) (start count i n : ℕ) → offsets ≡ Some zs → i < length zs → pos n ≡ get_or zs i (pos 0) → slice_get (places_by (places_of offsets) start count) i ≡ Some n
-place_dense offsets zs start count i n some within is =
-    rw some (slice_get-get_or (map place_of zs) i 0 (omega (arith, within, length-map zs place_of)) ∙ ap Some (get_or-map place_of zs i (pos 0) 0 within ∙ ap place_of (sym is)))
+pub child_row_dense : (offsets : Option (List ℤ)) (zs : List ℤ) (start count i n : ℕ) → offsets ≡ Some zs → i < length zs → pos n ≡ get_or zs i (pos 0) → slice_get (child_rows_by (child_rows_of offsets) start count) i ≡ Some n
+child_row_dense offsets zs start count i n some within is =
+    rw some (slice_get-get_or (map child_row_of zs) i 0 (omega (arith, within, length-map zs child_row_of)) ∙ ap Some (get_or-map child_row_of zs i (pos 0) 0 within ∙ ap child_row_of (sym is)))
 
-natural_offset : (offsets : Option (List ℤ)) (places : Option (List ℕ)) (zs : List ℤ) (i : ℕ) → offsets ≡ option_map (map pos) places → offsets ≡ Some zs → i < length zs → pos 0 ≤ℤ get_or zs i (pos 0)
+natural_offset : (offsets : Option (List ℤ)) (child_rows : Option (List ℕ)) (zs : List ℤ) (i : ℕ) → offsets ≡ option_map (map pos) child_rows → offsets ≡ Some zs → i < length zs → pos 0 ≤ℤ get_or zs i (pos 0)
 natural_offset offsets None zs i seen some within = cc
 natural_offset offsets (Some ns) zs i seen some within =
     let same : zs ≡ map pos ns = cc in
@@ -254,7 +254,7 @@ natural_offset offsets (Some ns) zs i seen some within =
 -- no offset is negative
 pub offset_natural : {offsets : Option (List ℤ)} (p : UnionParts) (zs : List ℤ) (i : ℕ) → IsUnion offsets p → offsets ≡ Some zs → i < length p.types → pos 0 ≤ℤ get_or zs i (pos 0)
 offset_natural {offsets} p zs i union some within =
-    natural_offset offsets p.places zs i union.seen some (omega (arith, within, offsets_fit p zs union some))
+    natural_offset offsets p.child_rows zs i union.seen some (omega (arith, within, offsets_fit p zs union some))
 
 -- the rows of a field, by its array
 pub field_rows : (xs : List AnyArray) (f : ℕ) (x : AnyArray) → f < length xs → x ≡ get_or xs f x → rows_of_field (map layout_of xs) f ≡ any_array_rows x
@@ -301,19 +301,19 @@ column_known ids b id (c ∷ cs) (suc f) g at within has =
     column_step (int_eq (id_at ids b) id) c (column_of_id ids (suc b) id cs) cs (column_known ids (suc b) id cs f g (omega (arith, at)) (omega (arith, within)) has)
 
 -- parts that a test finds to hold are those of an array
-mode_fits : (mode : UnionMode) (types : List ℤ) (offsets : Option (List ℤ)) (children : List Layout) → FitsMode mode types offsets children → mode ≡ mode_by (places_of offsets)
+mode_fits : (mode : UnionMode) (types : List ℤ) (offsets : Option (List ℤ)) (children : List Layout) → FitsMode mode types offsets children → mode ≡ mode_by (child_rows_of offsets)
 mode_fits Sparse types None children fits = refl
 mode_fits Sparse types (Some zs) children fits = absurd fits
 mode_fits Dense types None children fits = absurd fits
 mode_fits Dense types (Some zs) children fits = refl
 
-spans_fit : (mode : UnionMode) (types : List ℤ) (offsets : Option (List ℤ)) (children : List Layout) → FitsMode mode types offsets children → SpansRows (places_of offsets) 0 (length types) children
+spans_fit : (mode : UnionMode) (types : List ℤ) (offsets : Option (List ℤ)) (children : List Layout) → FitsMode mode types offsets children → SpansRows (child_rows_of offsets) 0 (length types) children
 spans_fit Sparse types None children fits = λ k d within. omega (arith, fits k d within)
 spans_fit Sparse types (Some zs) children fits = absurd fits
 spans_fit Dense types None children fits = absurd fits
-spans_fit Dense types (Some zs) children fits = (length-map zs place_of ∙ fits, refl)
+spans_fit Dense types (Some zs) children fits = (length-map zs child_row_of ∙ fits, refl)
 
-naturals : (ids : Option (List ℤ)) (children : List Layout) (types zs : List ℤ) → length zs ≡ length types → All (λ row. IsInside ids children row.0 row.1) (zip types zs) → All (IsKnown ids (length children)) types → zs ≡ map pos (map place_of zs)
+naturals : (ids : Option (List ℤ)) (children : List Layout) (types zs : List ℤ) → length zs ≡ length types → All (λ row. IsInside ids children row.0 row.1) (zip types zs) → All (IsKnown ids (length children)) types → zs ≡ map pos (map child_row_of zs)
 naturals ids children types [] fits inside known = refl
 naturals ids children [] (z ∷ zs) fits inside known = absurd (omega (arith, fits))
 naturals ids children (id ∷ types) (pos n ∷ zs) fits inside known =
@@ -321,14 +321,14 @@ naturals ids children (id ∷ types) (pos n ∷ zs) fits inside known =
 naturals ids children (id ∷ types) (negsuc n ∷ zs) fits inside known =
     absurd (All-head (λ row. IsInside ids children row.0 row.1) (id, negsuc n) (zip types zs) inside (All-head (IsKnown ids (length children)) id types known))
 
-seen_fits : (mode : UnionMode) (ids : Option (List ℤ)) (types : List ℤ) (offsets : Option (List ℤ)) (children : List Layout) → FitsMode mode types offsets children → FitsOffsets ids children types offsets → All (IsKnown ids (length children)) types → offsets ≡ option_map (map pos) (places_of offsets)
+seen_fits : (mode : UnionMode) (ids : Option (List ℤ)) (types : List ℤ) (offsets : Option (List ℤ)) (children : List Layout) → FitsMode mode types offsets children → FitsOffsets ids children types offsets → All (IsKnown ids (length children)) types → offsets ≡ option_map (map pos) (child_rows_of offsets)
 seen_fits mode ids types None children fits inside known = refl
 seen_fits Sparse ids types (Some zs) children fits inside known = absurd fits
 seen_fits Dense ids types (Some zs) children fits inside known = ap Some (naturals ids children types zs fits inside known)
 
-inside_place : (ids : Option (List ℤ)) (children : List Layout) (id z : ℤ) → IsKnown ids (length children) id → IsInside ids children id z → place_of z < rows_of_id ids children id
-inside_place ids children id (pos n) known inside = inside known
-inside_place ids children id (negsuc n) known inside = absurd (inside known)
+inside_child_row : (ids : Option (List ℤ)) (children : List Layout) (id z : ℤ) → IsKnown ids (length children) id → IsInside ids children id z → child_row_of z < rows_of_id ids children id
+inside_child_row ids children id (pos n) known inside = inside known
+inside_child_row ids children id (negsuc n) known inside = absurd (inside known)
 
 -- the column of a known id is as long as all children
 column_length : (ids : Option (List ℤ)) (children : List Layout) (id : ℤ) (n : ℕ) → HaveRows n children → IsKnown ids (length children) id → rows_of_id ids children id ≡ n
@@ -337,29 +337,29 @@ column_length ids children id n long known =
     let within : found.0 < length children = omega (arith, found.1, length-map children rows) in
     ap length found.2 ∙ (ap length (get_or-map rows children found.0 (flat (plain null) []) [] within) ∙ long found.0 (flat (plain null) []) within)
 
-placed_fit : (mode : UnionMode) (ids : Option (List ℤ)) (types : List ℤ) (offsets : Option (List ℤ)) (children : List Layout) → FitsMode mode types offsets children → FitsOffsets ids children types offsets → All (IsKnown ids (length children)) types → ArePlaced ids children types (places_by (places_of offsets) 0 (length types))
+placed_fit : (mode : UnionMode) (ids : Option (List ℤ)) (types : List ℤ) (offsets : Option (List ℤ)) (children : List Layout) → FitsMode mode types offsets children → FitsOffsets ids children types offsets → All (IsKnown ids (length children)) types → ArePlaced ids children types (child_rows_by (child_rows_of offsets) 0 (length types))
 placed_fit Sparse ids types None children fits inside known =
-    let places = range_with_len 0 (length types) in
-    let pairs = length-zip types places in
-    All-from_get_or (λ row. row.1 < rows_of_id ids children row.0) (zip types places) (pos 0, 0) (λ i within.
+    let child_rows = range_with_len 0 (length types) in
+    let pairs = length-zip types child_rows in
+    All-from_get_or (λ row. row.1 < rows_of_id ids children row.0) (zip types child_rows) (pos 0, 0) (λ i within.
     let typed : i < length types = omega (arith, within, pairs) in
-    let placed : i < length places = omega (arith, typed, length-range_with_len 0 (length types)) in
+    let placed : i < length child_rows = omega (arith, typed, length-range_with_len 0 (length types)) in
     let long = column_length ids children (get_or types i (pos 0)) (length types) fits (known i (pos 0) typed) in
     let at = get_or-range_with_len 0 (length types) i 0 typed in
-    rw (get_or-zip types places i (pos 0, 0) typed placed) (omega (arith, long, at, typed)))
+    rw (get_or-zip types child_rows i (pos 0, 0) typed placed) (omega (arith, long, at, typed)))
 placed_fit Sparse ids types (Some zs) children fits inside known = absurd fits
 placed_fit Dense ids types None children fits inside known = absurd fits
 placed_fit Dense ids types (Some zs) children fits inside known =
-    let places = map place_of zs in
-    let pairs = length-zip types places in
+    let child_rows = map child_row_of zs in
+    let pairs = length-zip types child_rows in
     let stored_pairs = length-zip types zs in
-    let longs = length-map zs place_of in
-    All-from_get_or (λ row. row.1 < rows_of_id ids children row.0) (zip types places) (pos 0, 0) (λ i within.
+    let longs = length-map zs child_row_of in
+    All-from_get_or (λ row. row.1 < rows_of_id ids children row.0) (zip types child_rows) (pos 0, 0) (λ i within.
     let typed : i < length types = omega (arith, within, pairs) in
-    let placed : i < length places = omega (arith, typed, longs, fits) in
+    let placed : i < length child_rows = omega (arith, typed, longs, fits) in
     let stored_at : i < length zs = omega (arith, typed, fits) in
     let here = subst (λ row. IsInside ids children row.0 row.1) (get_or-zip types zs i (pos 0, pos 0) typed stored_at) (inside i (pos 0, pos 0) (omega (arith, typed, stored_at, stored_pairs))) in
-    rw (get_or-zip types places i (pos 0, 0) typed placed, get_or-map place_of zs i (pos 0) 0 stored_at) (inside_place ids children (get_or types i (pos 0)) (get_or zs i (pos 0)) (known i (pos 0) typed) here))
+    rw (get_or-zip types child_rows i (pos 0, 0) typed placed, get_or-map child_row_of zs i (pos 0) 0 stored_at) (inside_child_row ids children (get_or types i (pos 0)) (get_or zs i (pos 0)) (known i (pos 0) typed) here))
 
 pub holds_union : (t : ArrowType) (types : List ℤ) (offsets : Option (List ℤ)) (children : List Layout) → length types < 2 ^ 64 → HoldsUnion t types children offsets → IsUnion offsets (stored t types offsets 0 children)
 holds_union t types offsets children below holds =
@@ -376,18 +376,18 @@ holds_union t types offsets children below holds =
     }
 
 -- what is found, under equal names
-pub same_finding : (ids : Option (List ℤ)) (count other_count : ℕ) (id other_id : ℤ) (place : Option ℕ) (f : ℕ) → id ≡ other_id → count ≡ other_count → place ≡ Some f → FindsField ids count id place → FindsField ids other_count other_id (Some f)
-same_finding ids count other_count id other_id place f ids_are counts_are place_is found =
-    rw (← ids_are, ← counts_are) (subst (FindsField ids count id) place_is found)
+pub same_finding : (ids : Option (List ℤ)) (count other_count : ℕ) (id other_id : ℤ) (position : Option ℕ) (f : ℕ) → id ≡ other_id → count ≡ other_count → position ≡ Some f → FindsField ids count id position → FindsField ids other_count other_id (Some f)
+same_finding ids count other_count id other_id position f ids_are counts_are position_is found =
+    rw (← ids_are, ← counts_are) (subst (FindsField ids count id) position_is found)
 
 -- a type id and an offset that are read
-pub pair_read : (types zs ids places : List ℤ) (i : ℕ) → ids ≡ types → places ≡ zs → length zs ≡ length types → i < length ids → SFits w8 (get_or ids i (pos 0)) → SFits w32 (get_or places i (pos 0)) → (i < length (zip types zs)) × ((to_z w8 (of_z w8 (get_or ids i (pos 0))), to_z w32 (of_z w32 (get_or places i (pos 0)))) ≡ get_or (zip types zs) i (pos 0, pos 0))
-pair_read types zs ids places i ids_are places_are fit within id_fits place_fits =
+pub pair_read : (types zs ids child_rows : List ℤ) (i : ℕ) → ids ≡ types → child_rows ≡ zs → length zs ≡ length types → i < length ids → SFits w8 (get_or ids i (pos 0)) → SFits w32 (get_or child_rows i (pos 0)) → (i < length (zip types zs)) × ((to_z w8 (of_z w8 (get_or ids i (pos 0))), to_z w32 (of_z w32 (get_or child_rows i (pos 0)))) ≡ get_or (zip types zs) i (pos 0, pos 0))
+pair_read types zs ids child_rows i ids_are child_rows_are fit within id_fits child_row_fits =
     let typed : i < length types = subst (λ xs. i < length xs) ids_are within in
     let placed : i < length zs = omega (arith, typed, fit) in
     let id_is = to_z-of_z w8 (get_or ids i (pos 0)) id_fits ∙ ap (λ xs. get_or xs i (pos 0)) ids_are in
-    let place_is = to_z-of_z w32 (get_or places i (pos 0)) place_fits ∙ ap (λ xs. get_or xs i (pos 0)) places_are in
-    (omega (arith, typed, placed, length-zip types zs), (λ j. (id_is j, place_is j)) ∙ sym (get_or-zip types zs i (pos 0, pos 0) typed placed))
+    let child_row_is = to_z-of_z w32 (get_or child_rows i (pos 0)) child_row_fits ∙ ap (λ xs. get_or xs i (pos 0)) child_rows_are in
+    (omega (arith, typed, placed, length-zip types zs), (λ j. (id_is j, child_row_is j)) ∙ sym (get_or-zip types zs i (pos 0, pos 0) typed placed))
 
 pub count_of_children : (xs : List AnyArray) (ts : List ArrowType) → map type_of_layout (map layout_of xs) ≡ ts → length ts ≡ length (map layout_of xs)
 count_of_children xs ts types = sym (ap length types) ∙ length-map (map layout_of xs) type_of_layout

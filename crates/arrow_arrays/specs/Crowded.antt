@@ -30,7 +30,7 @@ nth_layout (more_layouts l ls) (suc f) = nth_layout ls f
 abbrev pub child_at : ℕ → Layout → Layout
 child_at f (fielded t v cs) = nth_layout cs f
 child_at f (sparse t ids start cs) = nth_layout cs f
-child_at f (dense t ids places cs) = nth_layout cs f
+child_at f (dense t ids child_rows cs) = nth_layout cs f
 child_at f l = l
 
 -- how many values the dictionaries of some arrays have
@@ -50,8 +50,8 @@ abbrev mutual
   CrowdedRow before (fielded t v cs) i = (valid_at v i ≡ true) × CrowdedPart before cs 0 i
   CrowdedRow before (sparse t ids start cs) i =
       (id : ℤ) × (slice_get ids i ≡ Some id) × CrowdedVariant before (field_ids t) cs 0 id (start + i)
-  CrowdedRow before (dense t ids places cs) i =
-      (id : ℤ) × (slice_get ids i ≡ Some id) × CrowdedVariant before (field_ids t) cs 0 id (slice_index places i)
+  CrowdedRow before (dense t ids child_rows cs) i =
+      (id : ℤ) × (slice_get ids i ≡ Some id) × CrowdedVariant before (field_ids t) cs 0 id (slice_index child_rows i)
 
   -- in some child, from field f on
   pub CrowdedPart : List Layout → Layouts → ℕ → ℕ → Type 0
@@ -80,7 +80,7 @@ abbrev mutual
   UnjoinedBy (fixed t v s c) all = UnjoinedBy c (map child_of all)
   UnjoinedBy (fielded t v cs) all = UnjoinedPart cs 0 all
   UnjoinedBy (sparse t ids start cs) all = UnjoinedPart cs 0 all
-  UnjoinedBy (dense t ids places cs) all = UnjoinedPart cs 0 all
+  UnjoinedBy (dense t ids child_rows cs) all = UnjoinedPart cs 0 all
 
   -- of some child, from field f on
   pub UnjoinedPart : Layouts → ℕ → List Layout → Type 0

@@ -43,7 +43,7 @@ type_of_layout (listed t v offsets c) = t
 type_of_layout (fixed t v s c) = t
 type_of_layout (fielded t v cs) = t
 type_of_layout (sparse t ids start cs) = t
-type_of_layout (dense t ids places cs) = t
+type_of_layout (dense t ids child_rows cs) = t
 type_of_layout (keyed t keys c) = t
 
 -- the type ids that a union names its fields by, where they are given
@@ -88,13 +88,13 @@ abbrev pub column_of_id : Option (List ℤ) → ℕ → ℤ → List (List Slot)
 column_of_id ids f id [] = []
 column_of_id ids f id (c ∷ cs) = if int_eq (id_at ids f) id then c else column_of_id ids (suc f) id cs
 
--- the row of a union that has an id and lies at a place of that id's field
+-- the row of a union that has an id and is a row of that id's field
 abbrev pub variant_at : Option (List ℤ) → List (List Slot) → ℤ → ℕ → Slot
-variant_at ids columns id place = Variant id (slice_index_or (column_of_id ids 0 id columns) place Null)
+variant_at ids columns id child_row = Variant id (slice_index_or (column_of_id ids 0 id columns) child_row Null)
 
--- the rows of a union: the id and the place of each
+-- the rows of a union: the id of each, and the row of its child that it is
 abbrev pub union_items : Option (List ℤ) → List (List Slot) → List ℤ → List ℕ → List Slot
-union_items ids columns types places = map (λ row. variant_at ids columns row.0 row.1) (zip types places)
+union_items ids columns types child_rows = map (λ row. variant_at ids columns row.0 row.1) (zip types child_rows)
 
 -- a row of a dictionary: the value that its key names
 abbrev pub keyed_item : List Slot → Option ℕ → Slot
@@ -108,7 +108,7 @@ abbrev mutual
   rows (fixed t v s c) = masked v (fixed_items s (rows c))
   rows (fielded t v cs) = masked v (struct_items (columns_of cs))
   rows (sparse t ids start cs) = union_items (field_ids t) (columns_of cs) ids (range_with_len start (length ids))
-  rows (dense t ids places cs) = union_items (field_ids t) (columns_of cs) ids places
+  rows (dense t ids child_rows cs) = union_items (field_ids t) (columns_of cs) ids child_rows
   rows (keyed t keys c) = map (keyed_item (rows c)) keys
 
   -- the rows of each
@@ -124,7 +124,7 @@ abbrev mutual
   depth (fixed t v s c) = suc (depth c)
   depth (fielded t v cs) = suc (depth_of_all cs)
   depth (sparse t ids start cs) = suc (depth_of_all cs)
-  depth (dense t ids places cs) = suc (depth_of_all cs)
+  depth (dense t ids child_rows cs) = suc (depth_of_all cs)
   depth (keyed t keys c) = suc (depth c)
 
   pub depth_of_all : Layouts → ℕ

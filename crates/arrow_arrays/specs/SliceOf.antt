@@ -15,7 +15,7 @@ abbrev mutual
   slice_of (fixed t v s c) offset len = fixed t (validity_of_slice v offset len) s (slice_of c (offset * s) (len * s))
   slice_of (fielded t v cs) offset len = fielded t (validity_of_slice v offset len) (slices_of cs offset len)
   slice_of (sparse t ids start cs) offset len = sparse t (sliced ids offset len) (start + offset) cs
-  slice_of (dense t ids places cs) offset len = dense t (sliced ids offset len) (sliced places offset len) cs
+  slice_of (dense t ids child_rows cs) offset len = dense t (sliced ids offset len) (sliced child_rows offset len) cs
   slice_of (keyed t keys c) offset len = keyed t (sliced keys offset len) c
 
   -- of each

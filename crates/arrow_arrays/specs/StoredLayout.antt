@@ -52,7 +52,7 @@ abbrev mutual
   store_layout (fixed t v s c) = gcons (gnum 2) (gcons (store_type t) (gcons (store_bits v) (gcons (gnum s) (store_layout c))))
   store_layout (fielded t v cs) = gcons (gnum 3) (gcons (store_type t) (gcons (store_bits v) (store_layouts cs)))
   store_layout (sparse t ids start cs) = gcons (gnum 4) (gcons (store_type t) (gcons (store_ints ids) (gcons (gnum start) (store_layouts cs))))
-  store_layout (dense t ids places cs) = gcons (gnum 5) (gcons (store_type t) (gcons (store_ints ids) (gcons (store_name places) (store_layouts cs))))
+  store_layout (dense t ids child_rows cs) = gcons (gnum 5) (gcons (store_type t) (gcons (store_ints ids) (gcons (store_name child_rows) (store_layouts cs))))
   store_layout (keyed t keys c) = gcons (gnum 6) (gcons (store_type t) (gcons (store_keys keys) (store_layout c)))
 
   pub store_layouts : Layouts → Gv
@@ -66,7 +66,7 @@ abbrev mutual
   load_layout (gcons (gnum (suc (suc zero))) (gcons t (gcons v (gcons s c)))) = fixed (load_type t) (load_bits v) (num s) (load_layout c)
   load_layout (gcons (gnum (suc (suc (suc zero)))) (gcons t (gcons v cs))) = fielded (load_type t) (load_bits v) (load_layouts cs)
   load_layout (gcons (gnum (suc (suc (suc (suc zero))))) (gcons t (gcons ids (gcons start cs)))) = sparse (load_type t) (load_ints ids) (num start) (load_layouts cs)
-  load_layout (gcons (gnum (suc (suc (suc (suc (suc zero)))))) (gcons t (gcons ids (gcons places cs)))) = dense (load_type t) (load_ints ids) (load_name places) (load_layouts cs)
+  load_layout (gcons (gnum (suc (suc (suc (suc (suc zero)))))) (gcons t (gcons ids (gcons child_rows cs)))) = dense (load_type t) (load_ints ids) (load_name child_rows) (load_layouts cs)
   load_layout (gcons (gnum (suc (suc (suc (suc (suc (suc n))))))) (gcons t (gcons keys c))) = keyed (load_type t) (load_keys keys) (load_layout c)
   load_layout _ = flat (plain null) []
 
@@ -82,7 +82,7 @@ mutual
   load_layout-store_layout (fixed t v s c) = λ i. fixed (load_type-store_type t i) (load_bits-store_bits v i) s (load_layout-store_layout c i)
   load_layout-store_layout (fielded t v cs) = λ i. fielded (load_type-store_type t i) (load_bits-store_bits v i) (load_layouts-store_layouts cs i)
   load_layout-store_layout (sparse t ids start cs) = λ i. sparse (load_type-store_type t i) (load_ints-store_ints ids i) start (load_layouts-store_layouts cs i)
-  load_layout-store_layout (dense t ids places cs) = λ i. dense (load_type-store_type t i) (load_ints-store_ints ids i) (load_name-store_name places i) (load_layouts-store_layouts cs i)
+  load_layout-store_layout (dense t ids child_rows cs) = λ i. dense (load_type-store_type t i) (load_ints-store_ints ids i) (load_name-store_name child_rows i) (load_layouts-store_layouts cs i)
   load_layout-store_layout (keyed t keys c) = λ i. keyed (load_type-store_type t i) (load_keys-store_keys keys i) (load_layout-store_layout c i)
 
   pub load_layouts-store_layouts : (ls : Layouts) → load_layouts (store_layouts ls) ≡ ls

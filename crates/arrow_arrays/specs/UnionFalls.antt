@@ -9,10 +9,10 @@ use Rattle.arrow_arrays.specs.Any.{layout_of}
 use Rattle.arrow_arrays.specs.Falls.{children_fall}
 use Rattle.arrow_arrays.specs.UnionParts.{union_layout_by}
 
-pub depth_of_union : (t : ArrowType) (types : List ℤ) (places : Option (List ℕ)) (start : ℕ) (children : List Layout) → depth (union_layout_by t types places start children) ≡ suc (depth_of_all (to_layouts children))
+pub depth_of_union : (t : ArrowType) (types : List ℤ) (child_rows : Option (List ℕ)) (start : ℕ) (children : List Layout) → depth (union_layout_by t types child_rows start children) ≡ suc (depth_of_all (to_layouts children))
 depth_of_union t types None start children = refl
-depth_of_union t types (Some places) start children = refl
+depth_of_union t types (Some child_rows) start children = refl
 
-pub variants_fall : (xs : List AnyArray) (t : ArrowType) (types : List ℤ) (places : Option (List ℕ)) (start : ℕ) → max (most deep-AnyArray xs) 0 ≤ depth (union_layout_by t types places start (map layout_of xs))
-variants_fall xs t types places start =
-    rw (depth_of_union t types places start (map layout_of xs)) (children_fall xs)
+pub variants_fall : (xs : List AnyArray) (t : ArrowType) (types : List ℤ) (child_rows : Option (List ℕ)) (start : ℕ) → max (most deep-AnyArray xs) 0 ≤ depth (union_layout_by t types child_rows start (map layout_of xs))
+variants_fall xs t types child_rows start =
+    rw (depth_of_union t types child_rows start (map layout_of xs)) (children_fall xs)

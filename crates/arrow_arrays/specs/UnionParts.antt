@@ -21,34 +21,34 @@ use Rattle.arrow_arrays.specs.TypeParts.{field_types, mode_in}
 pub record UnionParts : Type 0 where
   pub arrow_type : ArrowType
   pub types : List ℤ
-  pub places : Option (List ℕ)
+  pub child_rows : Option (List ℕ)
   pub start : ℕ
   pub children : List Layout
 
 -- the code that the logic asks for
 abbrev pub union_parts_code : Coded UnionParts
 union_parts_code =
-    code_by (ArrowType × (List ℤ × (Option (List ℕ) × (ℕ × List Layout)))) (coded× type_code (coded× (coded_list coded_ℤ) (coded× (coded_option (coded_list coded_ℕ)) (coded× coded_ℕ (coded_list layout_code))))) (λ p. (p.arrow_type, (p.types, (p.places, (p.start, p.children))))) (λ t. record { arrow_type = t.0; types = t.1.0; places = t.1.1.0; start = t.1.1.1.0; children = t.1.1.1.1 }) (λ _. refl)
+    code_by (ArrowType × (List ℤ × (Option (List ℕ) × (ℕ × List Layout)))) (coded× type_code (coded× (coded_list coded_ℤ) (coded× (coded_option (coded_list coded_ℕ)) (coded× coded_ℕ (coded_list layout_code))))) (λ p. (p.arrow_type, (p.types, (p.child_rows, (p.start, p.children))))) (λ t. record { arrow_type = t.0; types = t.1.0; child_rows = t.1.1.0; start = t.1.1.1.0; children = t.1.1.1.1 }) (λ _. refl)
 
--- a place, by an offset that is not negative
-abbrev pub place_of : ℤ → ℕ
-place_of (pos n) = n
-place_of (negsuc n) = 0
+-- a row of a child, by an offset that is not negative
+abbrev pub child_row_of : ℤ → ℕ
+child_row_of (pos n) = n
+child_row_of (negsuc n) = 0
 
-abbrev pub places_of : Option (List ℤ) → Option (List ℕ)
-places_of = option_map (map place_of)
+abbrev pub child_rows_of : Option (List ℤ) → Option (List ℕ)
+child_rows_of = option_map (map child_row_of)
 
 -- where each row lies in its child: in a sparse union one row behind the other
-abbrev pub places_by : Option (List ℕ) → ℕ → ℕ → List ℕ
-places_by None start count = range_with_len start count
-places_by (Some places) start count = places
+abbrev pub child_rows_by : Option (List ℕ) → ℕ → ℕ → List ℕ
+child_rows_by None start count = range_with_len start count
+child_rows_by (Some child_rows) start count = child_rows
 
 abbrev pub union_layout_by : ArrowType → List ℤ → Option (List ℕ) → ℕ → List Layout → Layout
 union_layout_by t types None start children = sparse t types start (to_layouts children)
-union_layout_by t types (Some places) start children = dense t types places (to_layouts children)
+union_layout_by t types (Some child_rows) start children = dense t types child_rows (to_layouts children)
 
 abbrev pub union_layout : UnionParts → Layout
-union_layout p = union_layout_by p.arrow_type p.types p.places p.start p.children
+union_layout p = union_layout_by p.arrow_type p.types p.child_rows p.start p.children
 
 -- the rows
 abbrev pub union_rows : UnionParts → List Slot
@@ -58,7 +58,7 @@ union_rows p = rows (union_layout p)
 abbrev pub union_meaning : UnionParts → ArrowType × List Slot
 union_meaning p = (p.arrow_type, union_rows p)
 
--- a row of a field, by the field's place, and how many it has
+-- a row of a field, by the number of the field, and how many it has
 abbrev pub rows_of_field : List Layout → ℕ → List Slot
 rows_of_field children f = slice_index_or (map rows children) f []
 
@@ -68,17 +68,17 @@ row_in children f i = slice_index_or (rows_of_field children f) i Null
 -- the row where the rows of a slice begin: a dense union has none
 abbrev pub start_of_part : Option (List ℕ) → ℕ → ℕ → ℕ
 start_of_part None start offset = start + offset
-start_of_part (Some places) start offset = start
+start_of_part (Some child_rows) start offset = start
 
 -- the parts of a slice: the children stay whole
 abbrev pub union_slice : UnionParts → ℕ → ℕ → UnionParts
 union_slice p offset len =
-    record { arrow_type = p.arrow_type; types = sliced p.types offset len; places = option_map (λ ns. sliced ns offset len) p.places; start = start_of_part p.places p.start offset; children = p.children }
+    record { arrow_type = p.arrow_type; types = sliced p.types offset len; child_rows = option_map (λ ns. sliced ns offset len) p.child_rows; start = start_of_part p.child_rows p.start offset; children = p.children }
 
 -- the mode that the parts have: only a dense union has offsets
 abbrev pub mode_by : Option (List ℕ) → UnionMode
 mode_by None = Sparse
-mode_by (Some places) = Dense
+mode_by (Some child_rows) = Dense
 
 -- the offsets are there where the type is dense, and as many as the rows; the children of a sparse union are as long as the union
 abbrev pub FitsMode : UnionMode → List ℤ → Option (List ℤ) → List Layout → Type 0
@@ -106,29 +106,29 @@ FitsOffsets ids children types offsets =
 
 -- each row lies inside the child of its id
 abbrev pub ArePlaced : Option (List ℤ) → List Layout → List ℤ → List ℕ → Type 0
-ArePlaced ids children types places = All (λ row. row.1 < rows_of_id ids children row.0) (zip types places)
+ArePlaced ids children types child_rows = All (λ row. row.1 < rows_of_id ids children row.0) (zip types child_rows)
 
 -- the first of so many fields that has an id, if one has
 abbrev pub FindsField : Option (List ℤ) → ℕ → ℤ → Option ℕ → Type 0
 FindsField ids count id None = IsKnown ids count id → ⊥
 FindsField ids count id (Some f) = (f < count) × (id_at ids f ≡ id) × ((e : ℕ) → e < f → id_at ids e ≡ id → ⊥)
 
--- the rows of a sparse union lie in all its children; a dense union has a place for each row, and no start
+-- the rows of a sparse union lie in all its children; a dense union has a row of a child for each row, and no start
 abbrev pub SpansRows : Option (List ℕ) → ℕ → ℕ → List Layout → Type 0
 SpansRows None start count children = All (λ l. start + count ≤ length (rows l)) children
-SpansRows (Some places) start count children = (length places ≡ count) × (start ≡ 0)
+SpansRows (Some child_rows) start count children = (length child_rows ≡ count) × (start ≡ 0)
 
--- the parts of an array, by its offsets: a carried type of this mode, a child of the type of each field, a place below 2 ^ 64 for each row, and each row inside the child of its id
+-- the parts of an array, by its offsets: a carried type of this mode, a child of the type of each field, a child row below 2 ^ 64 for each row, and each row inside the child of its id
 pub record IsUnion (offsets : Option (List ℤ)) (p : UnionParts) : Type 0 where
   pub kind : IsCarriedAs physical.Union p.arrow_type
-  pub mode : mode_in p.arrow_type ≡ mode_by p.places
+  pub mode : mode_in p.arrow_type ≡ mode_by p.child_rows
   pub children : map type_of_layout p.children ≡ field_types p.arrow_type
   pub some : 0 < length p.children
-  pub seen : offsets ≡ option_map (map pos) p.places
-  pub spans : SpansRows p.places p.start (length p.types) p.children
+  pub seen : offsets ≡ option_map (map pos) p.child_rows
+  pub spans : SpansRows p.child_rows p.start (length p.types) p.children
   pub known : All (IsKnown (field_ids p.arrow_type) (length p.children)) p.types
   pub fits : p.start + length p.types < 2 ^ 64
-  pub placed : ArePlaced (field_ids p.arrow_type) p.children p.types (places_by p.places p.start (length p.types))
+  pub placed : ArePlaced (field_ids p.arrow_type) p.children p.types (child_rows_by p.child_rows p.start (length p.types))
 
 -- what a test of the parts finds to hold
 abbrev pub HoldsUnion : ArrowType → List ℤ → List Layout → Option (List ℤ) → Type 0

@@ -283,18 +283,18 @@ fn structs(alloc: Global, letters: &[u8]) -> Result<AnyArray, Error> {
     make_structs(alloc, letters, left, flat(alloc, Shape::Number, &stored)?)
 }
 
-/// The buffers of type ids and of places.
+/// The buffers of type ids and of offsets.
 fn buffers_of(
     alloc: Global,
     ids: &[i8],
-    places: Option<&[i32]>,
+    offsets: Option<&[i32]>,
 ) -> Result<(Buffer<i8>, Option<Buffer<i32>>), Error> {
     let ids = Buffer::from_vec(alloc, Vec::from_slice(alloc, ids)?)?;
-    match places {
+    match offsets {
         None => Ok((ids, None)),
-        Some(places) => {
-            let places = Buffer::from_vec(alloc, Vec::from_slice(alloc, places)?)?;
-            Ok((ids, Some(places)))
+        Some(offsets) => {
+            let offsets = Buffer::from_vec(alloc, Vec::from_slice(alloc, offsets)?)?;
+            Ok((ids, Some(offsets)))
         }
     }
 }
@@ -305,15 +305,15 @@ pub fn make_union(
     data_type: DataType,
     ids: &[i8],
     fields: Vec<AnyArray>,
-    places: Option<&[i32]>,
+    offsets: Option<&[i32]>,
 ) -> Result<AnyArray, Error> {
-    let (ids, places) = buffers_of(alloc, ids, places)?;
-    Ok(AnyArray::Union(UnionArray::try_new(data_type, ids, fields, places)?))
+    let (ids, offsets) = buffers_of(alloc, ids, offsets)?;
+    Ok(AnyArray::Union(UnionArray::try_new(data_type, ids, fields, offsets)?))
 }
 
-/// The type ids of the rows of a union, and their places in a dense one.
-fn places_of(alloc: Global, letters: &[u8]) -> Result<(Vec<i8>, Vec<i32>), Error> {
-    let (mut ids, mut places) = (Vec::new(alloc), Vec::new(alloc));
+/// The type ids of the rows of a union, and their offsets in a dense one.
+fn ids_and_offsets(alloc: Global, letters: &[u8]) -> Result<(Vec<i8>, Vec<i32>), Error> {
+    let (mut ids, mut offsets) = (Vec::new(alloc), Vec::new(alloc));
     for letter in letters {
         ids.push(if *letter % 2 == 1 { 5 } else { 7 })?;
         let first = if letter.is_ascii_lowercase() {
@@ -321,17 +321,17 @@ fn places_of(alloc: Global, letters: &[u8]) -> Result<(Vec<i8>, Vec<i32>), Error
         } else {
             b'A' - 8
         };
-        places.push(i32::from(letter.saturating_sub(first)))?;
+        offsets.push(i32::from(letter.saturating_sub(first)))?;
     }
-    Ok((ids, places))
+    Ok((ids, offsets))
 }
 
 /// A capital is null in the children. Those of a dense union are the letters a to h and A to H.
 fn unions(alloc: Global, mode: UnionMode, letters: &[u8]) -> Result<AnyArray, Error> {
-    let (ids, places) = places_of(alloc, letters)?;
+    let (ids, offsets) = ids_and_offsets(alloc, letters)?;
     match mode {
         UnionMode::Sparse => union_over(alloc, mode, letters, &ids, None),
-        UnionMode::Dense => union_over(alloc, mode, b"abcdefghABCDEFGH", &ids, Some(&places)),
+        UnionMode::Dense => union_over(alloc, mode, b"abcdefghABCDEFGH", &ids, Some(&offsets)),
     }
 }
 
@@ -341,12 +341,12 @@ fn union_over(
     mode: UnionMode,
     stored: &[u8],
     ids: &[i8],
-    places: Option<&[i32]>,
+    offsets: Option<&[i32]>,
 ) -> Result<AnyArray, Error> {
     let left = flat(alloc, Shape::Utf8, stored)?;
     let right = flat(alloc, Shape::Number, stored)?;
     let data_type = type_of_pair(alloc, Some(mode), &left, &right)?;
-    make_union(alloc, data_type, ids, both(alloc, left, right)?, places)
+    make_union(alloc, data_type, ids, both(alloc, left, right)?, offsets)
 }
 
 /// An array of these rows.

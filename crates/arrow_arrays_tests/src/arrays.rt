@@ -16,7 +16,7 @@ fn rows_and_children(rt: HostRuntime) {
 }
 
 #[test]
-fn keys_and_places(rt: HostRuntime) {
+fn keys_and_unions(rt: HostRuntime) {
     check_again!(rt; dictionaries::check_keys, dictionaries::check_equality);
     check_again!(rt; unions::check_sparse, unions::check_dense);
 }

@@ -23,17 +23,17 @@ forth xs (negsuc k) t above =
     let rest = take_all (length xs - 0 - suc k) (drop (suc k) xs) (omega (arith, length-drop (suc k) xs)) in
     ap (λ ys. ys ++ replicate (suc k) (null_slot t)) (sym rest)
 
-module _ (xs : List Slot) (k : ℤ) (t : ArrowType) (front places : ℕ) (moved : places ≡ unsigned_abs k) where
+module _ (xs : List Slot) (k : ℤ) (t : ArrowType) (front distance : ℕ) (moved : distance ≡ unsigned_abs k) where
   -- back: all null slots in front
-  pub shifted_back : pos 0 <ℤ k → front ≡ places → shifted xs k t ≡ between xs front (places - front) t
+  pub shifted_back : pos 0 <ℤ k → front ≡ distance → shifted xs k t ≡ between xs front (distance - front) t
   shifted_back above all =
-      let none : 0 ≡ places - front = omega (arith, all) in
+      let none : 0 ≡ distance - front = omega (arith, all) in
       let many : unsigned_abs k ≡ front = sym (all ∙ moved) in
       back xs k t above ∙ (λ i. between xs (many i) (none i) t)
 
   -- forth, or nowhere: all behind
-  pub shifted_forth : (pos 0 <ℤ k → ⊥) → front ≡ 0 → shifted xs k t ≡ between xs front (places - front) t
+  pub shifted_forth : (pos 0 <ℤ k → ⊥) → front ≡ 0 → shifted xs k t ≡ between xs front (distance - front) t
   shifted_forth below none =
-      let many : unsigned_abs k ≡ places - front = omega (arith, none, moved) in
+      let many : unsigned_abs k ≡ distance - front = omega (arith, none, moved) in
       let first : 0 ≡ front = sym none in
       forth xs k t below ∙ (λ i. between xs (first i) (many i) t)

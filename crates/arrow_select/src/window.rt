@@ -17,7 +17,7 @@ use arrow_growable::growable::{Growable, make_growable};
 use arrow_types::error::{ArgumentFault, Error};
 use std::alloc::Global;
 
-/// The rows moved by `offset` places, in an array of the same type: for an offset above 0, so many null
+/// The rows moved by `offset` rows, in an array of the same type: for an offset above 0, so many null
 /// slots and then all rows but the last ones; else all rows but the first ones, and then the null
 /// slots.
 ///
@@ -39,14 +39,14 @@ pub fn shift(alloc: Global, array: &AnyArray, offset: i64) -> Result<AnyArray, E
     ensures overflow { result ≡ Err Error.Overflow → Fits (any_array_type array.now) (shifted (any_array_rows array.now) offset (any_array_type array.now)) → ⊥ }
     ensures others { IfErr result IsShiftRefusal }
 {
-    let places = offset.unsigned_abs() as usize;
+    let distance = offset.unsigned_abs() as usize;
     let len = array.len();
-    if offset == i64::MIN || places > len {
+    if offset == i64::MIN || distance > len {
         return Err(Error::InvalidArgumentError(ArgumentFault::ShiftOffset));
     }
-    let front = if offset > 0 { places } else { 0 };
-    let growable = make_growable(alloc, &[array], places > 0, len)?;
-    rows_between(growable, array, front, places - front)
+    let front = if offset > 0 { distance } else { 0 };
+    let growable = make_growable(alloc, &[array], distance > 0, len)?;
+    rows_between(growable, array, front, distance - front)
 }
 
 /// What [`append_between`] appends, by a growable over the array that has no row yet.

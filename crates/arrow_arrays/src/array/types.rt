@@ -72,23 +72,23 @@ pub(crate) fn mode(data_type: &DataType) -> UnionMode
     }
 }
 
-/// The place of the field of a union that has a type id, if one has.
+/// The position of the field of a union that has a type id, if one has.
 pub(crate) fn field_of_id(data_type: &DataType, id: i8) -> Option<usize>
     requires { IsCarriedAs physical.Union (type_of data_type.now) }
     ensures { FindsField (field_ids (type_of data_type.now)) (length (field_types (type_of data_type.now))) id result }
 {
     match data_type {
         DataType::Union(fields, ids, _) => match ids {
-            None => place_below(id, fields.len()),
-            Some(ids) => place_among(id, ids),
+            None => position_below(id, fields.len()),
+            Some(ids) => position_among(id, ids),
         },
         DataType::Extension(_, inner, _) => field_of_id(inner, id),
         _ => unreachable!(),
     }
 }
 
-/// The place that a number is, if it is one of so many.
-fn place_below(id: i8, count: usize) -> Option<usize>
+/// The position that a number is, if it is one of so many.
+fn position_below(id: i8, count: usize) -> Option<usize>
     ensures { FindsField None count id result }
 {
     if id.in_range(count) {
@@ -98,8 +98,8 @@ fn place_below(id: i8, count: usize) -> Option<usize>
     }
 }
 
-/// The place of an id among those that are given.
-fn place_among(id: i8, ids: &[i32]) -> Option<usize>
+/// The position of an id among those that are given.
+fn position_among(id: i8, ids: &[i32]) -> Option<usize>
     ensures { FindsField (Some ids.now) (length ids.now) id result }
 {
     for (i, given) in ids.iter().enumerate() {

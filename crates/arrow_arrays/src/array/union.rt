@@ -16,7 +16,7 @@ ghost use Rattle.arrow_flat.specs.Parts.{meaning_code};
 ghost use Rattle.arrow_arrays.specs.Any.{layout_of, any_array_type, kind_in, union_kind};
 ghost use Rattle.arrow_arrays.specs.Layout.{type_of_layout, field_ids};
 ghost use Rattle.arrow_arrays.specs.TypeParts.{field_types, mode_in};
-ghost use Rattle.arrow_arrays.specs.UnionParts.{IsUnion, IsUnionFault, HoldsUnion, IsKnown, IsInside, SpansRows, FindsField, FitsMode, FitsOffsets, places_of, places_by, mode_by, row_in, rows_of_field, union_rows, union_meaning, union_slice};
+ghost use Rattle.arrow_arrays.specs.UnionParts.{IsUnion, IsUnionFault, HoldsUnion, IsKnown, IsInside, SpansRows, FindsField, FitsMode, FitsOffsets, child_rows_of, child_rows_by, mode_by, row_in, rows_of_field, union_rows, union_meaning, union_slice};
 
 use crate::array::any::clone_all;
 use crate::array::struct_::have_rows;
@@ -31,7 +31,7 @@ use std::alloc::AllocError;
 use std::marker::Model;
 
 /// An array of unions: a type id for each row, and a child for each field ("Union Layout"). A row lies
-/// in the child of its id: in a sparse union at the same place, in a dense one where its offset says.
+/// in the child of its id: in a sparse union the row of the same number, in a dense one where its offset says.
 #[cycle(arrays)]
 pub struct UnionArray {
     data_type: DataType,
@@ -59,7 +59,7 @@ impl Model for UnionArray {
     ghost use Rattle.std.specs.Prelude.{map};
     ghost use Rattle.arrow_types.specs.TypeOf.{type_of};
     ghost use Rattle.arrow_arrays.specs.Layout.{depth};
-    ghost use Rattle.arrow_arrays.specs.UnionParts.{UnionParts, union_parts_code, union_layout, places_of, IsUnion};
+    ghost use Rattle.arrow_arrays.specs.UnionParts.{UnionParts, union_parts_code, union_layout, child_rows_of, IsUnion};
 
     ghost Value = { UnionParts };
 
@@ -67,19 +67,19 @@ impl Model for UnionArray {
 
     ghost use Rattle.arrow_arrays.specs.Any.{layout_of};
 
-    ghost view = { λ a. record { arrow_type = type_of a.data_type; types = a.types; places = places_of a.offsets; start = a.start; children = map layout_of a.fields.items } };
+    ghost view = { λ a. record { arrow_type = type_of a.data_type; types = a.types; child_rows = child_rows_of a.offsets; start = a.start; children = map layout_of a.fields.items } };
 
-    ghost invariant = { λ a. IsUnion a.offsets (record { arrow_type = type_of a.data_type; types = a.types; places = places_of a.offsets; start = a.start; children = map layout_of a.fields.items }) };
+    ghost invariant = { λ a. IsUnion a.offsets (record { arrow_type = type_of a.data_type; types = a.types; child_rows = child_rows_of a.offsets; start = a.start; children = map layout_of a.fields.items }) };
 
     ghost size = { λ p. depth (union_layout p) };
 
     ghost use Rattle.arrow_arrays.specs.UnionFalls.{variants_fall};
 
-    ghost size_decreases = { λ a h. variants_fall a.fields.items (type_of a.data_type) a.types (places_of a.offsets) a.start };
+    ghost size_decreases = { λ a h. variants_fall a.fields.items (type_of a.data_type) a.types (child_rows_of a.offsets) a.start };
 }
 
 impl UnionArray {
-    /// An array of unions: row `i` is a row of the field whose type id is `types[i]`, at the same place
+    /// An array of unions: row `i` is a row of the field whose type id is `types[i]`, the row of the same number
     /// in a sparse union, and where `offsets[i]` says in a dense one. It takes no memory. The offsets of
     /// a field need not rise, and rows may share a row of a field.
     ///
@@ -95,8 +95,8 @@ impl UnionArray {
         fields: Vec<AnyArray>,
         offsets: Option<Buffer<i32>>,
     ) -> Result<UnionArray, Error>
-        ensures ok { IfOk result (λ array. array ≡ (record { arrow_type = type_of data_type; types = types; places = places_of offsets; start = 0; children = map layout_of fields.items })) }
-        ensures sound { OnOk result (IsUnion offsets (record { arrow_type = type_of data_type; types = types; places = places_of offsets; start = 0; children = map layout_of fields.items })) }
+        ensures ok { IfOk result (λ array. array ≡ (record { arrow_type = type_of data_type; types = types; child_rows = child_rows_of offsets; start = 0; children = map layout_of fields.items })) }
+        ensures sound { OnOk result (IsUnion offsets (record { arrow_type = type_of data_type; types = types; child_rows = child_rows_of offsets; start = 0; children = map layout_of fields.items })) }
         ensures fault { IfErr result (IsUnionFault (type_of data_type) types (map layout_of fields.items) offsets) }
     {
         // There are at most as many rows as a `usize` counts.
@@ -133,15 +133,15 @@ impl UnionArray {
         ensures same { map layout_of result.now ≡ self.now.children }
         ensures fields { map type_of_layout self.now.children ≡ field_types self.now.arrow_type }
         ensures some { 0 < length self.now.children }
-        ensures spans { SpansRows self.now.places self.now.start (length self.now.types) self.now.children }
+        ensures spans { SpansRows self.now.child_rows self.now.start (length self.now.types) self.now.children }
     {
         &self.fields
     }
 
     /// Where each row of a dense union lies in its child. A sparse union has none.
     pub fn offsets(&self) -> Option<&Buffer<i32>>
-        ensures same { option_copied result ≡ option_map (map pos) self.now.places }
-        ensures mode { mode_in self.now.arrow_type ≡ mode_by self.now.places }
+        ensures same { option_copied result ≡ option_map (map pos) self.now.child_rows }
+        ensures mode { mode_in self.now.arrow_type ≡ mode_by self.now.child_rows }
     {
         self.offsets.as_ref()
     }
@@ -154,20 +154,20 @@ impl UnionArray {
         self.start
     }
 
-    /// Which field row `i` lies in, by its place among the fields, and in which row of it.
+    /// Which field row `i` lies in, by its number among the fields, and in which row of it.
     ///
     /// # Requires
     /// `i` is below the count of rows.
     pub fn index(&self, i: usize) -> (usize, usize)
         requires { i < length self.now.types }
         ensures row { slice_index_or (union_rows self.now) i Null ≡ Variant (slice_index_or self.now.types i (pos 0)) (row_in self.now.children result.0 result.1) }
-        ensures place { slice_get (places_by self.now.places self.now.start (length self.now.types)) i ≡ Some result.1 }
+        ensures child_row { slice_get (child_rows_by self.now.child_rows self.now.start (length self.now.types)) i ≡ Some result.1 }
         ensures field { FindsField (field_ids self.now.arrow_type) (length self.now.children) (slice_index_or self.now.types i (pos 0)) (Some result.0) }
         ensures within { result.1 < length (rows_of_field self.now.children result.0) }
     {
         // Its reading opens the parts, so that each row lies in a field.
         let _ = &self.data_type;
-        (self.field_of(i), self.place_of(i))
+        (self.field_of(i), self.child_row_of(i))
     }
 
     /// The field that row `i` lies in: the first that has its type id.
@@ -182,9 +182,9 @@ impl UnionArray {
     }
 
     /// The row of its child that row `i` lies in.
-    fn place_of(&self, i: usize) -> usize
+    fn child_row_of(&self, i: usize) -> usize
         requires { i < length self.now.types }
-        ensures { slice_get (places_by self.now.places self.now.start (length self.now.types)) i ≡ Some result }
+        ensures { slice_get (child_rows_by self.now.child_rows self.now.start (length self.now.types)) i ≡ Some result }
     {
         match &self.offsets {
             None => self.start + i,
@@ -291,7 +291,7 @@ impl UnionArray {
         requires there { other_start + len ≤ length (union_rows other.now) }
         ensures { IsTrue result ↔ (sliced (union_rows self.now) start len ≡ sliced (union_rows other.now) other_start len) }
     {
-        // lengths fit a `usize`, and so do the places below
+        // lengths fit a `usize`, and so do the child_rows below
         let (_rows, _other_rows) = (self.len(), other.len());
         for i in 0..len {
             if !self.equal_row(start + i, other, other_start + i) {
@@ -387,9 +387,9 @@ fn are_inside(
     requires count { length offsets.now ≡ length types.now }
     ensures { IsTrue result ↔ All (λ row. IsInside (field_ids (type_of data_type.now)) (map layout_of fields.now) row.0 row.1) (zip types.now offsets.now) }
 {
-    let (ids, places) = (types.as_slice(), offsets.as_slice());
+    let (ids, child_rows) = (types.as_slice(), offsets.as_slice());
     for i in 0..ids.len() {
-        if !is_inside(data_type, ids[i], fields, places[i]) {
+        if !is_inside(data_type, ids[i], fields, child_rows[i]) {
             return false;
         }
     }

@@ -98,9 +98,9 @@ pub fn check_overflow(rt: &(impl Abort + Alloc<A = Global>)) -> Result<(), Error
     Ok(())
 }
 
-/// Null rows of a union are null rows of its first field, by the type id of that: at these places.
+/// Null rows of a union are null rows of its first field, by the type id of that: as these rows of its child.
 pub fn check_unions(rt: &(impl Abort + Alloc<A = Global>)) -> Result<(), Error> {
-    for (text, place) in [
+    for (text, row) in [
         ("i8 utf8 union:sparse:5,7", 1),
         ("i8 utf8 union:dense:5,7", 0),
     ] {
@@ -108,7 +108,7 @@ pub fn check_unions(rt: &(impl Abort + Alloc<A = Global>)) -> Result<(), Error> 
             rt.panic("no union");
         };
         assert!(rt; array.len() == 2);
-        check!(rt; array.index(0) == (0, 0) && array.index(1) == (0, place));
+        check!(rt; array.index(0) == (0, 0) && array.index(1) == (0, row));
     }
     Ok(())
 }

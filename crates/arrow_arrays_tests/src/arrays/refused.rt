@@ -92,11 +92,11 @@ fn wrong_pairs(alloc: Global, mode: Option<UnionMode>, wrong: Wrong) -> Result<A
         return struct_of(alloc, data_type, rows(wrong), wrong_fields(alloc, wrong)?);
     };
     let id = if wrong.contains(&TYPE_ID) { 6 } else { 7 };
-    let places = [if wrong.contains(&OFFSETS) { 2 } else { 1 }, 0];
-    let has_places = (mode == UnionMode::Dense) != wrong.contains(&LENGTH);
+    let offsets = [if wrong.contains(&OFFSETS) { 2 } else { 1 }, 0];
+    let has_offsets = (mode == UnionMode::Dense) != wrong.contains(&LENGTH);
     let fields = wrong_fields(alloc, wrong)?;
-    let places: Option<&[i32]> = if has_places { Some(&places) } else { None };
-    make_union(alloc, data_type, &[5, id], fields, places)
+    let offsets: Option<&[i32]> = if has_offsets { Some(&offsets) } else { None };
+    make_union(alloc, data_type, &[5, id], fields, offsets)
 }
 
 const LISTED: &[Option<SpecPart>] = &[KIND, CHILD, LENGTH, OFFSETS, None];

@@ -10,34 +10,34 @@ use arrow_types::error::{Error, SpecPart};
 use std::alloc::Global;
 use std::process::Abort;
 
-/// A union of texts and numbers. Only a dense one has places.
+/// A union of texts and numbers. Only a dense one has offsets.
 fn union_of(
     alloc: Global,
     ids: &[i8],
     left: &[u8],
     right: &[u8],
     mode: UnionMode,
-    places: &[i32],
+    offsets: &[i32],
 ) -> Result<AnyArray, Error> {
     let left = flat(alloc, Shape::Utf8, left)?;
     let fields = both(alloc, left, flat(alloc, Shape::Number, right)?)?;
     let data_type = pair_type(alloc, Some(mode), DataType::Utf8, DataType::Int32)?;
-    let places = match mode {
+    let offsets = match mode {
         UnionMode::Sparse => None,
-        UnionMode::Dense => Some(places),
+        UnionMode::Dense => Some(offsets),
     };
-    make_union(alloc, data_type, ids, fields, places)
+    make_union(alloc, data_type, ids, fields, offsets)
 }
 
 /// The rows that a union has, from one on: the type id of each, the field that it lies in, and in which
-/// row of it. Each field keeps its 4 rows, a dense union has the places of its rows, and a clone is the
+/// row of it. Each field keeps its 4 rows, a dense union has the offsets of its rows, and a clone is the
 /// same.
 fn check_union(
     rt: &impl Abort,
     array: &AnyArray,
     start: usize,
     want: &[(i8, usize, usize)],
-    places: Option<&[i32]>,
+    offsets: Option<&[i32]>,
 ) -> Result<(), Error> {
     let AnyArray::Union(array) = array else {
         panic!(rt; "no union");
@@ -45,8 +45,8 @@ fn check_union(
     check!(rt; array.clone()? == *array);
     check!(rt; array.start() == start && array.len() == want.len());
     match array.offsets() {
-        None => check!(rt; places.is_none()),
-        Some(found) => check!(rt; places == Some(found.as_slice())),
+        None => check!(rt; offsets.is_none()),
+        Some(found) => check!(rt; offsets == Some(found.as_slice())),
     }
     for (i, (id, field, row)) in want.iter().enumerate() {
         check!(rt; i < array.len() && array.types().as_slice()[i] == *id);
@@ -78,14 +78,14 @@ pub fn check_sparse(rt: &(impl Abort + Alloc<A = Global>)) -> Result<(), Error> 
 /// The rows of a dense union and of a slice. Those that name the same row of a child are equal.
 pub fn check_dense(rt: &(impl Abort + Alloc<A = Global>)) -> Result<(), Error> {
     let alloc = rt.alloc();
-    let (ids, places) = ([5, 7, 5, 7], [1, 0, 1, 0]);
+    let (ids, offsets) = ([5, 7, 5, 7], [1, 0, 1, 0]);
     let rows = [(5, 0, 1), (7, 1, 0), (5, 0, 1), (7, 1, 0)];
-    let array = union_of(alloc, &ids, b"abcd", b"efgh", DENSE, &places)?;
-    check_union(rt, &array, 0, &rows, Some(&places))?;
+    let array = union_of(alloc, &ids, b"abcd", b"efgh", DENSE, &offsets)?;
+    check_union(rt, &array, 0, &rows, Some(&offsets))?;
     check!(rt; array == union_of(alloc, &ids, b"Bbb", b"de", DENSE, &[1, 1, 2, 1])?);
     check!(rt; array != union_of(alloc, &ids, b"Bbb", b"de", DENSE, &[1, 1, 0, 1])?);
     let part = from_row(rt, array, 1);
-    check_union(rt, &part, 0, &rows[1..], Some(&places[1..]))
+    check_union(rt, &part, 0, &rows[1..], Some(&offsets[1..]))
 }
 
 const LENGTH: Option<SpecPart> = Some(SpecPart::Length);
@@ -94,14 +94,14 @@ const OFFSETS: Option<SpecPart> = Some(SpecPart::Offsets);
 
 const TYPE_ID: Option<SpecPart> = Some(SpecPart::TypeId);
 
-/// Type ids, children, a mode and places, and what a union of them is refused for.
+/// Type ids, children, a mode and offsets, and what a union of them is refused for.
 const REFUSED: [(&[i8], &[u8], &[u8], UnionMode, &[i32], Option<SpecPart>); 15] = [
     (&[5, 7], b"ab", b"a", SPARSE, &[], LENGTH),
     (&[5, 7], b"abc", b"abc", SPARSE, &[], LENGTH),
     (&[6], b"a", b"a", SPARSE, &[], TYPE_ID),
     (&[5, 6], b"ab", b"ab", SPARSE, &[], TYPE_ID),
     (&[-1, 5], b"ab", b"ab", SPARSE, &[], TYPE_ID),
-    // places of the fields, which are no ids of them
+    // positions of the fields, which are no ids of them
     (&[0, 1], b"ab", b"ab", SPARSE, &[], TYPE_ID),
     (&[], b"", b"", SPARSE, &[], None),
     (&[5, 7], b"ab", b"ab", DENSE, &[0], LENGTH),
@@ -109,17 +109,17 @@ const REFUSED: [(&[i8], &[u8], &[u8], UnionMode, &[i32], Option<SpecPart>); 15] 
     (&[5, 7], b"ab", b"ab", DENSE, &[-1, 0], OFFSETS),
     (&[5, 7], b"ab", b"a", DENSE, &[1, 0], None),
     (&[7, 7], b"", b"a", DENSE, &[0, 0], None),
-    // where the id is unknown no place is looked at
+    // where the id is unknown no offset is looked at
     (&[5, 6], b"a", b"a", DENSE, &[0, 9], TYPE_ID),
     (&[6, 5], b"a", b"a", DENSE, &[0, 9], OFFSETS),
     (&[], b"a", b"", DENSE, &[], None),
 ];
 
-/// Children, type ids and places that make no union, and some that do.
+/// Children, type ids and offsets that make no union, and some that do.
 pub fn check_refused(rt: &(impl Abort + Alloc<A = Global>)) -> Result<(), Error> {
-    for (ids, left, right, mode, places, want) in &REFUSED {
-        let made = union_of(rt.alloc(), ids, left, right, *mode, places);
-        check!(rt; refusal(made)? == *want, (ids, *mode, places));
+    for (ids, left, right, mode, offsets, want) in &REFUSED {
+        let made = union_of(rt.alloc(), ids, left, right, *mode, offsets);
+        check!(rt; refusal(made)? == *want, (ids, *mode, offsets));
     }
     Ok(())
 }

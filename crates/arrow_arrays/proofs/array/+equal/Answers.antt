@@ -14,7 +14,7 @@ use Rattle.arrow_arrays.specs.ListParts.{ListParts, IsList, list_rows}
 use Rattle.arrow_arrays.specs.Spans.{AreSameSpans}
 use Rattle.arrow_arrays.specs.StructParts.{StructParts, IsStruct, struct_rows}
 use Rattle.arrow_arrays.specs.UnionFalls.{depth_of_union}
-use Rattle.arrow_arrays.specs.UnionParts.{UnionParts, IsUnion, places_of, row_in, union_layout}
+use Rattle.arrow_arrays.specs.UnionParts.{UnionParts, IsUnion, child_rows_of, row_in, union_layout}
 use Rattle.arrow_arrays.proofs.DepthLemmas.{depth_at}
 use Rattle.arrow_arrays.proofs.EqualLemmas.{null_range, span_lengths, one_decides, spans_decide, all_columns, columns_next, column_of_row, each_at, as_many, one_field, one_id, rows_read, variants_decide, same_ids}
 use Rattle.arrow_arrays.proofs.FixedLemmas.{fixed_child}
@@ -186,8 +186,8 @@ struct_::equal_parts-returns t c =
 
 pub union::UnionArray::equal_row-equal_range-requires : goal.union::UnionArray::equal_row-equal_range-requires
 union::UnionArray::equal_row-equal_range-requires t c =
-    let p : UnionParts = record { arrow_type = type_of c.self.inside.data_type; types = c.self.inside.types; places = places_of c.self.inside.offsets; start = c.self.inside.start; children = map layout_of c.self.inside.fields.items } in
-    let q : UnionParts = record { arrow_type = type_of c.other.inside.data_type; types = c.other.inside.types; places = places_of c.other.inside.offsets; start = c.other.inside.start; children = map layout_of c.other.inside.fields.items } in
+    let p : UnionParts = record { arrow_type = type_of c.self.inside.data_type; types = c.self.inside.types; child_rows = child_rows_of c.self.inside.offsets; start = c.self.inside.start; children = map layout_of c.self.inside.fields.items } in
+    let q : UnionParts = record { arrow_type = type_of c.other.inside.data_type; types = c.other.inside.types; child_rows = child_rows_of c.other.inside.offsets; start = c.other.inside.start; children = map layout_of c.other.inside.fields.items } in
     let held = subst (IsUnion c.self.inside.offsets) c.self.view_is c.self.invariant in
     let other = subst (IsUnion c.other.inside.offsets) c.other.view_is c.other.invariant in
     let f = c.index-field.ensures in
@@ -206,13 +206,13 @@ union::UnionArray::equal_row-equal_range-requires t c =
     let here : k < length xs = omega (arith, f.field.0, ap length (union_children p _ c.self.view_is), length-map xs layout_of) in
     let there : k < length ys = omega (arith, g.field.0, same, ap length (union_children q _ c.other.view_is), length-map ys layout_of) in
     let one : map any_array_type xs ≡ map any_array_type ys = sym (types_of_layouts xs) ∙ (ap (map type_of_layout) (union_children p _ c.self.view_is) ∙ (union_types held other c.requires.one_type ∙ (sym (ap (map type_of_layout) (union_children q _ c.other.view_is)) ∙ types_of_layouts ys))) in
-    let deep = depth_of_union p.arrow_type p.types p.places p.start p.children in
+    let deep = depth_of_union p.arrow_type p.types p.child_rows p.start p.children in
     (omega (arith, c.decreases, deep, ap (λ r. depth (union_layout r)) c.self.view_is, depth_at layout_of xs k x here, ap (λ z. depth (layout_of z)) c.index.ensures), (maps_at any_array_type any_array_type xs ys k x y here there c.index.ensures c.index-then-field-other_field.ensures one, (omega (arith, row), omega (arith, other_row))))
 
 pub union::UnionArray::equal_row-returns-then-field-other_field : goal.union::UnionArray::equal_row-returns-then-field-other_field
 union::UnionArray::equal_row-returns-then-field-other_field t c =
-    let p : UnionParts = record { arrow_type = type_of c.self.inside.data_type; types = c.self.inside.types; places = places_of c.self.inside.offsets; start = c.self.inside.start; children = map layout_of c.self.inside.fields.items } in
-    let q : UnionParts = record { arrow_type = type_of c.other.inside.data_type; types = c.other.inside.types; places = places_of c.other.inside.offsets; start = c.other.inside.start; children = map layout_of c.other.inside.fields.items } in
+    let p : UnionParts = record { arrow_type = type_of c.self.inside.data_type; types = c.self.inside.types; child_rows = child_rows_of c.self.inside.offsets; start = c.self.inside.start; children = map layout_of c.self.inside.fields.items } in
+    let q : UnionParts = record { arrow_type = type_of c.other.inside.data_type; types = c.other.inside.types; child_rows = child_rows_of c.other.inside.offsets; start = c.other.inside.start; children = map layout_of c.other.inside.fields.items } in
     let held = subst (IsUnion c.self.inside.offsets) c.self.view_is c.self.invariant in
     let other = subst (IsUnion c.other.inside.offsets) c.other.view_is c.other.invariant in
     let f = c.index-field.ensures in

@@ -17,10 +17,10 @@ returns-clause-overflow c overflows fits =
     let xs = any_array_rows c.args.array.now in
     let t = any_array_type c.args.array.now in
     let fits_64 : SFits w64 c.args.offset = search rules in
-    let places = c.unsigned_abs-places.ensures.value ∙ ap unsigned_abs (to_z-of_z w64 c.args.offset fits_64) in
-    let moved : shifted xs c.args.offset t ≡ between xs c.if-offset-gt0.front (c.unsigned_abs-places.result - c.if-offset-gt0.front) t = elim c.if-offset-gt0.branch [
-      | then-offset-gt0 w ↦ shifted_back xs c.args.offset t _ _ places (search rules) w.front-is
-      | else-offset-gt0 w ↦ shifted_forth xs c.args.offset t _ _ places (search rules) w.front-is
+    let distance = c.unsigned_abs-distance.ensures.value ∙ ap unsigned_abs (to_z-of_z w64 c.args.offset fits_64) in
+    let moved : shifted xs c.args.offset t ≡ between xs c.if-offset-gt0.front (c.unsigned_abs-distance.result - c.if-offset-gt0.front) t = elim c.if-offset-gt0.branch [
+      | then-offset-gt0 w ↦ shifted_back xs c.args.offset t _ _ distance (search rules) w.front-is
+      | else-offset-gt0 w ↦ shifted_forth xs c.args.offset t _ _ distance (search rules) w.front-is
     ] in
     c.rows_between.ensures.overflow overflows (subst (Fits t) moved fits)
 
@@ -29,9 +29,9 @@ returns-clause-rows c =
     let xs = any_array_rows c.args.array.now in
     let t = any_array_type c.args.array.now in
     let fits_64 : SFits w64 c.args.offset = search rules in
-    let places = c.unsigned_abs-places.ensures.value ∙ ap unsigned_abs (to_z-of_z w64 c.args.offset fits_64) in
-    let moved : shifted xs c.args.offset t ≡ between xs c.if-offset-gt0.front (c.unsigned_abs-places.result - c.if-offset-gt0.front) t = elim c.if-offset-gt0.branch [
-      | then-offset-gt0 w ↦ shifted_back xs c.args.offset t _ _ places (search rules) w.front-is
-      | else-offset-gt0 w ↦ shifted_forth xs c.args.offset t _ _ places (search rules) w.front-is
+    let distance = c.unsigned_abs-distance.ensures.value ∙ ap unsigned_abs (to_z-of_z w64 c.args.offset fits_64) in
+    let moved : shifted xs c.args.offset t ≡ between xs c.if-offset-gt0.front (c.unsigned_abs-distance.result - c.if-offset-gt0.front) t = elim c.if-offset-gt0.branch [
+      | then-offset-gt0 w ↦ shifted_back xs c.args.offset t _ _ distance (search rules) w.front-is
+      | else-offset-gt0 w ↦ shifted_forth xs c.args.offset t _ _ distance (search rules) w.front-is
     ] in
     IfOk-weaker c.rows_between.result _ _ (λ array same. same ∙ sym moved) c.rows_between.ensures.rows

@@ -14,8 +14,8 @@ returns-then-not-is_inside c =
     let i = c.loop-i.i in
     let inside = λ (row : ℤ × ℤ). IsInside (field_ids (type_of c.args.data_type.now)) (map layout_of c.args.fields.now) row.0 row.1 in
     let id_fits : SFits w8 (get_or c.as_slice-ids.result.now i (pos 0)) = search rules in
-    let place_fits : SFits w32 (get_or c.as_slice-places.result.now i (pos 0)) = search rules in
-    let read = pair_read c.args.types.now c.args.offsets.now c.as_slice-ids.result.now c.as_slice-places.result.now i c.as_slice-ids.ensures c.as_slice-places.ensures c.requires.count c.loop-i-test.true id_fits place_fits in
+    let child_row_fits : SFits w32 (get_or c.as_slice-child_rows.result.now i (pos 0)) = search rules in
+    let read = pair_read c.args.types.now c.args.offsets.now c.as_slice-ids.result.now c.as_slice-child_rows.result.now i c.as_slice-ids.ensures c.as_slice-child_rows.ensures c.requires.count c.loop-i-test.true id_fits child_row_fits in
     (λ h. cc, λ all. sym c.if-not-is_inside.true ∙ c.is_inside.ensures.1 (all_at inside (zip c.args.types.now c.args.offsets.now) i (pos 0, pos 0) _ read.0 read.1 all))
 
 pub loop-i-preserved : goal.loop-i-preserved
@@ -23,8 +23,8 @@ loop-i-preserved c =
     let i = c.loop-i.i in
     let inside = λ (row : ℤ × ℤ). IsInside (field_ids (type_of c.args.data_type.now)) (map layout_of c.args.fields.now) row.0 row.1 in
     let id_fits : SFits w8 (get_or c.as_slice-ids.result.now i (pos 0)) = search rules in
-    let place_fits : SFits w32 (get_or c.as_slice-places.result.now i (pos 0)) = search rules in
-    let read = pair_read c.args.types.now c.args.offsets.now c.as_slice-ids.result.now c.as_slice-places.result.now i c.as_slice-ids.ensures c.as_slice-places.ensures c.requires.count c.loop-i-test.true id_fits place_fits in
+    let child_row_fits : SFits w32 (get_or c.as_slice-child_rows.result.now i (pos 0)) = search rules in
+    let read = pair_read c.args.types.now c.args.offsets.now c.as_slice-ids.result.now c.as_slice-child_rows.result.now i c.as_slice-ids.ensures c.as_slice-child_rows.ensures c.requires.count c.loop-i-test.true id_fits child_row_fits in
     all_next inside (zip c.args.types.now c.args.offsets.now) i (pos 0, pos 0) _ read.0 read.1 (c.is_inside.ensures.0 c.if-not-is_inside.false) c.loop-i.invariant
 
 pub returns : goal.returns

@@ -6,7 +6,7 @@ use Rattle.arrow_arrays.specs.Layout.{field_ids}
 use Rattle.arrow_arrays.specs.TypeParts.{field_types, mode_in}
 use Rattle.arrow_arrays.proofs.TypeLemmas.{types_of_layouts}
 use Rattle.arrow_arrays.proofs.NullLemmas.{no_fault}
-use Rattle.arrow_arrays.proofs.NullPartsLemmas.{count_children, dense_mode_fits, dense_rows_null, known_ids, inside_first, zero_places}
+use Rattle.arrow_arrays.proofs.NullPartsLemmas.{count_children, dense_mode_fits, dense_rows_null, known_ids, inside_first, zero_child_rows}
 use Rattle.arrow_arrays.proofs.ShapeLemmas.{shape_of, union_columns}
 use Rattle.arrow_arrays.proofs.array.new.nested.dense_nulls.Goals as goal
 
@@ -28,5 +28,5 @@ returns-clause-ok c =
     let t = type_of c.args.data_type in
     let shape = ap shape_of c.requires.kind.1 in
     let some = (union_columns t c.requires.kind.0 shape).some in
-    let places = zero_places c.in_ok-offsets.offsets c.args.length c.in_ok-offsets.ensures.ok in
-    rw c.in-Ok.ensures.ok (refl, dense_rows_null t c.args.fields.items c.in_ok-types.types _ c.args.length shape some c.requires.rows c.in_ok-types.ensures.ok places)
+    let child_rows = zero_child_rows c.in_ok-offsets.offsets c.args.length c.in_ok-offsets.ensures.ok in
+    rw c.in-Ok.ensures.ok (refl, dense_rows_null t c.args.fields.items c.in_ok-types.types _ c.args.length shape some c.requires.rows c.in_ok-types.ensures.ok child_rows)
