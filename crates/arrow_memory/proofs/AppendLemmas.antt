@@ -1,13 +1,17 @@
 -- Bits that are appended a word at a time.
-use Rattle.std.proofs.Common.{◌≡◌, ℕ, ◌+◌, ◌-◌, ◌*◌, ◌/◌, ◌%◌, ◌^◌, ◌<◌, ◌≤◌, Bool, true, false, ◌||◌, List, ◌++◌, length, get_or, refl, ap, sym, ◌∙◌, arith, slice_index, inl, inr, add-zero}
+use Rattle.std.proofs.Common.{◌≡◌, ℕ, ◌+◌, ◌-◌, ◌*◌, ◌/◌, ◌%◌, ◌^◌, ◌<◌, ◌≤◌, Bool, true, false, ◌||◌, List, [], ◌∷◌, ◌++◌, length, get_or, take, drop, refl, ap, sym, ◌∙◌, subst, arith, slice_index, inl, inr, add-zero, zero-add, append_assoc, length-append}
 use Rattle.std.specs.Prelude.{◌==◌, bit_or, set}
 use Rattle.std.specs.Int.{bit_at}
 use Rattle.std.proofs.lemmas.Bool.{cases_lt, cases_eq}
-use Rattle.std.proofs.lemmas.List.{get_or-set_same, get_or-set_other, get_or_append_left, get_or-append_right, get_or_past, length-set}
+use Rattle.std.proofs.lemmas.List.{get_or-set_same, get_or-set_other, get_or_append_left, get_or-append_right, get_or_past, get_or-take, get_or-drop, length-set, length-take, length-take-le, length-drop, take_all, take-append-drop, append-nil}
 use Rattle.std.proofs.lemmas.Nat.{shr-shr, shr_split, pow_pos}
-use Rattle.std.proofs.lemmas.Nat.Bits.{bit_at_or, bit_at-lt, bit_at-zero, bit_at_cat_low, bit_at_cat_high}
-use Rattle.arrow_memory.specs.Words.{is_set, word_of, Reads}
-use Rattle.arrow_memory.proofs.BitmapLemmas.{max_is, bit_of-word_of}
+use Rattle.std.proofs.lemmas.Nat.Bits.{bit_at-zero, bit_at_cat_low, bit_at_cat_high}
+use Rattle.std.proofs.lemmas.Simd.{mask_l-lt}
+use Rattle.std.proofs.Math.Nat.{add-mul-div_left, div-eq_of_lt}
+use Rattle.arrow_memory.specs.Words.{is_set, bits_in, word_of, Reads, AppendsWord, AppendsBits}
+use Rattle.arrow_memory.proofs.BitmapLemmas.{bit_of-word_of}
+use Rattle.arrow_memory.proofs.LogicLemmas.{or_each}
+use Rattle.arrow_memory.proofs.WordLemmas.{length-bits_in, get_or-bits_in, bits_in-add, word_of-append}
 
 -- ---- one word written by `|=`
 
@@ -17,7 +21,7 @@ set_or-here words index v i within here =
     let old = slice_index words index in
     let read : slice_index (set words index (bit_or old v)) (i / 64) ≡ bit_or old v = rw here (get_or-set_same words index (bit_or old v) 0 within) in
     let same : slice_index words (i / 64) ≡ old = ap (slice_index words) here in
-    ap (λ w. bit_at w k == 1) read ∙ (ap (λ x. x == 1) (bit_at_or old v k) ∙ (max_is (bit_at old k) (bit_at v k) (bit_at-lt old k) (bit_at-lt v k) ∙ ap (λ w. (bit_at w k == 1) || (bit_at v k == 1)) (sym same)))
+    ap (λ w. bit_at w k == 1) read ∙ (or_each old v k ∙ ap (λ w. (bit_at w k == 1) || (bit_at v k == 1)) (sym same))
 
 set_or-there : (words : List ℕ) (index v i : ℕ) → (i / 64 ≡ index → ⊥) → is_set (set words index v) i ≡ is_set words i
 set_or-there words index v i there = ap (λ w. bit_at w (i % 64) == 1) (get_or-set_other words index (i / 64) v 0 there)
@@ -78,40 +82,144 @@ untouched words xs ys place i reads long past =
       | inr from ↦ clear_behind words xs place i reads long from ∙ (sym (get_or_past ys (i - place) false (past from)) ∙ sym (behind xs ys place i long from))
     ]
 
--- the bits end within the word in which they begin
-pub one_word : (words : List ℕ) (xs ys : List Bool) (place word : ℕ) → Reads words xs → length xs ≡ place → word ≡ word_of ys → place / 64 < length words → place + length ys ≤ 64 * (place / 64 + 1)
-    → Reads (set words (place / 64) (bit_or (slice_index words (place / 64)) (word * 2 ^ (place % 64) % 2 ^ 64))) (xs ++ ys)
-one_word words xs ys place word reads long is within short =
+-- a bit before the last of those that are taken
+taken : (xs ys : List Bool) (place n i : ℕ) → length xs ≡ place → i < place + n → get_or (xs ++ ys) i false ≡ get_or (xs ++ take n ys) i false
+taken xs ys place n i long within =
+    elim (cases_lt i place) as (λ _. get_or (xs ++ ys) i false ≡ get_or (xs ++ take n ys) i false) [
+      | inl below ↦ before xs ys place i long below ∙ sym (before xs (take n ys) place i long below)
+      | inr from ↦ behind xs ys place i long from ∙ (sym (get_or-take n ys (i - place) false (omega arith)) ∙ sym (behind xs (take n ys) place i long from))
+    ]
+
+-- as many bits as the word has room for, in which they begin
+first_part : (words : List ℕ) (xs ys : List Bool) (place word : ℕ) → Reads words xs → length xs ≡ place → word ≡ word_of ys → place / 64 < length words
+    → Reads (set words (place / 64) (bit_or (slice_index words (place / 64)) (word * 2 ^ (place % 64) % 2 ^ 64))) (xs ++ take (64 - place % 64) ys)
+first_part words xs ys place word reads long is within =
+    let n = 64 - place % 64 in
+    let v = bit_or (slice_index words (place / 64)) (word * 2 ^ (place % 64) % 2 ^ 64) in
     record {
       each = λ i.
-          elim (cases_eq (i / 64) (place / 64)) as (λ _. is_set (set words (place / 64) (bit_or (slice_index words (place / 64)) (word * 2 ^ (place % 64) % 2 ^ 64))) i ≡ get_or (xs ++ ys) i false) [
-            | inl here ↦ first_word words xs ys place word i reads long is within here
-            | inr there ↦ set_or-there words (place / 64) (bit_or (slice_index words (place / 64)) (word * 2 ^ (place % 64) % 2 ^ 64)) i there ∙ untouched words xs ys place i reads long (λ from. omega arith)
+          elim (cases_eq (i / 64) (place / 64)) as (λ _. is_set (set words (place / 64) v) i ≡ get_or (xs ++ take n ys) i false) [
+            | inl here ↦ first_word words xs ys place word i reads long is within here ∙ taken xs ys place n i long (omega arith)
+            | inr there ↦ set_or-there words (place / 64) v i there ∙ untouched words xs (take n ys) place i reads long (λ from. omega (arith, length-take n ys))
           ];
     }
 
--- they go on in the next word
-pub two_words : (words : List ℕ) (xs ys : List Bool) (place word : ℕ) → Reads words xs → length xs ≡ place → word ≡ word_of ys → length ys ≤ 64 → 0 < place % 64 → place / 64 + 1 < length words → (first : List ℕ)
-    → first ≡ set words (place / 64) (bit_or (slice_index words (place / 64)) (word * 2 ^ (place % 64) % 2 ^ 64)) → Reads (set first (place / 64 + 1) (bit_or (slice_index first (place / 64 + 1)) (word / 2 ^ (64 - place % 64)))) (xs ++ ys)
-two_words words xs ys place word reads long is short odd within first made =
-    let q = place / 64 in
-    let v = bit_or (slice_index words q) (word * 2 ^ (place % 64) % 2 ^ 64) in
-    let u = word / 2 ^ (64 - place % 64) in
-    let next : q + 1 < length first = omega (arith, ap length made, length-set {A = ℕ}) in
-    let same : (i : ℕ) → (i / 64 ≡ q → ⊥) → is_set first i ≡ is_set words i = λ i there. ap (λ ws. is_set ws i) made ∙ set_or-there words q v i there in
+-- the bits end within the word in which they begin
+pub one_word : (words : List ℕ) (xs ys : List Bool) (place word : ℕ) → Reads words xs → length xs ≡ place → word ≡ word_of ys → place / 64 < length words → place % 64 + length ys ≤ 64
+    → Reads (set words (place / 64) (bit_or (slice_index words (place / 64)) (word * 2 ^ (place % 64) % 2 ^ 64))) (xs ++ ys)
+one_word words xs ys place word reads long is within short =
+    let all : take (64 - place % 64) ys ≡ ys = take_all (64 - place % 64) ys (omega arith) in
+    subst (λ bits. Reads (set words (place / 64) (bit_or (slice_index words (place / 64)) (word * 2 ^ (place % 64) % 2 ^ 64))) (xs ++ bits)) all (first_part words xs ys place word reads long is within)
+
+-- ---- words behind others
+
+is_set-before : (ws vs : List ℕ) (i : ℕ) → i < 64 * length ws → is_set (ws ++ vs) i ≡ is_set ws i
+is_set-before ws vs i within =
+    let below : i / 64 < length ws = omega arith in
+    ap (λ w. bit_at w (i % 64) == 1) (get_or_append_left ws vs 0 (i / 64) below)
+
+is_set-behind : (ws vs : List ℕ) (i : ℕ) → 64 * length ws ≤ i → is_set (ws ++ vs) i ≡ is_set vs (i - 64 * length ws)
+is_set-behind ws vs i from =
+    let from_word : length ws ≤ i / 64 = omega arith in
+    let index : (i - 64 * length ws) / 64 ≡ i / 64 - length ws = omega arith in
+    let bit : (i - 64 * length ws) % 64 ≡ i % 64 = omega arith in
+    ap (λ w. bit_at w (i % 64) == 1) (get_or-append_right ws vs (length ws) (i / 64) 0 refl from_word) ∙ rw (index, bit) refl
+
+is_set-past : (words : List ℕ) (i : ℕ) → 64 * length words ≤ i → is_set words i ≡ false
+is_set-past words i from =
+    let past : length words ≤ i / 64 = omega arith in
+    ap (λ w. bit_at w (i % 64) == 1) (get_or_past words (i / 64) 0 past) ∙ ap (λ x. x == 1) (bit_at-zero (i % 64))
+
+pub reads_none : Reads [] []
+reads_none = record { each = λ i. is_set-past [] i (omega arith) }
+
+pub reads_join : (ws vs : List ℕ) (xs ys : List Bool) → Reads ws xs → Reads vs ys → length xs ≡ 64 * length ws → Reads (ws ++ vs) (xs ++ ys)
+reads_join ws vs xs ys front back long =
     record {
       each = λ i.
-          elim (cases_eq (i / 64) (q + 1)) as (λ _. is_set (set first (q + 1) (bit_or (slice_index first (q + 1)) u)) i ≡ get_or (xs ++ ys) i false) [
-            | inl here ↦
-                let from : place ≤ i = omega arith in
-                let at : 64 - place % 64 + i % 64 ≡ i - place = omega arith in
-                let apart : i / 64 ≡ q → ⊥ = λ e. omega arith in
-                set_or-here first (q + 1) u i next here ∙ (ap (λ b. b || (bit_at u (i % 64) == 1)) (same i apart ∙ clear_behind words xs place i reads long from) ∙ (ap (λ x. x == 1) (bit_at-shr word (64 - place % 64) (i % 64) ∙ (ap (bit_at word) at ∙ ap (λ w. bit_at w (i - place)) is)) ∙ (bit_of-word_of ys (i - place) ∙ sym (behind xs ys place i long from))))
-            | inr there ↦
-                set_or-there first (q + 1) (bit_or (slice_index first (q + 1)) u) i there ∙
-                elim (cases_eq (i / 64) q) as (λ _. is_set first i ≡ get_or (xs ++ ys) i false) [
-                  | inl here ↦ ap (λ ws. is_set ws i) made ∙ first_word words xs ys place word i reads long is (omega arith) here
-                  | inr away ↦ same i away ∙ untouched words xs ys place i reads long (λ from. omega arith)
-                ]
+          elim (cases_lt i (64 * length ws)) as (λ _. is_set (ws ++ vs) i ≡ get_or (xs ++ ys) i false) [
+            | inl below ↦ is_set-before ws vs i below ∙ (front.each i ∙ sym (before xs ys (64 * length ws) i long below))
+            | inr from ↦ is_set-behind ws vs i from ∙ (back.each (i - 64 * length ws) ∙ sym (behind xs ys (64 * length ws) i long from))
           ];
     }
+
+pub reads_word : (ys : List Bool) (word : ℕ) → word ≡ word_of ys → length ys ≤ 64 → Reads (word ∷ []) ys
+reads_word ys word is short =
+    record {
+      each = λ i.
+          elim (cases_lt i 64) as (λ _. is_set (word ∷ []) i ≡ get_or ys i false) [
+            | inl below ↦
+                let first : i / 64 ≡ 0 = omega arith in
+                let bit : i % 64 ≡ i = omega arith in
+                ap (λ q. bit_at (slice_index (word ∷ []) q) (i % 64) == 1) first ∙ (ap (λ k. bit_at word k == 1) bit ∙ (ap (λ w. bit_at w i == 1) is ∙ bit_of-word_of ys i))
+            | inr from ↦ is_set-past (word ∷ []) i from ∙ sym (get_or_past ys i false (omega arith))
+          ];
+    }
+
+word_of-drop : (ys : List Bool) (n : ℕ) → n ≤ length ys → word_of ys / 2 ^ n ≡ word_of (drop n ys)
+word_of-drop ys n within =
+    let low = take n ys in
+    let long : length low ≡ n = length-take-le n ys within in
+    let parts : word_of ys ≡ word_of low + 2 ^ n * word_of (drop n ys) = ap word_of (sym (take-append-drop n ys)) ∙ (word_of-append low (drop n ys) ∙ ap (λ k. word_of low + 2 ^ k * word_of (drop n ys)) long) in
+    let small : word_of low < 2 ^ n = rw long at (mask_l-lt low) in
+    ap (λ w. w / 2 ^ n) parts ∙ (add-mul-div_left (word_of low) (word_of (drop n ys)) (pow_pos n) ∙ rw (div-eq_of_lt small) (zero-add (word_of (drop n ys))))
+
+pub no_bits : (words : List ℕ) (xs ys : List Bool) → Reads words xs → length ys ≡ 0 → Reads words (xs ++ ys)
+no_bits words xs [] reads none = rw (append-nil xs) reads
+no_bits words xs (y ∷ ys) reads none = absurd (omega (arith, none))
+
+-- ---- what `append_word` leaves: behind whole words, within the last word, and over its end
+
+pub behind_whole : (words : List ℕ) (xs ys : List Bool) (place word : ℕ) → Reads words xs → length xs ≡ place → word ≡ word_of ys → length ys ≤ 64 → place ≡ 64 * length words → Reads (words ++ word ∷ []) (xs ++ ys)
+behind_whole words xs ys place word reads long is short whole = reads_join words (word ∷ []) xs ys reads (reads_word ys word is short) (long ∙ whole)
+
+pub over_end : (words : List ℕ) (xs ys : List Bool) (place word : ℕ) → Reads words xs → length xs ≡ place → word ≡ word_of ys → length ys ≤ 64 → 64 < place % 64 + length ys → length words ≡ place / 64 + 1
+    → Reads (set words (place / 64) (bit_or (slice_index words (place / 64)) (word * 2 ^ (place % 64) % 2 ^ 64)) ++ word / 2 ^ (64 - place % 64) ∷ []) (xs ++ ys)
+over_end words xs ys place word reads long is short over last =
+    let n = 64 - place % 64 in
+    let v = bit_or (slice_index words (place / 64)) (word * 2 ^ (place % 64) % 2 ^ 64) in
+    let first = set words (place / 64) v in
+    let rest = word / 2 ^ n in
+    let begun = first_part words xs ys place word reads long is (omega arith) in
+    let within : n ≤ length ys = omega arith in
+    let rest_is : rest ≡ word_of (drop n ys) = ap (λ w. w / 2 ^ n) is ∙ word_of-drop ys n within in
+    let full : length (xs ++ take n ys) ≡ 64 * length first = omega (arith, long, length-append xs (take n ys), length-take-le n ys within, length-set words (place / 64) v) in
+    let joined = reads_join first (rest ∷ []) (xs ++ take n ys) (drop n ys) begun (reads_word (drop n ys) rest rest_is (omega (arith, length-drop n ys))) full in
+    subst (Reads (first ++ rest ∷ [])) (append_assoc xs (take n ys) (drop n ys) ∙ ap (λ bits. xs ++ bits) (take-append-drop n ys)) joined
+
+-- ---- what `append_words` leaves
+
+-- whole words of others
+pub reads_part : (others : List ℕ) (from count : ℕ) → from % 64 ≡ 0 → from / 64 + count ≤ length others → Reads (take count (drop (from / 64) others)) (bits_in others from (64 * count))
+reads_part others from count whole within =
+    let part = take count (drop (from / 64) others) in
+    record {
+      each = λ i.
+          elim (cases_lt i (64 * count)) as (λ _. is_set part i ≡ get_or (bits_in others from (64 * count)) i false) [
+            | inl below ↦
+                let word : i / 64 < count = omega arith in
+                let index : from / 64 + i / 64 ≡ (from + i) / 64 = omega arith in
+                let bit : i % 64 ≡ (from + i) % 64 = omega arith in
+                ap (λ w. bit_at w (i % 64) == 1) (get_or-take count (drop (from / 64) others) (i / 64) 0 word ∙ (get_or-drop (from / 64) others (i / 64) 0 ∙ ap (slice_index others) index)) ∙ (ap (λ k. bit_at (slice_index others ((from + i) / 64)) k == 1) bit ∙ sym (get_or-bits_in others from (64 * count) i false below))
+            | inr past ↦ is_set-past part i (omega (arith, length-take count (drop (from / 64) others))) ∙ sym (get_or_past (bits_in others from (64 * count)) i false (omega (arith, length-bits_in others from (64 * count))))
+          ];
+    }
+
+-- one more word of others
+pub one_more : (words others : List ℕ) (xs : List Bool) (from count word : ℕ) → Reads words (xs ++ bits_in others from (64 * count)) → length (xs ++ bits_in others from (64 * count)) ≡ 64 * length words → word ≡ word_of (bits_in others (from + 64 * count) 64)
+    → Reads (words ++ word ∷ []) (xs ++ bits_in others from (64 * (count + 1)))
+one_more words others xs from count word reads long is =
+    let next : 64 * (count + 1) ≡ 64 * count + 64 = omega arith in
+    let more = bits_in others (from + 64 * count) 64 in
+    let short : length more ≤ 64 = omega (arith, length-bits_in others (from + 64 * count) 64) in
+    subst (Reads (words ++ word ∷ [])) (append_assoc xs (bits_in others from (64 * count)) more ∙ ap (λ bits. xs ++ bits) (sym (bits_in-add others from (64 * count) 64) ∙ ap (bits_in others from) (sym next))) (reads_join words (word ∷ []) (xs ++ bits_in others from (64 * count)) more reads (reads_word more word is short) long)
+
+-- ---- one append behind another
+
+pub appends_both : (old mid new : List ℕ) (place next : ℕ) (ys zs : List Bool) → AppendsBits old mid place ys → AppendsBits mid new next zs → next ≡ place + length ys → AppendsBits old new place (ys ++ zs)
+appends_both old mid new place next ys zs front back at = λ xs reads long.
+    let behind_front : length (xs ++ ys) ≡ next = omega (arith, at, long, length-append xs ys) in
+    subst (Reads new) (append_assoc xs ys zs) (back (xs ++ ys) (front xs reads long) behind_front)
+
+pub word_appends : (old new others : List ℕ) (place word from count : ℕ) → AppendsWord old new place word count → word ≡ word_of (bits_in others from count) → AppendsBits old new place (bits_in others from count)
+word_appends old new others place word from count appends is = λ xs reads long. appends xs (bits_in others from count) reads long is (length-bits_in others from count)

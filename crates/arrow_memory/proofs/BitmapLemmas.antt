@@ -1,21 +1,18 @@
 -- Lists of bits against the words that hold them.
-use Rattle.std.proofs.Common.{◌≡◌, ℕ, ◌+◌, ◌-◌, ◌*◌, ◌/◌, ◌%◌, ◌^◌, ◌<◌, ◌≤◌, min, max, map, replicate, zero, suc, w64, ◌&&◌, ◌||◌, Bool, true, false, not, cond, List, [], ◌∷◌, ◌++◌, length, get_or, take, drop, refl, ap, sym, ◌∙◌, subst, arith, slice_index, zero-add, inl, inr}
-use Rattle.std.specs.Prelude.{◌==◌, nat_eq, bit_and, bit_or, slice_get, Some}
+use Rattle.std.proofs.Common.{◌≡◌, ℕ, ◌+◌, ◌-◌, ◌*◌, ◌/◌, ◌%◌, ◌^◌, ◌<◌, ◌≤◌, min, replicate, zero, suc, Bool, true, false, not, cond, List, [], ◌∷◌, ◌++◌, length, get_or, take, drop, refl, ap, sym, ◌∙◌, subst, arith, slice_index, zero-add, inl, inr}
+use Rattle.std.specs.Prelude.{◌==◌, nat_eq, bit_and, slice_get, Some}
 use Rattle.std.specs.Bool.{beq}
 use Rattle.std.specs.Cmp.{booleans_Decides}
 use Rattle.std.specs.Cmp.Lexicographic.{pointwise, pointwise_decides}
-use Rattle.std.specs.Int.{bit_at, bit_not}
+use Rattle.std.specs.Int.{bit_at}
 use Rattle.std.specs.List.{count_by}
 use Rattle.std.proofs.lemmas.Bool.{cases_lt}
-use Rattle.std.proofs.lemmas.Bool.Decides.{nat_tests}
-use Rattle.std.proofs.lemmas.List.{length-map, length-replicate, ext_get_or, get_or-take, get_or-drop, get_or_append_left, get_or_push, length-append, length-take, take_at, drop_at, take_min, drop_min, drop-drop}
+use Rattle.std.proofs.lemmas.List.{length-replicate, ext_get_or, get_or-take, get_or-drop, get_or_append_left, get_or_push, length-append, take_at, drop_at, take_min, drop_min, drop-drop}
 use Rattle.std.proofs.lemmas.List.Sums.{sum_by-cons}
 use Rattle.std.proofs.lemmas.Nat.{one_shl, and_mask}
-use Rattle.std.proofs.lemmas.Nat.Bits.{shr_and_one, bit_at_and, bit_at_or, bit_at_not, bit_at-lt, bit_at-zero}
+use Rattle.std.proofs.lemmas.Nat.Bits.{shr_and_one, bit_at-zero}
 use Rattle.std.proofs.lemmas.Option.{slice_get-get_or}
-use Rattle.std.proofs.lemmas.Simd.{bit_mask_l, mask_l-lt}
-use Rattle.std.proofs.Math.Nat.{pow-le-pow_right}
-use Rattle.arrow_memory.specs.Bits.{both_bits, either_bits}
+use Rattle.std.proofs.lemmas.Simd.{bit_mask_l}
 use Rattle.arrow_memory.specs.Sliced.{sliced}
 use Rattle.arrow_memory.specs.Words.{is_set, bits_in, word_of, set_count}
 use Rattle.arrow_memory.proofs.WordLemmas.{length-bits_in, get_or-bits_in, sliced-bits_in, sliced-bits_in_end, word_of-low}
@@ -141,7 +138,7 @@ word_of-whole words offset len first seen word e enough read =
     let within : first + 64 ≤ len = omega arith in
     rw (← e, read) (ap word_of (sym (sliced-bits_in words offset len first 64 within)))
 
--- ---- logic by words
+-- ---- bits of words
 
 -- the bits that words hold, one by one
 pub bits_in_is : (words : List ℕ) (bits : List Bool) → ((i : ℕ) → i < length bits → is_set words i ≡ get_or bits i false) → bits_in words 0 (length bits) ≡ bits
@@ -150,82 +147,6 @@ bits_in_is words bits each =
     (λ i h.
     let below : i < length bits = omega (arith, h, length-bits_in words 0 (length bits)) in
     get_or-bits_in words 0 (length bits) i false below ∙ (ap (is_set words) (zero-add i) ∙ each i below))
-
-length-both_bits : (xs ys : List Bool) → length xs ≡ length ys → length (both_bits xs ys) ≡ length xs
-length-both_bits [] ys h = refl
-length-both_bits (x ∷ xs) [] h = absurd (omega (arith, h))
-length-both_bits (x ∷ xs) (y ∷ ys) h = omega (arith, length-both_bits xs ys (omega (arith, h)))
-
-length-either_bits : (xs ys : List Bool) → length xs ≡ length ys → length (either_bits xs ys) ≡ length xs
-length-either_bits [] ys h = refl
-length-either_bits (x ∷ xs) [] h = absurd (omega (arith, h))
-length-either_bits (x ∷ xs) (y ∷ ys) h = omega (arith, length-either_bits xs ys (omega (arith, h)))
-
-get_or-both_bits : (xs ys : List Bool) (i : ℕ) → length xs ≡ length ys → (get_or xs i false && get_or ys i false) ≡ get_or (both_bits xs ys) i false
-get_or-both_bits [] [] i h = refl
-get_or-both_bits [] (y ∷ ys) i h = absurd (omega (arith, h))
-get_or-both_bits (x ∷ xs) [] i h = absurd (omega (arith, h))
-get_or-both_bits (x ∷ xs) (y ∷ ys) zero h = refl
-get_or-both_bits (x ∷ xs) (y ∷ ys) (suc i) h = get_or-both_bits xs ys i (omega (arith, h))
-
-get_or-either_bits : (xs ys : List Bool) (i : ℕ) → length xs ≡ length ys → (get_or xs i false || get_or ys i false) ≡ get_or (either_bits xs ys) i false
-get_or-either_bits [] [] i h = refl
-get_or-either_bits [] (y ∷ ys) i h = absurd (omega (arith, h))
-get_or-either_bits (x ∷ xs) [] i h = absurd (omega (arith, h))
-get_or-either_bits (x ∷ xs) (y ∷ ys) zero h = refl
-get_or-either_bits (x ∷ xs) (y ∷ ys) (suc i) h = get_or-either_bits xs ys i (omega (arith, h))
-
--- a bit as a number, 0 or 1
-min_is : (a b : ℕ) → a < 2 → b < 2 → (min a b == 1) ≡ ((a == 1) && (b == 1))
-min_is zero b small other = let none : min 0 b ≡ 0 = omega arith in rw none refl
-min_is (suc zero) b small other = let same : min 1 b ≡ b = omega arith in rw same refl
-min_is (suc (suc a)) b small other = absurd (omega arith)
-
-pub max_is : (a b : ℕ) → a < 2 → b < 2 → (max a b == 1) ≡ ((a == 1) || (b == 1))
-max_is a b small other = grind (arith, nat_tests)
-
-turned_is : (a : ℕ) → a < 2 → (1 - a == 1) ≡ not (a == 1)
-turned_is a small = grind (arith, nat_tests)
-
--- the words that `and` makes hold the bits set in both
-pub bits_in-and : (words : List ℕ) (xs ys : List Bool) → length xs ≡ length ys → length xs ≤ 64 * length words
-    → ((k : ℕ) → k < length words → slice_index words k ≡ bit_and (word_of (sliced xs (64 * k) 64)) (word_of (sliced ys (64 * k) 64))) → bits_in words 0 (length xs) ≡ both_bits xs ys
-bits_in-and words xs ys same within each =
-    let long = length-both_bits xs ys same in
-    rw (← long) (bits_in_is words (both_bits xs ys) (λ i h.
-    let k = i % 64 in
-    let a = word_of (sliced xs (64 * (i / 64)) 64) in
-    let b = word_of (sliced ys (64 * (i / 64)) 64) in
-    ap (λ word. bit_at word k == 1) (each (i / 64) (omega arith)) ∙ (ap (λ x. x == 1) (bit_at_and a b k) ∙ (min_is (bit_at a k) (bit_at b k) (bit_at-lt a k) (bit_at-lt b k) ∙ ((λ t. bit_of-part xs i t && bit_of-part ys i t) ∙ get_or-both_bits xs ys i same)))))
-
-pub bits_in-or : (words : List ℕ) (xs ys : List Bool) → length xs ≡ length ys → length xs ≤ 64 * length words
-    → ((k : ℕ) → k < length words → slice_index words k ≡ bit_or (word_of (sliced xs (64 * k) 64)) (word_of (sliced ys (64 * k) 64))) → bits_in words 0 (length xs) ≡ either_bits xs ys
-bits_in-or words xs ys same within each =
-    let long = length-either_bits xs ys same in
-    rw (← long) (bits_in_is words (either_bits xs ys) (λ i h.
-    let k = i % 64 in
-    let a = word_of (sliced xs (64 * (i / 64)) 64) in
-    let b = word_of (sliced ys (64 * (i / 64)) 64) in
-    ap (λ word. bit_at word k == 1) (each (i / 64) (omega arith)) ∙ (ap (λ x. x == 1) (bit_at_or a b k) ∙ (max_is (bit_at a k) (bit_at b k) (bit_at-lt a k) (bit_at-lt b k) ∙ ((λ t. bit_of-part xs i t || bit_of-part ys i t) ∙ get_or-either_bits xs ys i same)))))
-
-word_of-below : (bits : List Bool) (first : ℕ) → word_of (sliced bits first 64) < 2 ^ 64
-word_of-below bits first =
-    let part = sliced bits first 64 in
-    let short : length part ≤ 64 = omega (arith, length-take 64 (drop first bits)) in
-    omega (arith, mask_l-lt part, pow-le-pow_right {n = 2} (omega arith) short)
-
-get_or-turned : (xs : List Bool) (i : ℕ) → i < length xs → not (get_or xs i false) ≡ get_or (map not xs) i false
-get_or-turned [] i h = absurd (omega arith)
-get_or-turned (x ∷ xs) zero h = refl
-get_or-turned (x ∷ xs) (suc i) h = get_or-turned xs i (omega arith)
-
-pub bits_in-not : (words : List ℕ) (xs : List Bool) → length xs ≤ 64 * length words → ((k : ℕ) → k < length words → slice_index words k ≡ bit_not w64 (word_of (sliced xs (64 * k) 64))) → bits_in words 0 (length xs) ≡ map not xs
-bits_in-not words xs within each =
-    let long = length-map xs not in
-    rw (← long) (bits_in_is words (map not xs) (λ i h.
-    let k = i % 64 in
-    let a = word_of (sliced xs (64 * (i / 64)) 64) in
-    ap (λ word. bit_at word k == 1) (each (i / 64) (omega arith)) ∙ (ap (λ x. x == 1) (bit_at_not w64 a k (word_of-below xs (64 * (i / 64))) (omega arith)) ∙ (turned_is (bit_at a k) (bit_at-lt a k) ∙ (ap not (bit_of-part xs i) ∙ get_or-turned xs i (omega arith))))))
 
 pub get_or-replicate_same : (n i : ℕ) → get_or (replicate n false) i false ≡ false
 get_or-replicate_same zero i = refl

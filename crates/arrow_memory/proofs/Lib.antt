@@ -1,5 +1,6 @@
 pub mod AppendLemmas
 pub mod BitmapLemmas
+pub mod LogicLemmas
 pub mod MutableLemmas
 pub mod OffsetLemmas
 pub mod RunLemmas

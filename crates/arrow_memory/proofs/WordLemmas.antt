@@ -1,14 +1,14 @@
 -- Bits as they lie in words.
 use Rattle.std.proofs.Common.{◌≡◌, ℕ, zero, suc, ◌+◌, ◌-◌, ◌*◌, ◌/◌, ◌%◌, ◌^◌, ◌<◌, ◌≤◌, Bool, true, false, cond, List, [], ◌∷◌, ◌++◌, length, map, get_or, take, drop, refl, ap, sym, ◌∙◌, arith, lit<, slice_index, Fits, w64, zero-add, add-zero}
-use Rattle.std.specs.Prelude.{◌==◌, count_ones, bit_or}
+use Rattle.std.specs.Prelude.{◌==◌, count_ones, bit_and, bit_or}
 use Rattle.std.specs.Int.{bit_at, from_bool}
 use Rattle.std.specs.List.{range_with_len}
 use Rattle.std.proofs.lemmas.Bool.Decides.{nat_tests}
 use Rattle.std.proofs.lemmas.List.{same_lists, take_all, length-take, length-drop, get_or-take, get_or-drop, map-id, map-append}
 use Rattle.std.proofs.lemmas.List.Sums.{count_by-le-length, sum_by-append}
 use Rattle.std.proofs.lemmas.List.FromFn.{length-map-range_with_len, get_or-map-range_with_len}
-use Rattle.std.proofs.lemmas.Nat.{shr-shr, shr_le, shl-shr, mod-pow-add, mod_below, field_of, pow_pos, or_shifted, or_comm}
-use Rattle.std.proofs.Math.Nat.{pow-le-pow_right, pow-suc, mul-mod_left, mod-eq_of_lt, add-mul-mod_self_left}
+use Rattle.std.proofs.lemmas.Nat.{shr-shr, shr_le, shl-shr, mod-pow-add, mod_below, field_of, pow_pos, or_shifted, or_comm, one_shl, and_mask, mul-mod_first}
+use Rattle.std.proofs.Math.Nat.{pow-le-pow_right, pow-suc, mul-mod_left, mod-eq_of_lt, add-mul-mod_self_left, mul_assoc, mul_comm}
 use Rattle.std.proofs.lemmas.Nat.Bits.{bit_at-lt}
 use Rattle.std.proofs.lemmas.Simd.{ones-mask_l, mask_l-lt}
 use Rattle.arrow_memory.specs.Sliced.{sliced}
@@ -146,7 +146,7 @@ set_count-between words start end n h e =
 
 -- ---- 64 bits across two words
 
-word_of-append : (xs ys : List Bool) → word_of (xs ++ ys) ≡ word_of xs + 2 ^ length xs * word_of ys
+pub word_of-append : (xs ys : List Bool) → word_of (xs ++ ys) ≡ word_of xs + 2 ^ length xs * word_of ys
 word_of-append [] ys = omega arith
 word_of-append (x ∷ xs) ys =
     let rest = word_of-append xs ys in
@@ -203,7 +203,11 @@ word_of-across words place small =
     let high : word_of (bits_in words (place + k) j) ≡ slice_index words (place / 64 + 1) % 2 ^ j = back ∙ rw (next, start, whole) in
     across_words (slice_index words (place / 64)) (slice_index words (place / 64 + 1)) 64 j k width small ∙ sym (both ∙ rw (long, front, high))
 
--- ---- packing
+-- shifted up by one and then by the others: nothing is left of it where both are a whole word
+pub shifted_twice : (high shift : ℕ) → shift < 64 → high * 2 % 2 ^ 64 * 2 ^ (63 - shift) % 2 ^ 64 ≡ high * 2 ^ (64 - shift) % 2 ^ 64
+shifted_twice high shift below =
+    let power : 2 ^ (64 - shift) ≡ 2 * 2 ^ (63 - shift) = ap (λ n. 2 ^ n) (omega arith) ∙ (pow-suc 2 (63 - shift) ∙ mul_comm (2 ^ (63 - shift)) 2) in
+    mul-mod_first (high * 2) (2 ^ (63 - shift)) (2 ^ 64) ∙ ap (λ n. n % 2 ^ 64) (mul_assoc high 2 (2 ^ (63 - shift)) ∙ ap (λ n. high * n) (sym power))
 
 -- ---- packing
 
@@ -244,6 +248,12 @@ word_of-low words place n h =
     let both = rw parts at (ap word_of (bits_in-add words place n (64 - n)) ∙ word_of-append low high) in
     let small : word_of low < 2 ^ n = rw long at (mask_l-lt low) in
     rw (both, long, add-mul-mod_self_left (word_of low) (2 ^ n) (word_of high)) (mod-eq_of_lt small)
+
+-- the first of the 64 bits that are read
+pub word_of-first : (words : List ℕ) (place count word : ℕ) → count < 64 → word ≡ word_of (bits_in words place 64) → bit_and word (1 * 2 ^ count % 2 ^ 64 - 1) ≡ word_of (bits_in words place count)
+word_of-first words place count word short read =
+    let in_word : count ≤ 64 = omega arith in
+    rw (one_shl count 64 short, and_mask, read) (word_of-low words place count in_word)
 
 -- for the tactics of the methods of `Bitmap`
 pub ruleset bit_lengths = (length-bits_in)

@@ -1,12 +1,15 @@
 -- Bit by bit.
 use Rattle.std.specs.Prelude.{Bool, List, [], ◌∷◌, ◌&&◌, ◌||◌}
 
+-- the bits that each pair of bits gives
+abbrev pub paired : (Bool → Bool → Bool) → List Bool → List Bool → List Bool
+paired give (x ∷ xs) (y ∷ ys) = give x y ∷ paired give xs ys
+paired give _ _ = []
+
 -- both bits are set
 abbrev pub both_bits : List Bool → List Bool → List Bool
-both_bits (x ∷ xs) (y ∷ ys) = (x && y) ∷ both_bits xs ys
-both_bits _ _ = []
+both_bits = paired (λ x y. x && y)
 
 -- one bit at least is set
 abbrev pub either_bits : List Bool → List Bool → List Bool
-either_bits (x ∷ xs) (y ∷ ys) = (x || y) ∷ either_bits xs ys
-either_bits _ _ = []
+either_bits = paired (λ x y. x || y)

@@ -1,6 +1,6 @@
 -- How bits lie in memory: in 64-bit words, the least significant bit first. On a little-endian machine these are the bytes of Arrow's format ("Validity bitmaps").
 use Rattle.std.specs.Prelude.{◌≡◌, ℕ, ◌+◌, ◌*◌, ◌/◌, ◌%◌, ◌<◌, ◌≤◌, ◌^◌, ◌==◌, Bool, false, not, List, ◌++◌, length, map, slice_index, slice_index_or, count_by}
-use Rattle.std.specs.Int.{bit_at}
+use Rattle.std.specs.Int.{bit_at, div_ceil}
 use Rattle.std.specs.List.{range_with_len}
 use Rattle.std.specs.Simd.Lanes.{mask_l}
 
@@ -29,10 +29,14 @@ pub record Holds (words : List ℕ) (offset len : ℕ) : Type 0 where
 pub record Reads (words : List ℕ) (bits : List Bool) : Type 0 where
   pub each : (i : ℕ) → is_set words i ≡ slice_index_or bits i false
 
--- the new words are the old ones with some bits, given as a word, behind those that they held before a place
-abbrev pub AppendsWord : List ℕ → List ℕ → ℕ → ℕ → Type 0
-AppendsWord old new place word =
-    (xs ys : List Bool) → Reads old xs → length xs ≡ place → word ≡ word_of ys → length ys ≤ 64 → place + length ys ≤ 64 * length old → Reads new (xs ++ ys)
+-- the new words are the old ones with so many bits, given as a word, behind those that they held before a place
+abbrev pub AppendsWord : List ℕ → List ℕ → ℕ → ℕ → ℕ → Type 0
+AppendsWord old new place word count =
+    (xs ys : List Bool) → Reads old xs → length xs ≡ place → word ≡ word_of ys → length ys ≡ count → Reads new (xs ++ ys)
+
+-- the same of bits of any number
+abbrev pub AppendsBits : List ℕ → List ℕ → ℕ → List Bool → Type 0
+AppendsBits old new place ys = (xs : List Bool) → Reads old xs → length xs ≡ place → Reads new (xs ++ ys)
 
 -- of the `count` lowest bits of a word the first n are equal to a bit, and the next one, if there is one, is not
 pub record IsLowRun (word count : ℕ) (bit : Bool) (n : ℕ) : Type 0 where
@@ -42,16 +46,5 @@ pub record IsLowRun (word count : ℕ) (bit : Bool) (n : ℕ) : Type 0 where
 
 -- the words of so many bits, and no more words than these need: behind the bits come zeros
 pub record IsPadded (words : List ℕ) (len : ℕ) : Type 0 where
-  pub within : len ≤ 64 * length words
-  pub least : 64 * length words < len + 64
+  pub full : length words ≡ div_ceil len 64
   pub zeros : (i : ℕ) → len ≤ i → is_set words i ≡ false
-
--- room for so many bits, and no more: the same bits, with zeros behind them
-pub record HasGrown (old new : List ℕ) (total : ℕ) : Type 0 where
-  pub within : total ≤ 64 * length new
-  pub least : 64 * length new < total + 64
-  pub same : (i : ℕ) → is_set new i ≡ is_set old i
-
--- the same of bits of any number
-abbrev pub AppendsBits : List ℕ → List ℕ → ℕ → List Bool → Type 0
-AppendsBits old new place ys = (xs : List Bool) → Reads old xs → length xs ≡ place → Reads new (xs ++ ys)

@@ -1,18 +1,20 @@
 //! Bitmaps: shared, packed lists of bits.
 
-ghost use Rattle.std.specs.Prelude.{◌≡◌, ◌+◌, ◌*◌, ◌<◌, ◌≤◌, ◌↔◌, [], length, map, replicate, false, not, count_by, slice_get, IsTrue, IfOk, IsOkUnless};
+ghost use Rattle.std.specs.Prelude.{◌≡◌, ◌+◌, ◌*◌, ◌^◌, ◌<◌, ◌≤◌, ◌↔◌, [], length, replicate, false, not, count_by, slice_get, IsTrue, IfOk, IsOkUnless};
 ghost use Rattle.std.specs.Bool.{beq};
+ghost use Rattle.std.specs.Int.{div_ceil};
+ghost use Rattle.std.specs.Vec.{vec_capacity};
 ghost use Rattle.std.specs.Cmp.{partial_equiv_from_equiv, bool_eq_equiv};
 ghost use Rattle.std.specs.Cmp.Lexicographic.{pointwise, lists_equiv};
 ghost use Rattle.arrow_types.specs.declared.error.Error.{Error};
 ghost use Rattle.arrow_memory.specs.Sliced.{sliced};
-ghost use Rattle.arrow_memory.specs.Bits.{both_bits, either_bits};
-ghost use Rattle.arrow_memory.specs.Words.{bits_in, word_of};
+ghost use Rattle.arrow_memory.specs.Words.{bits_in, word_of, AppendsBits};
 
+mod bitmap_ops;
 mod mutable;
 mod runs;
 
-use crate::words::{WORD_BITS, count_ones, pack, word_from};
+use crate::words::{WORD_BITS, append_bits, bits_from, count_ones, pack, word_from};
 use arrow_types::error::Error;
 pub use mutable::MutableBitmap;
 use std::alloc::{AllocError, Global};
@@ -149,62 +151,6 @@ impl Bitmap {
         part
     }
 
-    /// The bits that are set in both, word by word.
-    ///
-    /// # Requires
-    /// Both have as many bits.
-    ///
-    /// # Errors
-    /// `OutOfMemory` as of [`Bitmap::new_zeroed`].
-    pub fn and(&self, alloc: Global, other: &Bitmap) -> Result<Bitmap, Error>
-        requires { length self.now ≡ length other.now }
-        ensures ok { IfOk result (λ bitmap. bitmap ≡ both_bits self.now other.now) }
-        ensures err { IsOkUnless result Error.OutOfMemory }
-    {
-        let len = self.len();
-        let mut words = vec![in alloc; 0; len.div_ceil(WORD_BITS)]?;
-        for j in 0..words.len() {
-            words[j] = self.word(j) & other.word(j);
-        }
-        Bitmap::from_words(alloc, words, len)
-    }
-
-    /// The bits that are set in one at least, word by word.
-    ///
-    /// # Requires
-    /// Both have as many bits.
-    ///
-    /// # Errors
-    /// `OutOfMemory` as of [`Bitmap::new_zeroed`].
-    pub fn or(&self, alloc: Global, other: &Bitmap) -> Result<Bitmap, Error>
-        requires { length self.now ≡ length other.now }
-        ensures ok { IfOk result (λ bitmap. bitmap ≡ either_bits self.now other.now) }
-        ensures err { IsOkUnless result Error.OutOfMemory }
-    {
-        let len = self.len();
-        let mut words = vec![in alloc; 0; len.div_ceil(WORD_BITS)]?;
-        for j in 0..words.len() {
-            words[j] = self.word(j) | other.word(j);
-        }
-        Bitmap::from_words(alloc, words, len)
-    }
-
-    /// Each bit turned, word by word.
-    ///
-    /// # Errors
-    /// `OutOfMemory` as of [`Bitmap::new_zeroed`].
-    pub fn not(&self, alloc: Global) -> Result<Bitmap, Error>
-        ensures ok { IfOk result (λ bitmap. bitmap ≡ map not self.now) }
-        ensures err { IsOkUnless result Error.OutOfMemory }
-    {
-        let len = self.len();
-        let mut words = vec![in alloc; 0; len.div_ceil(WORD_BITS)]?;
-        for j in 0..words.len() {
-            words[j] = !self.word(j);
-        }
-        Bitmap::from_words(alloc, words, len)
-    }
-
     /// The 64 bits from bit `64 * j` on as a word, with zeros past the last.
     fn word(&self, j: usize) -> u64
         requires { 64 * j < length self.now }
@@ -226,12 +172,19 @@ impl Bitmap {
         requires in_word { count ≤ 64 }
         ensures { result ≡ word_of (sliced self.now first count) }
     {
-        let word = word_from(&self.words, self.offset + first);
-        if count < WORD_BITS {
-            word & ((1 << count) - 1)
-        } else {
-            word
-        }
+        bits_from(&self.words, self.offset + first, count)
+    }
+
+    /// Puts `len` bits from bit `start` on behind the first `place` ones of some words.
+    fn append_to(&self, words: &mut Vec<u64>, place: usize, start: usize, len: usize)
+        requires part { start + len ≤ length self.now }
+        requires full { length words.old.items ≡ div_ceil place 64 }
+        requires room { div_ceil (place + len) 64 ≤ vec_capacity words.old }
+        requires fits { place + len < 2 ^ 64 }
+        ensures full { length words.new.items ≡ div_ceil (place + len) 64 }
+        ensures appended { AppendsBits words.old.items words.new.items place (sliced self.now start len) }
+    {
+        append_bits(words, place, &self.words, self.offset + start, len);
     }
 }
 

@@ -1,7 +1,9 @@
 //! Bits in words of 64.
 
-ghost use Rattle.std.specs.Prelude.{◌≡◌, ◌+◌, ◌-◌, ◌*◌, ◌%◌, ◌/◌, ◌<◌, ◌≤◌, length, slice_index};
-ghost use Rattle.arrow_memory.specs.Words.{bits_in, set_count, word_of, AppendsWord, IsLowRun};
+ghost use Rattle.std.specs.Prelude.{◌≡◌, ◌+◌, ◌-◌, ◌*◌, ◌%◌, ◌/◌, ◌<◌, ◌≤◌, ◌^◌, length, replicate, slice_index, bit_or};
+ghost use Rattle.std.specs.Int.{div_ceil};
+ghost use Rattle.std.specs.Vec.{vec_len, vec_capacity};
+ghost use Rattle.arrow_memory.specs.Words.{bits_in, set_count, word_of, AppendsBits, AppendsWord, IsLowRun};
 
 /// The bits of a word.
 pub(crate) const WORD_BITS: usize = 64;
@@ -67,15 +69,125 @@ pub(crate) fn low_run(word: u64, count: usize, bit: bool) -> usize
     count.min(others.trailing_zeros() as usize)
 }
 
-/// Puts the bits of a word behind those that the words hold before a place. What lies there is zeros.
-pub(crate) fn append_word(words: &mut [u64], place: usize, word: u64)
-    requires { place / 64 < length words.old }
-    ensures { AppendsWord words.old words.new place word }
+/// The first `count` bits from a place on as a word, with zeros above.
+pub(crate) fn bits_from(words: &[u64], place: usize, count: usize) -> u64
+    requires { count ≤ 64 }
+    ensures { result ≡ word_of (bits_in words.now place count) }
 {
-    let index = place / WORD_BITS;
-    let shift = place % WORD_BITS;
-    words[index] |= word << shift;
-    if shift != 0 && index + 1 < words.len() {
-        words[index + 1] |= word >> (WORD_BITS - shift);
+    let word = word_from(words, place);
+    if count < WORD_BITS {
+        word & ((1 << count) - 1)
+    } else {
+        word
+    }
+}
+
+/// The 64 bits across two words, from bit `shift` of the low one on.
+pub(crate) fn across(low: u64, high: u64, shift: usize) -> u64
+    requires { shift < 64 }
+    ensures { result ≡ bit_or (low / 2 ^ shift) (high * 2 ^ (64 - shift) % 2 ^ 64) }
+{
+    // in two steps, since at shift 0 all bits of the high word are shifted out
+    low >> shift | high << 1 << (WORD_BITS - 1 - shift)
+}
+
+/// A word of so many equal bits, with zeros above.
+fn equal_bits(count: usize, bit: bool) -> u64
+    requires { count ≤ 64 }
+    ensures { result ≡ word_of (replicate count bit) }
+{
+    if !bit {
+        0
+    } else if count < WORD_BITS {
+        (1 << count) - 1
+    } else {
+        u64::MAX
+    }
+}
+
+/// Puts the `count` bits of a word behind the first `place` ones. What the last word holds behind them is zeros.
+pub(crate) fn append_word(words: &mut Vec<u64>, place: usize, word: u64, count: usize)
+    requires full { length words.old.items ≡ div_ceil place 64 }
+    requires in_word { count ≤ 64 }
+    requires room { div_ceil (place + count) 64 ≤ vec_capacity words.old }
+    requires fits { place + count < 2 ^ 64 }
+    ensures full { length words.new.items ≡ div_ceil (place + count) 64 }
+    ensures room { vec_capacity words.new ≡ vec_capacity words.old }
+    ensures appended { AppendsWord words.old.items words.new.items place word count }
+{
+    let used = place % WORD_BITS;
+    if used > 0 {
+        words[place / WORD_BITS] |= word << used;
+    }
+    if words.len() < (place + count).div_ceil(WORD_BITS) {
+        words.push_reserved(word >> ((WORD_BITS - used) % WORD_BITS));
+    }
+}
+
+/// Puts `count` words of the bits from place `from` of others behind those that are there.
+fn append_words(words: &mut Vec<u64>, others: &[u64], from: usize, count: usize)
+    requires part { from + 64 * count ≤ 64 * length others.now }
+    requires room { vec_len words.old + count ≤ vec_capacity words.old }
+    ensures long { length words.new.items ≡ length words.old.items + count }
+    ensures room { vec_capacity words.old ≤ vec_capacity words.new }
+    ensures appended { AppendsBits words.old.items words.new.items (64 * length words.old.items) (bits_in others.now from (64 * count)) }
+{
+    let (first, shift) = (from / WORD_BITS, from % WORD_BITS);
+    if shift == 0 {
+        let Ok(()) = words.extend_from_slice(&others[first..first + count]) else {
+            unreachable!();
+        };
+    } else {
+        for j in first..first + count {
+            words.push_reserved(across(others[j], others[j + 1], shift));
+        }
+    }
+}
+
+/// Puts `len` bits from place `from` of others behind the first `place` ones, each word once.
+pub(crate) fn append_bits(
+    words: &mut Vec<u64>,
+    place: usize,
+    others: &[u64],
+    from: usize,
+    len: usize,
+)
+    requires full { length words.old.items ≡ div_ceil place 64 }
+    requires part { from + len ≤ 64 * length others.now }
+    requires room { div_ceil (place + len) 64 ≤ vec_capacity words.old }
+    requires fits { place + len < 2 ^ 64 }
+    requires ends { from + len < 2 ^ 64 }
+    ensures full { length words.new.items ≡ div_ceil (place + len) 64 }
+    ensures appended { AppendsBits words.old.items words.new.items place (bits_in others.now from len) }
+{
+    if len <= WORD_BITS {
+        append_word(words, place, bits_from(others, from, len), len);
+        return;
+    }
+    let head = WORD_BITS - place % WORD_BITS;
+    append_word(words, place, bits_from(others, from, head), head);
+    let (whole, tail) = ((len - head) / WORD_BITS, (len - head) % WORD_BITS);
+    append_words(words, others, from + head, whole);
+    let done = len - tail;
+    append_word(
+        words,
+        place + done,
+        bits_from(others, from + done, tail),
+        tail,
+    );
+}
+
+/// Puts a bit so many times behind the first `place` bits.
+pub(crate) fn append_equal(words: &mut Vec<u64>, place: usize, count: usize, bit: bool)
+    requires full { length words.old.items ≡ div_ceil place 64 }
+    requires room { div_ceil (place + count) 64 ≤ vec_capacity words.old }
+    requires fits { place + count < 2 ^ 64 }
+    ensures full { length words.new.items ≡ div_ceil (place + count) 64 }
+    ensures appended { AppendsBits words.old.items words.new.items place (replicate count bit) }
+{
+    for j in 0..count.div_ceil(WORD_BITS) {
+        let done = WORD_BITS * j;
+        let more = WORD_BITS.min(count - done);
+        append_word(words, place + done, equal_bits(more, bit), more);
     }
 }

@@ -1,13 +1,14 @@
 //! Bitmaps under construction.
 
-ghost use Rattle.std.specs.Prelude.{◌≡◌, ◌+◌, ◌-◌, ◌*◌, ◌/◌, ◌^◌, ◌≤◌, ◌<◌, ◌↔◌, [], ◌∷◌, ◌++◌, length, replicate, true, Err, IsTrue, IfOk, IfErr, OnOk, OnErr, IsOkUnless};
+ghost use Rattle.std.specs.Prelude.{◌≡◌, ◌+◌, ◌^◌, ◌≤◌, ◌↔◌, [], ◌∷◌, ◌++◌, length, replicate, Err, IsTrue, IfOk, IfErr, OnOk, OnErr, IsOkUnless};
+ghost use Rattle.std.specs.Int.{div_ceil};
+ghost use Rattle.std.specs.Vec.{vec_capacity};
 ghost use Rattle.arrow_types.specs.declared.error.Error.{Error};
 ghost use Rattle.arrow_memory.specs.Grown.{IsGrowthError};
 ghost use Rattle.arrow_memory.specs.Sliced.{sliced};
-ghost use Rattle.arrow_memory.specs.Words.{word_of, AppendsWord, AppendsBits, IsPadded, HasGrown};
 
 use crate::bitmap::Bitmap;
-use crate::words::{WORD_BITS, append_word};
+use crate::words::{WORD_BITS, append_equal, append_word};
 use arrow_types::error::Error;
 use std::alloc::Global;
 use std::marker::Model;
@@ -81,8 +82,8 @@ impl MutableBitmap {
         ensures others { IfErr result IsGrowthError }
         ensures err { OnErr result (self.new ≡ self.old) }
     {
-        let total = grow(&mut self.words, self.len, 1)?;
-        append(&mut self.words, self.len, u64::from(bit));
+        let total = reserve(&mut self.words, self.len, 1)?;
+        append_word(&mut self.words, self.len, u64::from(bit), 1);
         self.len = total;
         Ok(())
     }
@@ -97,8 +98,8 @@ impl MutableBitmap {
         ensures others { IfErr result IsGrowthError }
         ensures err { OnErr result (self.new ≡ self.old) }
     {
-        let total = grow(&mut self.words, self.len, additional)?;
-        append_constant(&mut self.words, self.len, additional, bit);
+        let total = reserve(&mut self.words, self.len, additional)?;
+        append_equal(&mut self.words, self.len, additional, bit);
         self.len = total;
         Ok(())
     }
@@ -122,8 +123,8 @@ impl MutableBitmap {
         ensures others { IfErr result IsGrowthError }
         ensures err { OnErr result (self.new ≡ self.old) }
     {
-        let total = grow(&mut self.words, self.len, len)?;
-        append_part(&mut self.words, self.len, bitmap, start, len);
+        let total = reserve(&mut self.words, self.len, len)?;
+        bitmap.append_to(&mut self.words, self.len, start, len);
         self.len = total;
         Ok(())
     }
@@ -143,82 +144,16 @@ impl MutableBitmap {
 }
 
 /// Makes room for more bits behind `len`, and answers how many there are to be.
-fn grow(words: &mut Vec<u64>, len: usize, more: usize) -> Result<usize, Error>
-    requires { IsPadded words.old.items len }
-    ensures ok { IfOk result (λ total. (total ≡ len + more) × HasGrown words.old.items words.new.items total) }
+fn reserve(words: &mut Vec<u64>, len: usize, more: usize) -> Result<usize, Error>
+    requires { length words.old.items ≡ div_ceil len 64 }
+    ensures unchanged { words.new.items ≡ words.old.items }
+    ensures ok { IfOk result (λ total. (total ≡ len + more) × (div_ceil total 64 ≤ vec_capacity words.new)) }
     ensures overflow { (result ≡ Err Error.Overflow) ↔ (2 ^ 64 ≤ len + more) }
     ensures others { IfErr result IsGrowthError }
-    ensures err { OnErr result (words.new.items ≡ words.old.items) }
 {
     let Some(total) = len.checked_add(more) else {
         return Err(Error::Overflow);
     };
-    let count = total.div_ceil(WORD_BITS);
-    if words.len() < count {
-        words.resize(count, 0)?;
-    }
+    words.reserve(total.div_ceil(WORD_BITS) - words.len())?;
     Ok(total)
-}
-
-/// Puts the bits of a word behind the first `place` ones.
-fn append(words: &mut Vec<u64>, place: usize, word: u64)
-    requires { place / 64 < length words.old.items }
-    ensures long { length words.new.items ≡ length words.old.items }
-    ensures appended { AppendsWord words.old.items words.new.items place word }
-{
-    append_word(words, place, word);
-}
-
-/// Puts a bit so many times behind the first `place` bits.
-fn append_constant(words: &mut Vec<u64>, place: usize, count: usize, bit: bool)
-    requires room { place + count ≤ 64 * length words.old.items }
-    requires fits { place + count < 2 ^ 64 }
-    ensures long { length words.new.items ≡ length words.old.items }
-    ensures appended { AppendsBits words.old.items words.new.items place (replicate count bit) }
-{
-    // zeros are there already
-    if bit {
-        append_ones(words, place, count);
-    }
-}
-
-/// Puts so many ones behind the first `place` bits.
-fn append_ones(words: &mut Vec<u64>, place: usize, count: usize)
-    requires room { place + count ≤ 64 * length words.old.items }
-    requires fits { place + count < 2 ^ 64 }
-    ensures long { length words.new.items ≡ length words.old.items }
-    ensures appended { AppendsBits words.old.items words.new.items place (replicate count true) }
-{
-    for j in 0..count.div_ceil(WORD_BITS) {
-        let done = WORD_BITS * j;
-        append(words, place + done, low_ones(WORD_BITS.min(count - done)));
-    }
-}
-
-/// A word of so many ones.
-fn low_ones(count: usize) -> u64
-    requires { count ≤ 64 }
-    ensures { result ≡ word_of (replicate count true) }
-{
-    if count < WORD_BITS {
-        (1 << count) - 1
-    } else {
-        u64::MAX
-    }
-}
-
-/// Puts a part of a bitmap behind the first `place` bits.
-fn append_part(words: &mut Vec<u64>, place: usize, bitmap: &Bitmap, start: usize, len: usize)
-    requires part { start + len ≤ length bitmap.now }
-    requires room { place + len ≤ 64 * length words.old.items }
-    requires fits { place + len < 2 ^ 64 }
-    ensures long { length words.new.items ≡ length words.old.items }
-    ensures appended { AppendsBits words.old.items words.new.items place (sliced bitmap.now start len) }
-{
-    prove!(start <= bitmap.len());
-    for j in 0..len.div_ceil(WORD_BITS) {
-        let done = WORD_BITS * j;
-        let word = bitmap.bits_from(start + done, WORD_BITS.min(len - done));
-        append(words, place + done, word);
-    }
 }

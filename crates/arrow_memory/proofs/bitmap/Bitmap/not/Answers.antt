@@ -1,13 +1,14 @@
-use Rattle.std.proofs.Common.{◌≡◌, ◌*◌, ◌≤◌, length, map, not, arith, rules}
-use Rattle.arrow_memory.specs.Words.{bits_in}
-use Rattle.arrow_memory.proofs.BitmapLemmas.{bits_in-not}
+use Rattle.std.proofs.Common.{◌≡◌, ℕ, ◌<◌, ◌++◌, false, not, map, length, get_or, take, drop, ap, ◌∙◌, arith}
+use Rattle.std.proofs.lemmas.List.{take_at}
+use Rattle.arrow_memory.specs.Words.{bits_in, is_set}
+use Rattle.arrow_memory.proofs.LogicLemmas.{bits_in-turned}
 use Rattle.arrow_memory.proofs.bitmap.Bitmap.not.Goals as goal
 
 pub returns-clause-ok : goal.returns-clause-ok
 returns-clause-ok c =
-    let words = c.loop-j.words.items in
-    let bits = c.args.self.now in
-    let within : c.len-len.result ≤ 64 * length words = search rules in
-    let seen : bits_in words 0 c.len-len.result ≡ map not bits =
-    rw c.len-len.ensures (bits_in-not words bits (omega arith) (λ k h. c.loop-j.invariant.each k (omega arith))) in
+    let new = c.turn.new.words in
+    let written = take_at new (drop (length new) c.in_ok-words.words.items) c.in_ok-words.words.len (c.turn.ensures.long ∙ c.deref_mut.ensures.len) in
+    let each : (i : ℕ) → i < length c.args.self.now → is_set new i ≡ not (get_or c.args.self.now i false) =
+    λ i within. c.turn.ensures.each i (omega (arith, within, ap length c.deref_mut.ensures.value, c.in_ok-words.ensures.full)) ∙ ap not (ap (λ words. is_set words i) c.deref_mut.ensures.value ∙ c.in_ok-words.ensures.ok.each i) in
+    let seen : bits_in (take c.in_ok-words.words.len (new ++ drop (length new) c.in_ok-words.words.items)) 0 c.len.result ≡ map not c.args.self.now = rw (written, c.len.ensures) (bits_in-turned new c.args.self.now each) in
     rw seen at c.from_words.ensures.ok

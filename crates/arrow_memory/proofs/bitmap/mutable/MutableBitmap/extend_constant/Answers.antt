@@ -1,22 +1,20 @@
-use Rattle.std.proofs.Common.{◌≡◌, ◌+◌, ◌++◌, length, replicate, ap, ◌∙◌, arith}
+use Rattle.std.proofs.Common.{◌≡◌, ◌+◌, ◌++◌, length, replicate, ap, sym, ◌∙◌, subst, arith}
+use Rattle.std.specs.Int.{div_ceil}
 use Rattle.std.proofs.lemmas.List.{length-replicate}
-use Rattle.arrow_memory.specs.Words.{bits_in}
+use Rattle.arrow_memory.specs.Words.{bits_in, IsPadded, AppendsBits}
 use Rattle.arrow_memory.proofs.MutableLemmas.{done}
 use Rattle.arrow_memory.proofs.bitmap.mutable.MutableBitmap.extend_constant.Goals as goal
 
-pub invariant_of-self-2 : goal.invariant_of-self-2
-invariant_of-self-2 c =
+stored : (c : goal.After-self-1) → IsPadded c.append_equal.new.words.items c.in_ok-total.total × (bits_in c.append_equal.new.words.items 0 c.in_ok-total.total ≡ bits_in c.self.inside.words.items 0 c.self.inside.len ++ (replicate c.args.additional c.args.bit))
+stored c =
     let total = c.in_ok-total.ensures.ok in
-    let run = replicate c.args.additional c.args.bit in
-    let is : c.in_ok-total.total ≡ c.self.inside.len + length run = omega (arith, total.0, length-replicate c.args.additional c.args.bit) in
-    (done c.self.inside.words.items c.grow.new.words.items c.append_constant.new.words.items c.self.inside.len c.in_ok-total.total run c.self.invariant total.1 c.append_constant.ensures.long is
-    (λ held long. c.append_constant.ensures.appended (bits_in c.self.inside.words.items 0 c.self.inside.len) held long)).0
+    let same = c.in_ok-total.ensures.unchanged in
+    let whole : c.in_ok-total.total ≡ c.self.inside.len + length (replicate c.args.additional c.args.bit) = omega (arith, total.0, length-replicate c.args.additional c.args.bit) in
+    let full : length c.append_equal.new.words.items ≡ div_ceil c.in_ok-total.total 64 = c.append_equal.ensures.full ∙ ap (λ n. div_ceil n 64) (sym total.0) in
+    done c.self.inside.words.items c.append_equal.new.words.items c.self.inside.len c.in_ok-total.total (replicate c.args.additional c.args.bit) c.self.invariant full whole (subst (λ words. AppendsBits words c.append_equal.new.words.items c.self.inside.len (replicate c.args.additional c.args.bit)) same c.append_equal.ensures.appended)
+
+pub invariant_of-self-2 : goal.invariant_of-self-2
+invariant_of-self-2 c = (stored c).0
 
 pub returns-clause-ok : goal.returns-clause-ok
-returns-clause-ok c =
-    let total = c.in_ok-total.ensures.ok in
-    let run = replicate c.args.additional c.args.bit in
-    let is : c.in_ok-total.total ≡ c.self.inside.len + length run = omega (arith, total.0, length-replicate c.args.additional c.args.bit) in
-    (done c.self.inside.words.items c.grow.new.words.items c.append_constant.new.words.items c.self.inside.len c.in_ok-total.total run c.self.invariant total.1 c.append_constant.ensures.long is
-    (λ held long. c.append_constant.ensures.appended (bits_in c.self.inside.words.items 0 c.self.inside.len) held long)).1 ∙
-    ap (λ bits. bits ++ run) c.self.view_is
+returns-clause-ok c = (stored c).1 ∙ ap (λ bits. bits ++ (replicate c.args.additional c.args.bit)) c.self.view_is

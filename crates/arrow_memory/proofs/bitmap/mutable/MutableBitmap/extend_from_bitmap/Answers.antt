@@ -1,23 +1,21 @@
-use Rattle.std.proofs.Common.{◌≡◌, ◌+◌, ◌++◌, length, ap, ◌∙◌, arith}
+use Rattle.std.proofs.Common.{◌≡◌, ◌+◌, ◌++◌, length, ap, sym, ◌∙◌, subst, arith}
+use Rattle.std.specs.Int.{div_ceil}
 use Rattle.arrow_memory.specs.Sliced.{sliced}
-use Rattle.arrow_memory.specs.Words.{bits_in}
+use Rattle.arrow_memory.specs.Words.{bits_in, IsPadded, AppendsBits}
 use Rattle.arrow_memory.proofs.MutableLemmas.{done}
 use Rattle.arrow_memory.proofs.SlicedLemmas.{length-sliced}
 use Rattle.arrow_memory.proofs.bitmap.mutable.MutableBitmap.extend_from_bitmap.Goals as goal
 
-pub invariant_of-self-2 : goal.invariant_of-self-2
-invariant_of-self-2 c =
+stored : (c : goal.After-self-1) → IsPadded c.append_to.new.words.items c.in_ok-total.total × (bits_in c.append_to.new.words.items 0 c.in_ok-total.total ≡ bits_in c.self.inside.words.items 0 c.self.inside.len ++ (sliced c.args.bitmap.now c.args.start c.args.len))
+stored c =
     let total = c.in_ok-total.ensures.ok in
-    let part = sliced c.args.bitmap.now c.args.start c.args.len in
-    let is : c.in_ok-total.total ≡ c.self.inside.len + length part = omega (arith, total.0, length-sliced c.args.bitmap.now c.args.start c.args.len c.requires) in
-    (done c.self.inside.words.items c.grow.new.words.items c.append_part.new.words.items c.self.inside.len c.in_ok-total.total part c.self.invariant total.1 c.append_part.ensures.long is
-    (λ held long. c.append_part.ensures.appended (bits_in c.self.inside.words.items 0 c.self.inside.len) held long)).0
+    let same = c.in_ok-total.ensures.unchanged in
+    let whole : c.in_ok-total.total ≡ c.self.inside.len + length (sliced c.args.bitmap.now c.args.start c.args.len) = omega (arith, total.0, length-sliced c.args.bitmap.now c.args.start c.args.len c.requires) in
+    let full : length c.append_to.new.words.items ≡ div_ceil c.in_ok-total.total 64 = c.append_to.ensures.full ∙ ap (λ n. div_ceil n 64) (sym total.0) in
+    done c.self.inside.words.items c.append_to.new.words.items c.self.inside.len c.in_ok-total.total (sliced c.args.bitmap.now c.args.start c.args.len) c.self.invariant full whole (subst (λ words. AppendsBits words c.append_to.new.words.items c.self.inside.len (sliced c.args.bitmap.now c.args.start c.args.len)) same c.append_to.ensures.appended)
+
+pub invariant_of-self-2 : goal.invariant_of-self-2
+invariant_of-self-2 c = (stored c).0
 
 pub returns-clause-ok : goal.returns-clause-ok
-returns-clause-ok c =
-    let total = c.in_ok-total.ensures.ok in
-    let part = sliced c.args.bitmap.now c.args.start c.args.len in
-    let is : c.in_ok-total.total ≡ c.self.inside.len + length part = omega (arith, total.0, length-sliced c.args.bitmap.now c.args.start c.args.len c.requires) in
-    (done c.self.inside.words.items c.grow.new.words.items c.append_part.new.words.items c.self.inside.len c.in_ok-total.total part c.self.invariant total.1 c.append_part.ensures.long is
-    (λ held long. c.append_part.ensures.appended (bits_in c.self.inside.words.items 0 c.self.inside.len) held long)).1 ∙
-    ap (λ bits. bits ++ part) c.self.view_is
+returns-clause-ok c = (stored c).1 ∙ ap (λ bits. bits ++ (sliced c.args.bitmap.now c.args.start c.args.len)) c.self.view_is

@@ -1,0 +1,11 @@
+use Rattle.std.proofs.Common.{◌≡◌, ◌+◌, length}
+use Rattle.arrow_memory.specs.Words.{is_set}
+use Rattle.arrow_memory.proofs.LogicLemmas.{GivesUpTo}
+use Rattle.arrow_memory.proofs.bitmap.bitmap_ops.combine.Given as goal
+
+-- the words so far are what the bits give
+abbrev pub invariant-loop-j : goal.invariant-loop-j
+invariant-loop-j g l = record {
+  long : length l.words ≡ length l.initial.words;
+  each : GivesUpTo (λ bit i. g.L.Logic.bits bit (is_set l.others (l.from + i))) l.initial.words l.words l.j;
+}
