@@ -1,13 +1,13 @@
 -- Offsets as they are stored, and as contracts see them.
 use Rattle.std.proofs.Common.{◌≡◌, ℕ, zero, suc, ◌+◌, ◌-◌, ◌<◌, ◌≤◌, ℤ, pos, negsuc, ◌+ℤ◌, ◌-ℤ◌, ◌≤ℤ◌, List, [], ◌∷◌, ◌++◌, length, map, get_or, take, drop, replicate, slice_index, unsigned_abs, refl, ap, sym, subst, ◌∙◌, arith, rules}
 use Rattle.std.proofs.Math.ListN.{get_or-map}
-use Rattle.std.specs.Prelude.{nat_eq, Bool}
+use Rattle.std.specs.Prelude.{nat_eq, set, Bool}
 use Rattle.std.specs.Bool.{Decides, one_answer}
 use Rattle.std.specs.Cmp.{unsigned_Decides}
 use Rattle.std.specs.Cmp.Lexicographic.{pointwise, pointwise_decides}
 use Rattle.std.specs.List.{All}
 use Rattle.std.proofs.lemmas.Int.{ints}
-use Rattle.std.proofs.lemmas.List.{map-append, take-map, drop-map, length-map, length-take, take_all, get_or-take, get_or-drop, get_or_default}
+use Rattle.std.proofs.lemmas.List.{map-append, take-map, drop-map, length-map, length-take, take_all, take_more, take_more_set, drop-drop, drop-set-lt, get_or-take, get_or-drop, get_or_default}
 use Rattle.arrow_memory.specs.Offsets.{RisesFrom, AreOffsets, IsOffsets, last_of, with_row, with_rows, counted_on}
 use Rattle.arrow_memory.specs.Sliced.{sliced}
 use Rattle.arrow_memory.proofs.SlicedLemmas.{length-sliced}
@@ -216,6 +216,23 @@ module _ {A : Type 0} (f : A → ℤ) (xs : List A) (os : List ℕ) (start len n
       let is_to = natural (f to) positive in
       let counts : map (λ z. f to +ℤ (z -ℤ f from)) (map f (sliced xs (start + 1) n)) ≡ map (λ z. pos place +ℤ (z -ℤ pos first)) (map pos ns) = λ i. map (λ z. is_to i +ℤ (z -ℤ begins i)) (rows i) in
       is ∙ ap (λ zs. map f old ++ zs) (counts ∙ stands)
+
+-- ---- one offset after the other
+
+-- a member that is as it was
+pub same_at : {A : Type 0} (xs ys : List A) (i : ℕ) (d : A) → drop i xs ≡ drop i ys → get_or xs i d ≡ get_or ys i d
+same_at xs ys i d left =
+    let at : i + 0 ≡ i = omega arith in
+    sym (get_or-drop i xs 0 d ∙ ap (λ k. get_or xs k d) at) ∙ (ap (λ rest. get_or rest 0 d) left ∙ (get_or-drop i ys 0 d ∙ ap (λ k. get_or ys k d) at))
+
+pub mapped_next : {A : Type 0} (f : A → ℤ) (g : ℤ → ℤ) (old new : List A) (i : ℕ) (value d : A) → i < length new → i < length old → f value ≡ g (f (get_or old i d)) → map f (take i new) ≡ map g (map f (take i old)) → map f (take (i + 1) (set new i value)) ≡ map g (map f (take (i + 1) old))
+mapped_next f g old new i value d within inside is so_far =
+    let x = get_or old i d in
+    let ends = map-append g (map f (take i old)) (f x ∷ []) in
+    ap (map f) (take_more_set new i value within) ∙ (map-append f (take i new) (value ∷ []) ∙ ((λ t. so_far t ++ is t ∷ []) ∙ (sym ends ∙ sym (ap (λ xs. map g (map f xs)) (take_more old i d inside) ∙ ap (map g) (map-append f (take i old) (x ∷ []))))))
+
+pub left_next : {A : Type 0} (old new : List A) (i : ℕ) (value : A) → drop i new ≡ drop i old → drop (i + 1) (set new i value) ≡ drop (i + 1) old
+left_next old new i value left = drop-set-lt (i + 1) new i value (omega arith) ∙ (sym (drop-drop 1 i new) ∙ (ap (drop 1) left ∙ drop-drop 1 i old))
 
 -- ---- equality
 

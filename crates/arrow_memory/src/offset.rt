@@ -324,8 +324,22 @@ fn append_shifted<O: Offset>(offsets: &mut Vec<O>, rows: &[O], from: O, to: O)
     requires fits { All (λ x. (O.number from ≤ℤ O.number x) × ((O.number to +ℤ (O.number x -ℤ O.number from)) ≤ℤ pos O.greatest)) rows.now }
     ensures { map O.number offsets.new.items ≡ map O.number offsets.old.items ++ map (λ z. O.number to +ℤ (z -ℤ O.number from)) (map O.number rows.now) }
 {
-    for offset in rows {
-        offsets.push_reserved(offset.shifted(from, to));
+    let done = offsets.len();
+    let Ok(()) = offsets.extend_from_slice(rows) else {
+        unreachable!();
+    };
+    shift(&mut offsets[done..], from, to);
+}
+
+/// Counts offsets on from `to` where they were counted on from `from`.
+fn shift<O: Offset>(offsets: &mut [O], from: O, to: O)
+    requires starts { pos 0 ≤ℤ O.number from }
+    requires not_negative { pos 0 ≤ℤ O.number to }
+    requires fits { All (λ x. (O.number from ≤ℤ O.number x) × ((O.number to +ℤ (O.number x -ℤ O.number from)) ≤ℤ pos O.greatest)) offsets.old }
+    ensures { map O.number offsets.new ≡ map (λ z. O.number to +ℤ (z -ℤ O.number from)) (map O.number offsets.old) }
+{
+    for offset in offsets.iter_mut() {
+        *offset = offset.shifted(from, to);
     }
 }
 
