@@ -1,4 +1,5 @@
 pub mod FixedLemmas
+pub mod LengthLemmas
 pub mod PartsLemmas
 pub mod PieceLemmas
 pub mod ScalarLemmas

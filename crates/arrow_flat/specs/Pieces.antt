@@ -12,6 +12,15 @@ abbrev pub pieces : {A : Type 0} → List ℕ → List A → List (List A)
 pieces [] xs = []
 pieces (start ∷ offsets) xs = pieces_from start offsets xs
 
+-- how long those rows are
+abbrev pub lengths_from : ℕ → List ℕ → List ℕ
+lengths_from start [] = []
+lengths_from start (end ∷ offsets) = (end - start) ∷ lengths_from end offsets
+
+abbrev pub lengths : List ℕ → List ℕ
+lengths [] = []
+lengths (start ∷ offsets) = lengths_from start offsets
+
 -- so many rows of a size
 abbrev pub chunks : {A : Type 0} → ℕ → ℕ → List A → List (List A)
 chunks zero size xs = []

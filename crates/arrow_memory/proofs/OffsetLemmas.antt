@@ -90,7 +90,7 @@ sliced_offsets zs o n held within some =
 
 -- and more behind them
 
-last_behind : (n m : ℕ) (os : List ℕ) → last_of (n ∷ m ∷ os) ≡ last_of (m ∷ os)
+pub last_behind : (n m : ℕ) (os : List ℕ) → last_of (n ∷ m ∷ os) ≡ last_of (m ∷ os)
 last_behind n m os =
     let last : length (n ∷ m ∷ os) - 1 ≡ suc (length (m ∷ os) - 1) = omega arith in
     ap (λ i. slice_index (n ∷ m ∷ os) i) last

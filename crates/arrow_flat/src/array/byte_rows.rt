@@ -1,7 +1,7 @@
 //! What arrays of texts and of bytes share: rows of any length, one behind the other.
 
-ghost use Rattle.std.specs.Prelude.{◌≡◌, ◌+◌, ◌-◌, ◌<◌, ◌≤◌, ◌↔◌, Bool, List, ℕ, length, slice_get, Some, IfOk, IfErr, OnOk, IsTrue};
-ghost use Rattle.std.specs.List.{All};
+ghost use Rattle.std.specs.Prelude.{◌≡◌, ◌+◌, ◌-◌, ◌<◌, ◌≤◌, ◌↔◌, Bool, List, ℕ, length, slice_get, slice_index, Some, IfOk, IfErr, OnOk, IsTrue};
+ghost use Rattle.std.specs.List.{All, concat};
 ghost use Rattle.std.proofs.Common.{rules};
 ghost use Rattle.std.proofs.lemmas.List.Elements.{All-map};
 ghost use Rattle.arrow_types.specs.ArrowType.{PlainType, plain};
@@ -14,7 +14,7 @@ ghost use Rattle.arrow_flat.specs.ByteRows.{ByteParts, row_bytes, byte_slots, by
 ghost use Rattle.arrow_flat.specs.Faults.{IsCarriedAs, NamesFirst};
 ghost use Rattle.arrow_flat.specs.Parts.{FitsRows, IsValue};
 ghost use Rattle.arrow_flat.specs.PieceLaws.{slots_of_pieces};
-ghost use Rattle.arrow_flat.specs.Pieces.{pieces};
+ghost use Rattle.arrow_flat.specs.Pieces.{pieces, lengths};
 
 use crate::array::{FlatArray, Values, is_carried_as, validity};
 use arrow_memory::bitmap::Bitmap;
@@ -86,6 +86,14 @@ impl<O: Offset, K: ByteKind> ByteRows<O, K> {
         let (start, end) = self.offsets.start_end(i);
         &self.bytes.as_slice()[start..end]
     }
+
+    /// The bytes of all rows, one row behind the other.
+    fn all(&self) -> &[u8]
+        ensures { result.now ≡ concat (row_bytes self.now) }
+    {
+        let (start, end) = span(&self.offsets);
+        &self.bytes.as_slice()[start..end]
+    }
 }
 
 impl<O: Offset, K: ByteKind> Values for ByteRows<O, K> {
@@ -105,15 +113,10 @@ impl<O: Offset, K: ByteKind> Values for ByteRows<O, K> {
     }
 
     fn equal(&self, other: &ByteRows<O, K>) -> bool {
-        if self.len() != other.len() {
+        if !are_as_long(&self.offsets, &other.offsets) {
             return false;
         }
-        for i in 0..self.len() {
-            if !self.equal_at(i, other, i) {
-                return false;
-            }
-        }
-        true
+        self.all() == other.all()
     }
 
     fn equal_at(&self, i: usize, other: &ByteRows<O, K>, j: usize) -> bool {
@@ -140,6 +143,41 @@ impl<O: Offset, K: ByteKind> Clone for ByteRows<O, K> {
             kind: PhantomData,
         })
     }
+}
+
+/// Where the first row begins, and the last one ends.
+fn span<O: Offset>(offsets: &OffsetsBuffer<O>) -> (usize, usize)
+    ensures start { result.0 ≡ slice_index offsets.now 0 }
+    ensures end { result.1 ≡ last_of offsets.now }
+    ensures rises { result.0 ≤ result.1 }
+{
+    let start = offsets.buffer()[0].to_usize();
+    let end = offsets.last().to_usize();
+    (start, end)
+}
+
+/// How many bytes row `i` has.
+fn row_len<O: Offset>(offsets: &OffsetsBuffer<O>, i: usize) -> usize
+    requires { i + 1 < length offsets.now }
+    ensures { result ≡ slice_index (lengths offsets.now) i }
+{
+    let (start, end) = offsets.start_end(i);
+    end - start
+}
+
+/// Whether there are as many rows under some offsets as under others, each as long.
+fn are_as_long<O: Offset>(offsets: &OffsetsBuffer<O>, others: &OffsetsBuffer<O>) -> bool
+    ensures { IsTrue result ↔ (lengths offsets.now ≡ lengths others.now) }
+{
+    if offsets.len() != others.len() {
+        return false;
+    }
+    for i in 0..offsets.len() - 1 {
+        if row_len(offsets, i) != row_len(others, i) {
+            return false;
+        }
+    }
+    true
 }
 
 /// Whether each row that the offsets name is as the kind asks: one pass over the bytes of the rows.
