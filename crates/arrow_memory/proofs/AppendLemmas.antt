@@ -1,9 +1,9 @@
 -- Bits that are appended a word at a time.
-use Rattle.std.proofs.Common.{◌≡◌, ℕ, ◌+◌, ◌-◌, ◌*◌, ◌/◌, ◌%◌, ◌^◌, ◌<◌, ◌≤◌, Bool, true, false, ◌||◌, List, [], ◌∷◌, ◌++◌, length, get_or, take, drop, refl, ap, sym, ◌∙◌, subst, arith, slice_index, inl, inr, add-zero, zero-add, append_assoc, length-append}
+use Rattle.std.proofs.Common.{◌≡◌, ℕ, ◌+◌, ◌-◌, ◌*◌, ◌/◌, ◌%◌, ◌^◌, ◌<◌, ◌≤◌, Bool, true, false, ◌||◌, List, [], ◌∷◌, ◌++◌, length, get_or, take, drop, replicate, zero, suc, refl, ap, sym, ◌∙◌, subst, arith, slice_index, inl, inr, add-zero, zero-add, append_assoc, length-append}
 use Rattle.std.specs.Prelude.{◌==◌, bit_or, set}
 use Rattle.std.specs.Int.{bit_at}
 use Rattle.std.proofs.lemmas.Bool.{cases_lt, cases_eq}
-use Rattle.std.proofs.lemmas.List.{get_or-set_same, get_or-set_other, get_or_append_left, get_or-append_right, get_or_past, get_or-take, get_or-drop, length-set, length-take, length-take-le, length-drop, take_all, take-append-drop, append-nil}
+use Rattle.std.proofs.lemmas.List.{get_or-set_same, get_or-set_other, get_or_append_left, get_or-append_right, get_or_past, get_or-take, get_or-drop, length-set, length-take, length-take-le, length-drop, take_all, take-append-drop, append-nil, length-replicate, replicate-append-replicate}
 use Rattle.std.proofs.lemmas.Nat.{shr-shr, shr_split, pow_pos}
 use Rattle.std.proofs.lemmas.Nat.Bits.{bit_at-zero, bit_at_cat_low, bit_at_cat_high}
 use Rattle.std.proofs.lemmas.Simd.{mask_l-lt}
@@ -214,6 +214,14 @@ one_more words others xs from count word reads long is =
     let short : length more ≤ 64 = omega (arith, length-bits_in others (from + 64 * count) 64) in
     subst (Reads (words ++ word ∷ [])) (append_assoc xs (bits_in others from (64 * count)) more ∙ ap (λ bits. xs ++ bits) (sym (bits_in-add others from (64 * count) 64) ∙ ap (bits_in others from) (sym next))) (reads_join words (word ∷ []) (xs ++ bits_in others from (64 * count)) more reads (reads_word more word is short) long)
 
+-- words of equal bits
+pub reads_equal : (count word : ℕ) (bit : Bool) → word ≡ word_of (replicate 64 bit) → Reads (replicate count word) (replicate (64 * count) bit)
+reads_equal zero word bit is = reads_none
+reads_equal (suc count) word bit is =
+    let next : 64 * suc count ≡ 64 + 64 * count = omega arith in
+    let first = reads_word (replicate 64 bit) word is (omega (arith, length-replicate 64 bit)) in
+    rw (next, ← replicate-append-replicate 64 (64 * count) bit) (reads_join (word ∷ []) (replicate count word) (replicate 64 bit) (replicate (64 * count) bit) first (reads_equal count word bit is) (length-replicate 64 bit))
+
 -- ---- one append behind another
 
 pub appends_both : (old mid new : List ℕ) (place next : ℕ) (ys zs : List Bool) → AppendsBits old mid place ys → AppendsBits mid new next zs → next ≡ place + length ys → AppendsBits old new place (ys ++ zs)
@@ -223,3 +231,6 @@ appends_both old mid new place next ys zs front back at = λ xs reads long.
 
 pub word_appends : (old new others : List ℕ) (place word from count : ℕ) → AppendsWord old new place word count → word ≡ word_of (bits_in others from count) → AppendsBits old new place (bits_in others from count)
 word_appends old new others place word from count appends is = λ xs reads long. appends xs (bits_in others from count) reads long is (length-bits_in others from count)
+
+pub equal_appends : (old new : List ℕ) (place word count : ℕ) (bit : Bool) → AppendsWord old new place word count → word ≡ word_of (replicate count bit) → AppendsBits old new place (replicate count bit)
+equal_appends old new place word count bit appends is = λ xs reads long. appends xs (replicate count bit) reads long is (length-replicate count bit)

@@ -1,11 +1,10 @@
 -- Bitmaps under construction.
-use Rattle.std.proofs.Common.{◌≡◌, ℕ, zero, suc, ◌+◌, ◌-◌, ◌*◌, ◌^◌, ◌<◌, min, Bool, true, false, List, [], ◌∷◌, ◌++◌, length, get_or, take, drop, replicate, refl, ap, sym, ◌∙◌, arith, append_assoc, inl, inr, zero-add, length-append}
+use Rattle.std.proofs.Common.{◌≡◌, ℕ, zero, suc, ◌+◌, ◌-◌, ◌^◌, Bool, true, false, List, [], ◌∷◌, ◌++◌, length, get_or, replicate, refl, ap, sym, ◌∙◌, arith, inl, inr, zero-add, length-append}
 use mir.Val.{bool_byte}
 use Rattle.std.specs.Int.{div_ceil}
 use Rattle.std.proofs.Math.Nat.{pow-suc}
-use Rattle.std.proofs.Math.Seq.{take-add}
 use Rattle.std.proofs.lemmas.Bool.{cases_lt}
-use Rattle.std.proofs.lemmas.List.{get_or_past, take-replicate, drop-replicate, take_min, length-replicate}
+use Rattle.std.proofs.lemmas.List.{get_or_past}
 use Rattle.std.proofs.lemmas.Nat.{pow_pos}
 use Rattle.arrow_memory.specs.Words.{is_set, bits_in, word_of, Reads, IsPadded, AppendsBits}
 use Rattle.arrow_memory.proofs.BitmapLemmas.{bits_in_is}
@@ -42,17 +41,6 @@ done words new len total ys padded full is appends =
 pub byte_is : (b : Bool) (x : ℕ) → x ≡ bool_byte b → x ≡ word_of (b ∷ [])
 byte_is true x e = e
 byte_is false x e = e
-
--- 64 more bits, or what is left
-pub next_bits : (xs zs ys : List Bool) (j : ℕ) → ys ≡ take 64 (drop (64 * j) zs) → (xs ++ take (64 * j) zs) ++ ys ≡ xs ++ take (64 * (j + 1)) zs
-next_bits xs zs ys j is =
-    let next : 64 * (j + 1) ≡ 64 * j + 64 = omega arith in
-    rw (next, take-add (64 * j) 64 zs) (ap (λ tail. (xs ++ take (64 * j) zs) ++ tail) is ∙ append_assoc xs (take (64 * j) zs) (take 64 (drop (64 * j) zs)))
-
-pub next_equal : (count j : ℕ) (bit : Bool) → 64 * j < count → replicate (min 64 (count - 64 * j)) bit ≡ take 64 (drop (64 * j) (replicate count bit))
-next_equal count j bit within =
-    let left = count - 64 * j in
-    sym (ap (take 64) (drop-replicate (64 * j) count bit) ∙ (sym (take_min 64 (replicate left bit)) ∙ (ap (λ n. take (min 64 n) (replicate left bit)) (length-replicate left bit) ∙ take-replicate (min 64 left) left bit (omega arith))))
 
 pub word_of-ones : (count : ℕ) → word_of (replicate count true) ≡ 2 ^ count - 1
 word_of-ones zero = refl

@@ -185,9 +185,26 @@ pub(crate) fn append_equal(words: &mut Vec<u64>, place: usize, count: usize, bit
     ensures full { length words.new.items ≡ div_ceil (place + count) 64 }
     ensures appended { AppendsBits words.old.items words.new.items place (replicate count bit) }
 {
-    for j in 0..count.div_ceil(WORD_BITS) {
-        let done = WORD_BITS * j;
-        let more = WORD_BITS.min(count - done);
-        append_word(words, place + done, equal_bits(more, bit), more);
+    if count <= WORD_BITS {
+        append_word(words, place, equal_bits(count, bit), count);
+        return;
     }
+    let head = WORD_BITS - place % WORD_BITS;
+    append_word(words, place, equal_bits(head, bit), head);
+    let (whole, tail) = ((count - head) / WORD_BITS, (count - head) % WORD_BITS);
+    append_equal_words(words, whole, bit);
+    let done = count - tail;
+    append_word(words, place + done, equal_bits(tail, bit), tail);
+}
+
+/// Puts `count` words of equal bits behind those that are there.
+fn append_equal_words(words: &mut Vec<u64>, count: usize, bit: bool)
+    requires { vec_len words.old + count ≤ vec_capacity words.old }
+    ensures long { length words.new.items ≡ length words.old.items + count }
+    ensures room { vec_capacity words.old ≤ vec_capacity words.new }
+    ensures appended { AppendsBits words.old.items words.new.items (64 * length words.old.items) (replicate (64 * count) bit) }
+{
+    let Ok(()) = words.resize(words.len() + count, equal_bits(WORD_BITS, bit)) else {
+        unreachable!();
+    };
 }

@@ -1,6 +1,5 @@
-use Rattle.std.proofs.Common.{◌≡◌, pos, ◌+ℤ◌, ◌-ℤ◌, ◌≤ℤ◌, ◌<◌, length, get_or, sym, ap, ◌∙◌, subst, arith}
+use Rattle.std.proofs.Common.{pos, ◌+ℤ◌, ◌-ℤ◌, ◌≤ℤ◌, ◌<◌, length, sym, ap, ◌∙◌, subst, arith}
 use Rattle.arrow_memory.proofs.OffsetLemmas.{same_at, mapped_next, left_next}
-use Rattle.arrow_memory.proofs.offset.shift.Given.{Over}
 use Rattle.arrow_memory.proofs.offset.shift.Goals as goal
 
 pub shifted-requires-clause-rises : goal.shifted-requires-clause-rises

@@ -1,26 +1,32 @@
-use Rattle.std.proofs.Common.{◌≡◌, ◌<◌, ◌+◌, ◌-◌, ◌*◌, ◌++◌, min, length, take, replicate, ap, ◌∙◌, subst, arith, rules, length-append}
-use Rattle.std.specs.Int.{div_ceil}
-use Rattle.std.proofs.lemmas.List.{length-take, length-replicate}
-use Rattle.arrow_memory.specs.Words.{word_of, Reads}
-use Rattle.arrow_memory.proofs.MutableLemmas.{next_bits, next_equal}
+use Rattle.std.proofs.Common.{◌≡◌, ◌+◌, ◌-◌, ◌*◌, ◌/◌, ◌%◌, length, replicate, ap, sym, ◌∙◌, subst, arith}
+use Rattle.std.proofs.lemmas.List.{length-replicate, replicate-append-replicate}
+use Rattle.arrow_memory.specs.Words.{AppendsBits}
+use Rattle.arrow_memory.proofs.AppendLemmas.{equal_appends, appends_both}
 use Rattle.arrow_memory.proofs.words.append_equal.Goals as goal
 
-pub loop-j-preserved : goal.loop-j-preserved
-loop-j-preserved c =
-    let j = c.loop-j.j in
-    let all = replicate c.args.count c.args.bit in
-    let count = min 64 (c.args.count - 64 * j) in
-    let ys = replicate count c.args.bit in
-    let within : 64 * j < c.args.count = search rules in
-    let long = length-replicate c.args.count c.args.bit in
-    let taken : c.min-more.result ≡ count = search rules in
-    let short : length ys ≡ c.min-more.result = omega (arith, taken, length-replicate count c.args.bit) in
-    let is : c.equal_bits.result ≡ word_of ys = c.equal_bits.ensures ∙ ap (λ n. word_of (replicate n c.args.bit)) taken in
-    record {
-      full = c.append_word.ensures.full ∙ ap (λ n. div_ceil n 64) (omega (arith, taken, within));
-      room = c.append_word.ensures.room ∙ c.loop-j.invariant.room;
-      appended = λ xs reads at.
-          let before = c.loop-j.invariant.appended xs reads at in
-          let behind : length (xs ++ take (64 * j) all) ≡ c.args.place + 64 * j = omega (arith, at, long, length-append xs (take (64 * j) all), length-take (64 * j) all) in
-          subst (Reads c.append_word.new.words.items) (next_bits xs all ys j (next_equal c.args.count j c.args.bit within)) (c.append_word.ensures.appended (xs ++ take (64 * j) all) ys before behind is short);
-    }
+pub returns-then-count-le-WORD_BITS-clause-appended : goal.returns-then-count-le-WORD_BITS-clause-appended
+returns-then-count-le-WORD_BITS-clause-appended c =
+    equal_appends c.args.words.now.items c.append_word.new.words.items c.args.place c.equal_bits.result c.args.count c.args.bit c.append_word.ensures.appended c.equal_bits.ensures
+
+-- the first word, whole words behind it, and what is left
+pub returns-clause-appended : goal.returns-clause-appended
+returns-clause-appended c =
+    let bit = c.args.bit in
+    let place = c.args.place in
+    let old = c.args.words.now.items in
+    let begun = c.append_word-2.new.words.items in
+    let filled = c.append_equal_words.new.words.items in
+    let new = c.append_word-3.new.words.items in
+    let head = 64 - place % 64 in
+    let whole = (c.args.count - head) / 64 in
+    let tail = (c.args.count - head) % 64 in
+    let done : c.args.count - tail ≡ head + 64 * whole = omega arith in
+    let front = equal_appends old begun place c.equal_bits-2.result head bit c.append_word-2.ensures.appended c.equal_bits-2.ensures in
+    let full : 64 * length begun ≡ place + length (replicate head bit) = omega (arith, c.append_word-2.ensures.full, length-replicate head bit) in
+    let both = appends_both old begun filled place (64 * length begun) (replicate head bit) (replicate (64 * whole) bit) front c.append_equal_words.ensures.appended full in
+    let joined = subst (AppendsBits old filled place) (replicate-append-replicate head (64 * whole) bit ∙ ap (λ n. replicate n bit) (sym done)) both in
+    let rest = equal_appends filled new (place + (c.args.count - tail)) c.equal_bits-3.result tail bit c.append_word-3.ensures.appended c.equal_bits-3.ensures in
+    let behind : place + (c.args.count - tail) ≡ place + length (replicate (c.args.count - tail) bit) = omega (arith, length-replicate (c.args.count - tail) bit) in
+    let all = appends_both old filled new place (place + (c.args.count - tail)) (replicate (c.args.count - tail) bit) (replicate tail bit) joined rest behind in
+    let parts : c.args.count - tail + tail ≡ c.args.count = omega arith in
+    subst (AppendsBits old new place) (replicate-append-replicate (c.args.count - tail) tail bit ∙ ap (λ n. replicate n bit) parts) all

@@ -1,5 +1,3 @@
-use Rattle.std.proofs.Common.{◌≡◌, slice_index}
-use Rattle.arrow_memory.specs.Offsets.{last_of}
 use Rattle.arrow_flat.proofs.LengthLemmas.{all_bytes}
 use Rattle.arrow_flat.proofs.array.byte_rows.ByteRows.all.Goals as goal
 

@@ -1,4 +1,4 @@
-use Rattle.std.proofs.Common.{◌≡◌, refl, ap, sym, ◌∙◌}
+use Rattle.std.proofs.Common.{refl, ap, sym, ◌∙◌}
 use Rattle.std.specs.List.{concat}
 use Rattle.arrow_flat.specs.ByteRows.{ByteParts, row_bytes}
 use Rattle.arrow_flat.proofs.LengthLemmas.{same_rows, bytes_same, lengths_same}
