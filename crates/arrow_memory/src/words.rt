@@ -1,9 +1,13 @@
 //! Bits in words of 64.
 
-ghost use Rattle.std.specs.Prelude.{◌≡◌, ◌+◌, ◌-◌, ◌*◌, ◌%◌, ◌/◌, ◌<◌, ◌≤◌, ◌^◌, length, replicate, slice_index, bit_or};
+ghost use Rattle.std.specs.Prelude.{Bool, List, take, ◌≡◌, ◌+◌, ◌-◌, ◌*◌, ◌%◌, ◌/◌, ◌<◌, ◌≤◌, ◌^◌, length, replicate, slice_index, bit_or};
 ghost use Rattle.std.specs.Int.{div_ceil};
 ghost use Rattle.std.specs.Vec.{vec_len, vec_capacity};
-ghost use Rattle.arrow_memory.specs.Words.{bits_in, set_count, word_of, AppendsBits, AppendsWord, IsLowRun};
+ghost use Rattle.arrow_memory.specs.Words.{bits_in, set_count, word_of, AppendsBits, AppendsWord, IsLowRun, Reads};
+
+pub(crate) mod logic;
+
+use logic::{Second, combine};
 
 /// The bits of a word.
 pub(crate) const WORD_BITS: usize = 64;
@@ -124,27 +128,56 @@ pub(crate) fn append_word(words: &mut Vec<u64>, place: usize, word: u64, count: 
     }
 }
 
-/// Puts `count` words of the bits from place `from` of others behind those that are there.
+/// Puts `count` words of the bits from place `from` of others behind those that are there, with zeros past the
+/// last of the others.
 fn append_words(words: &mut Vec<u64>, others: &[u64], from: usize, count: usize)
-    requires part { from + 64 * count ≤ 64 * length others.now }
+    requires part { from + 64 * count < 64 * length others.now + 64 }
     requires room { vec_len words.old + count ≤ vec_capacity words.old }
+    requires fits { from + 64 * count < 2 ^ 64 + 64 }
     ensures long { length words.new.items ≡ length words.old.items + count }
-    ensures room { vec_capacity words.old ≤ vec_capacity words.new }
     ensures appended { AppendsBits words.old.items words.new.items (64 * length words.old.items) (bits_in others.now from (64 * count)) }
 {
-    let (first, shift) = (from / WORD_BITS, from % WORD_BITS);
-    if shift == 0 {
+    let first = from / WORD_BITS;
+    if from % WORD_BITS == 0 {
         let Ok(()) = words.extend_from_slice(&others[first..first + count]) else {
             unreachable!();
         };
     } else {
-        for j in first..first + count {
-            words.push_reserved(across(others[j], others[j + 1], shift));
-        }
+        let done = words.len();
+        let Ok(()) = words.resize(done + count, 0) else {
+            unreachable!();
+        };
+        combine::<Second>(&mut words[done..], others, from);
     }
 }
 
-/// Puts `len` bits from place `from` of others behind the first `place` ones, each word once.
+/// Fills the last word with the bits from place `from` of others behind the first `place` ones.
+fn fill_word(words: &mut Vec<u64>, place: usize, others: &[u64], from: usize)
+    requires full { length words.old.items ≡ div_ceil place 64 }
+    ensures long { length words.new.items ≡ length words.old.items }
+    ensures room { vec_capacity words.new ≡ vec_capacity words.old }
+    ensures appended { AppendsBits words.old.items words.new.items place (bits_in others.now from ((64 - place % 64) % 64)) }
+{
+    let used = place % WORD_BITS;
+    if used > 0 {
+        words[place / WORD_BITS] |= word_from(others, from) << used;
+    }
+}
+
+/// Clears what the last word holds behind the first `len` bits.
+fn clear_behind(words: &mut Vec<u64>, len: usize)
+    requires full { length words.old.items ≡ div_ceil len 64 }
+    ensures long { length words.new.items ≡ length words.old.items }
+    ensures cut { (ys : List Bool) → Reads words.old.items ys → Reads words.new.items (take len ys) }
+{
+    let used = len % WORD_BITS;
+    if used > 0 {
+        words[len / WORD_BITS] &= (1 << used) - 1;
+    }
+}
+
+/// Puts `len` bits from place `from` of others behind the first `place` ones: whole words of the others from
+/// where the last word is filled, of which the last one is cut.
 pub(crate) fn append_bits(
     words: &mut Vec<u64>,
     place: usize,
@@ -160,21 +193,13 @@ pub(crate) fn append_bits(
     ensures full { length words.new.items ≡ div_ceil (place + len) 64 }
     ensures appended { AppendsBits words.old.items words.new.items place (bits_in others.now from len) }
 {
-    if len <= WORD_BITS {
-        append_word(words, place, bits_from(others, from, len), len);
-        return;
+    fill_word(words, place, others, from);
+    let count = (place + len).div_ceil(WORD_BITS) - words.len();
+    if count > 0 {
+        let head = (WORD_BITS - place % WORD_BITS) % WORD_BITS;
+        append_words(words, others, from + head, count);
     }
-    let head = WORD_BITS - place % WORD_BITS;
-    append_word(words, place, bits_from(others, from, head), head);
-    let (whole, tail) = ((len - head) / WORD_BITS, (len - head) % WORD_BITS);
-    append_words(words, others, from + head, whole);
-    let done = len - tail;
-    append_word(
-        words,
-        place + done,
-        bits_from(others, from + done, tail),
-        tail,
-    );
+    clear_behind(words, place + len);
 }
 
 /// Puts a bit so many times behind the first `place` bits.

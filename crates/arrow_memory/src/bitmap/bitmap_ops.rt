@@ -7,18 +7,10 @@ ghost use Rattle.arrow_memory.specs.Bits.{paired, both_bits, either_bits};
 ghost use Rattle.arrow_memory.specs.Words.{is_set, Reads};
 
 use crate::bitmap::Bitmap;
-use crate::words::{WORD_BITS, across, word_from};
+use crate::words::WORD_BITS;
+use crate::words::logic::{Logic, combine};
 use arrow_types::error::Error;
 use std::alloc::Global;
-
-/// What two bits give.
-pub(crate) trait Logic {
-    ghost bits: { Bool → Bool → Bool };
-
-    /// What each bit of a word gives with the other's.
-    fn of(left: u64, right: u64) -> u64
-        ensures { (k : ℕ) → (bit_at result k == 1) ≡ bits (bit_at left k == 1) (bit_at right k == 1) };
-}
 
 /// Whether both are set.
 pub(crate) struct And;
@@ -108,26 +100,6 @@ impl Bitmap {
         self.append_to(&mut words, 0, 0, len);
         Ok(words)
     }
-}
-
-/// Puts what the bits of words give with the others', from bit `from` of those on, in their place.
-fn combine<L: Logic>(words: &mut [u64], others: &[u64], from: usize)
-    requires part { from + 64 * length words.old < 64 * length others.now + 64 }
-    requires fits { from + 64 * length words.old < 2 ^ 64 + 64 }
-    ensures long { length words.new ≡ length words.old }
-    ensures each { (i : ℕ) → i < 64 * length words.old → is_set words.new i ≡ L.bits (is_set words.old i) (is_set others.now (from + i)) }
-{
-    let Some(last) = words.len().checked_sub(1) else {
-        return;
-    };
-    let (first, shift) = (from / WORD_BITS, from % WORD_BITS);
-    for j in 0..last {
-        words[j] = L::of(
-            words[j],
-            across(others[first + j], others[first + j + 1], shift),
-        );
-    }
-    words[last] = L::of(words[last], word_from(others, from + WORD_BITS * last));
 }
 
 /// Turns each bit of words.

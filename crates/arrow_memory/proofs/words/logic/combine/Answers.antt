@@ -3,7 +3,7 @@ use Rattle.std.proofs.lemmas.List.{length-set}
 use Rattle.arrow_memory.specs.Words.{is_set, bits_in, word_of}
 use Rattle.arrow_memory.proofs.LogicLemmas.{GivesUpTo, combines_more}
 use Rattle.arrow_memory.proofs.WordLemmas.{word_of-across}
-use Rattle.arrow_memory.proofs.bitmap.bitmap_ops.combine.Goals as goal
+use Rattle.arrow_memory.proofs.words.logic.combine.Goals as goal
 
 pub loop-j-preserved : goal.loop-j-preserved
 loop-j-preserved g c =
