@@ -2,6 +2,8 @@
 use Rattle.std.specs.Prelude.{ℕ, List, [], map}
 use Rattle.arrow_types.specs.declared.datatypes.UnionMode.{UnionMode}
 use Rattle.arrow_types.specs.declared.datatypes.UnionMode.TheVariants.{Sparse}
+use Rattle.arrow_types.specs.declared.datatypes.physical_type.PhysicalType.{PhysicalType}
+use Rattle.arrow_types.specs.declared.datatypes.physical_type.PhysicalType.TheVariants as physical
 use Rattle.arrow_types.specs.ArrowType.{ArrowType, list, struct, union, extension, fixed_size, type_in, from_fields}
 
 -- the type of the items of a list or a map
@@ -28,3 +30,15 @@ abbrev pub mode_in : ArrowType → UnionMode
 mode_in (union mode ids fs) = mode
 mode_in (extension name metadata t) = mode_in t
 mode_in _ = Sparse
+
+-- the physical type of arrays without children
+abbrev pub IsFlatType : PhysicalType → Type 0
+IsFlatType physical.Null = Unit {0}
+IsFlatType physical.Boolean = Unit {0}
+IsFlatType (physical.Primitive element) = Unit {0}
+IsFlatType physical.Utf8 = Unit {0}
+IsFlatType physical.LargeUtf8 = Unit {0}
+IsFlatType physical.Binary = Unit {0}
+IsFlatType physical.LargeBinary = Unit {0}
+IsFlatType physical.FixedSizeBinary = Unit {0}
+IsFlatType _ = ⊥

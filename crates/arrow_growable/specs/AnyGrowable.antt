@@ -1,6 +1,4 @@
 -- An array of any type under construction, as contracts see it.
-use Rattle.arrow_types.specs.declared.datatypes.physical_type.PhysicalType.{PhysicalType}
-use Rattle.arrow_types.specs.declared.datatypes.physical_type.PhysicalType.TheVariants as physical
 use Rattle.arrow_flat_growable.specs.Grown.{Grown}
 use Rattle.arrow_growable.specs.declared.growable.any.AnyGrowable.{AnyGrowable}
 use Rattle.arrow_growable.specs.declared.growable.any.AnyGrowable.TheVariants.{Null, Boolean, Primitive, Utf8, LargeUtf8, Binary, LargeBinary, FixedSizeBinary}
@@ -30,15 +28,3 @@ grown_of (LargeUtf8 g) = g
 grown_of (Binary g) = g
 grown_of (LargeBinary g) = g
 grown_of (FixedSizeBinary g) = g
-
--- the physical type of arrays without children
-abbrev pub IsFlatType : PhysicalType → Type 0
-IsFlatType physical.Null = Unit {0}
-IsFlatType physical.Boolean = Unit {0}
-IsFlatType (physical.Primitive element) = Unit {0}
-IsFlatType physical.Utf8 = Unit {0}
-IsFlatType physical.LargeUtf8 = Unit {0}
-IsFlatType physical.Binary = Unit {0}
-IsFlatType physical.LargeBinary = Unit {0}
-IsFlatType physical.FixedSizeBinary = Unit {0}
-IsFlatType _ = ⊥

@@ -11,7 +11,7 @@ use Rattle.arrow_types.specs.Slot.{Slot}
 use Rattle.arrow_types.proofs.RowsLemmas.{drop_at_read, take_at_read}
 use Rattle.arrow_types.proofs.SelectLemmas.{joined-append}
 use Rattle.arrow_arrays.specs.Layout.{Layout, type_of_layout}
-use Rattle.arrow_growable.specs.AnyGrowable.{IsFlatType}
+use Rattle.arrow_arrays.specs.TypeParts.{IsFlatType}
 use Rattle.arrow_flat_growable.specs.Grown.{AreOfOneType, first_type}
 
 pub slice_get-map_read : {A B : Type 0} (f : A → B) (xs : List A) (i : ℕ) (x : A) → i < length xs → x ≡ get_or xs i x → slice_get (map f xs) i ≡ Some (f x)

@@ -9,7 +9,7 @@ use Rattle.arrow_arrays.specs.Crowded.{CrowdedRow}
 use Rattle.arrow_arrays.specs.Layout.{Layout}
 use Rattle.arrow_arrays.specs.declared.array.any.AnyArray.{AnyArray}
 use Rattle.arrow_arrays.specs.declared.array.any.AnyArray.TheVariants.{Null, Boolean, Primitive, Utf8, LargeUtf8, Binary, LargeBinary, FixedSizeBinary, List as ListOf, FixedSizeList, Struct, Union, Map, Dictionary}
-use Rattle.arrow_growable.specs.AnyGrowable.{IsFlatType}
+use Rattle.arrow_arrays.specs.TypeParts.{IsFlatType}
 use Rattle.arrow_flat_growable.specs.Dense.{HoldsDense}
 use Rattle.arrow_select.specs.Arrays.{IsFlat}
 

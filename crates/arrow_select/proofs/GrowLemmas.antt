@@ -12,7 +12,7 @@ use Rattle.arrow_arrays.specs.Any.{kind_in, kind_of, layout_of, any_array_rows, 
 use Rattle.arrow_arrays.specs.Crowded.{CrowdedRow}
 use Rattle.arrow_arrays.specs.Layout.{Layout, rows}
 use Rattle.arrow_arrays.specs.declared.array.any.AnyArray.{AnyArray}
-use Rattle.arrow_growable.specs.AnyGrowable.{IsFlatType}
+use Rattle.arrow_arrays.specs.TypeParts.{IsFlatType}
 use Rattle.arrow_flat_growable.specs.Grown.{Grown, FitsItself, FitsWith, NamesCrowded, appended, bound_to, first_type, named_rows, null_rows_of, source_at}
 use Rattle.arrow_select.specs.Arrays.{IsFlat}
 use Rattle.arrow_select.specs.Growing.{HasAppended}

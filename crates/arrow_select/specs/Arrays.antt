@@ -6,7 +6,7 @@ use Rattle.arrow_types.specs.Physical.{physical_type_of}
 use Rattle.arrow_types.specs.Slot.{Slot}
 use Rattle.arrow_arrays.specs.Any.{any_array_type, any_array_rows}
 use Rattle.arrow_arrays.specs.declared.array.any.AnyArray.{AnyArray}
-use Rattle.arrow_growable.specs.AnyGrowable.{IsFlatType}
+use Rattle.arrow_arrays.specs.TypeParts.{IsFlatType}
 
 -- the types and the rows of borrowed arrays
 abbrev pub types_in : List (Bor AnyArray) → List ArrowType

@@ -33,7 +33,6 @@ use std::alloc::Global;
 /// `OutOfMemory` where memory is refused.
 ///
 /// Source: arrow2's `new_empty_array`.
-#[cycle(new)]
 pub fn new_empty_array(alloc: Global, data_type: DataType) -> Result<AnyArray, Error>
     requires carried { IsCarried (type_of data_type) }
     ensures ok_type { IfOk result (λ array. any_array_type array ≡ type_of data_type) }
@@ -56,7 +55,6 @@ pub fn new_empty_array(alloc: Global, data_type: DataType) -> Result<AnyArray, E
 /// a `usize`: never where so many rows fit the data type; `OutOfMemory` where memory is refused.
 ///
 /// Source: arrow2's `new_null_array`.
-#[cycle(new)]
 pub fn new_null_array(alloc: Global, data_type: DataType, length: usize) -> Result<AnyArray, Error>
     requires carried { IsCarried (type_of data_type) }
     ensures ok_type { IfOk result (λ array. any_array_type array ≡ type_of data_type) }
@@ -64,21 +62,18 @@ pub fn new_null_array(alloc: Global, data_type: DataType, length: usize) -> Resu
     ensures err { IfErr result IsGrowthError }
     ensures overflow { result ≡ Err Error.Overflow → Fits (type_of data_type) (replicate length (null_slot (type_of data_type))) → ⊥ }
 {
+    null_rows(alloc, data_type, length)
+}
+
+/// The array that [`new_null_array`] makes.
+#[cycle(new)]
+fn null_rows(alloc: Global, data_type: DataType, length: usize) -> Result<AnyArray, Error>
+    requires { IsCarried (type_of data_type) }
+    ensures ok { IfOk result (IsNulls (type_of data_type) length) }
+    ensures err { IfErr result IsGrowthError }
+    ensures overflow { result ≡ Err Error.Overflow → FitNulls length (type_of data_type) → ⊥ }
+{
     match data_type.to_physical_type() {
-        PhysicalType::Null => Ok(flat::nulls(data_type, length)),
-        PhysicalType::Boolean => flat::null_booleans(alloc, data_type, length),
-        PhysicalType::Primitive(element) => {
-            flat::null_primitives(alloc, data_type, element, length)
-        }
-        PhysicalType::Utf8 => Ok(AnyArray::Utf8(flat::null_bytes(alloc, data_type, length)?)),
-        PhysicalType::LargeUtf8 => {
-            Ok(AnyArray::LargeUtf8(flat::null_bytes(alloc, data_type, length)?))
-        }
-        PhysicalType::Binary => Ok(AnyArray::Binary(flat::null_bytes(alloc, data_type, length)?)),
-        PhysicalType::LargeBinary => {
-            Ok(AnyArray::LargeBinary(flat::null_bytes(alloc, data_type, length)?))
-        }
-        PhysicalType::FixedSizeBinary => flat::null_fixed_bytes(alloc, data_type, length),
         PhysicalType::List => {
             let offsets = AnyOffsetsBuffer::Small(flat::zero_offsets(alloc, length)?);
             null_lists(alloc, data_type, offsets, length)
@@ -92,6 +87,7 @@ pub fn new_null_array(alloc: Global, data_type: DataType, length: usize) -> Resu
         PhysicalType::Struct => null_structs(alloc, data_type, length),
         PhysicalType::Union => null_unions(alloc, data_type, length),
         PhysicalType::Dictionary(keys) => null_dictionaries(alloc, data_type, keys, length),
+        _ => flat::null_rows(alloc, data_type, length),
     }
 }
 
@@ -102,7 +98,7 @@ fn empty_child(alloc: Global, data_type: &DataType) -> Result<Box<AnyArray>, Err
     ensures ok { IfOk result (λ child. any_array_type child.value ≡ type_of data_type.now) }
     ensures err { IsOkUnless result Error.OutOfMemory }
 {
-    let child = new_empty_array(alloc, data_type.clone()?)?;
+    let child = null_rows(alloc, data_type.clone()?, 0)?;
     Ok(Box::new(alloc, child)?)
 }
 
@@ -146,7 +142,7 @@ fn null_fixed_lists(alloc: Global, data_type: DataType, length: usize) -> Result
         return Err(Error::Overflow);
     };
     let item_type = types::item_type(&data_type).clone()?;
-    let items = Box::new(alloc, new_null_array(alloc, item_type, count)?)?;
+    let items = Box::new(alloc, null_rows(alloc, item_type, count)?)?;
     nested::null_fixed_lists(alloc, data_type, items, length)
 }
 
@@ -237,7 +233,7 @@ fn push_columns(
     ensures overflow { result ≡ Err Error.Overflow → All (FitNulls count) (map (λ field. type_in (field_of field)) fields.now) → ⊥ }
 {
     for field in fields {
-        let column = new_null_array(alloc, field.data_type().clone()?, count)?;
+        let column = null_rows(alloc, field.data_type().clone()?, count)?;
         columns.push(column)?;
     }
     Ok(())

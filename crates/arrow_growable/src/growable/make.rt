@@ -5,7 +5,8 @@ ghost use Rattle.arrow_types.specs.declared.error.Error.{Error};
 ghost use Rattle.arrow_types.specs.declared.datatypes.physical_type.PhysicalType.TheVariants as physical;
 ghost use Rattle.arrow_types.specs.Physical.{physical_type_of};
 ghost use Rattle.arrow_arrays.specs.Any.{kind_in, kind_of, layout_of, null_kind};
-ghost use Rattle.arrow_growable.specs.AnyGrowable.{IsFlatType, grown_of, primitive_grown_of};
+ghost use Rattle.arrow_growable.specs.AnyGrowable.{grown_of, primitive_grown_of};
+ghost use Rattle.arrow_arrays.specs.TypeParts.{IsFlatType};
 ghost use Rattle.arrow_flat_growable.specs.Grown.{AreOfOneType, bound_to, first_type};
 ghost use Rattle.arrow_flat_growable.specs.Nulls.{null_layout};
 

@@ -2,6 +2,8 @@
 
 ghost use Rattle.std.specs.Prelude.{◌≡◌, ◌+◌, Err, [], IfOk, IfErr, IsOkUnless, map, replicate};
 ghost use Rattle.arrow_types.specs.Slot.{Null};
+ghost use Rattle.arrow_types.specs.Carried.{IsCarried};
+ghost use Rattle.arrow_types.specs.Physical.{physical_type_of};
 ghost use Rattle.arrow_types.specs.TypeOf.{type_of};
 ghost use Rattle.arrow_types.specs.declared.datatypes.physical_type.PhysicalType.TheVariants as physical;
 ghost use Rattle.arrow_types.specs.declared.error.Error.{Error};
@@ -11,6 +13,7 @@ ghost use Rattle.arrow_flat.specs.Faults.{IsCarriedAs};
 ghost use Rattle.arrow_flat.specs.FixedRows.{fixed_size_in};
 ghost use Rattle.arrow_flat.specs.Parts.{rows_by};
 ghost use Rattle.arrow_arrays.specs.AnyKeys.{key_rows, key_type_of};
+ghost use Rattle.arrow_arrays.specs.TypeParts.{IsFlatType};
 ghost use Rattle.arrow_arrays.specs.Nulls.{IsNulls, FitNulls, nulls_of};
 
 use crate::array::{AnyArray, AnyKeys};
@@ -21,7 +24,7 @@ use arrow_flat::array::{
 use arrow_memory::bitmap::Bitmap;
 use arrow_memory::buffer::Buffer;
 use arrow_memory::offset::{Offsets, OffsetsBuffer};
-use arrow_types::datatypes::{DataType, IntegerType};
+use arrow_types::datatypes::{DataType, IntegerType, PhysicalType};
 use arrow_types::error::Error;
 use arrow_types::types::{NativeType, Offset, PrimitiveType};
 use std::alloc::Global;
@@ -49,8 +52,35 @@ pub(super) fn zero_offsets<O: Offset>(
     offsets.into_buffer()
 }
 
+/// Null rows of a data type without children.
+pub(super) fn null_rows(
+    alloc: Global,
+    data_type: DataType,
+    length: usize,
+) -> Result<AnyArray, Error>
+    requires carried { IsCarried (type_of data_type) }
+    requires flat { IsFlatType (physical_type_of (type_of data_type)) }
+    ensures ok { IfOk result (IsNulls (type_of data_type) length) }
+    ensures err { IfErr result IsGrowthError }
+    ensures overflow { result ≡ Err Error.Overflow → FitNulls length (type_of data_type) → ⊥ }
+{
+    match data_type.to_physical_type() {
+        PhysicalType::Null => Ok(nulls(data_type, length)),
+        PhysicalType::Boolean => null_booleans(alloc, data_type, length),
+        PhysicalType::Primitive(element) => null_primitives(alloc, data_type, element, length),
+        PhysicalType::Utf8 => Ok(AnyArray::Utf8(null_bytes(alloc, data_type, length)?)),
+        PhysicalType::LargeUtf8 => Ok(AnyArray::LargeUtf8(null_bytes(alloc, data_type, length)?)),
+        PhysicalType::Binary => Ok(AnyArray::Binary(null_bytes(alloc, data_type, length)?)),
+        PhysicalType::LargeBinary => {
+            Ok(AnyArray::LargeBinary(null_bytes(alloc, data_type, length)?))
+        }
+        PhysicalType::FixedSizeBinary => null_fixed_bytes(alloc, data_type, length),
+        _ => unreachable!(),
+    }
+}
+
 /// Nulls of the null type.
-pub(super) fn nulls(data_type: DataType, length: usize) -> AnyArray
+fn nulls(data_type: DataType, length: usize) -> AnyArray
     requires { IsCarriedAs physical.Null (type_of data_type) }
     ensures { IsNulls (type_of data_type) length result }
 {
@@ -61,11 +91,7 @@ pub(super) fn nulls(data_type: DataType, length: usize) -> AnyArray
 }
 
 /// Null truth values.
-pub(super) fn null_booleans(
-    alloc: Global,
-    data_type: DataType,
-    length: usize,
-) -> Result<AnyArray, Error>
+fn null_booleans(alloc: Global, data_type: DataType, length: usize) -> Result<AnyArray, Error>
     requires { IsCarriedAs physical.Boolean (type_of data_type) }
     ensures ok { IfOk result (IsNulls (type_of data_type) length) }
     ensures err { IsOkUnless result Error.OutOfMemory }
@@ -98,7 +124,7 @@ fn null_values<T: NativeType>(
 }
 
 /// Null texts or bytes, under offsets of either width.
-pub(super) fn null_bytes<O: Offset, K: ByteKind>(
+fn null_bytes<O: Offset, K: ByteKind>(
     alloc: Global,
     data_type: DataType,
     length: usize,
@@ -135,11 +161,7 @@ fn row_size(data_type: &DataType) -> usize
 /// # Errors
 /// `Overflow` where the bytes of all rows are not counted by a `usize`, otherwise `OutOfMemory` where
 /// memory is refused.
-pub(super) fn null_fixed_bytes(
-    alloc: Global,
-    data_type: DataType,
-    length: usize,
-) -> Result<AnyArray, Error>
+fn null_fixed_bytes(alloc: Global, data_type: DataType, length: usize) -> Result<AnyArray, Error>
     requires { IsCarriedAs physical.FixedSizeBinary (type_of data_type) }
     ensures ok { IfOk result (IsNulls (type_of data_type) length) }
     ensures err { IfErr result IsGrowthError }
@@ -157,7 +179,7 @@ pub(super) fn null_fixed_bytes(
 }
 
 /// Null numbers or intervals.
-pub(super) fn null_primitives(
+fn null_primitives(
     alloc: Global,
     data_type: DataType,
     element: PrimitiveType,

@@ -11,30 +11,10 @@ use Rattle.arrow_arrays.proofs.NullPartsLemmas.{lists_shape}
 use Rattle.arrow_arrays.proofs.ShapeLemmas.{shape_of, list_child, dictionary_child, struct_columns, union_columns}
 use Rattle.arrow_arrays.proofs.array.new.+new.Goals as goal
 
-pub empty_child-new_empty_array-requires : goal.empty_child-new_empty_array-requires
-empty_child-new_empty_array-requires t c =
+pub empty_child-null_rows-requires : goal.empty_child-null_rows-requires
+empty_child-null_rows-requires t c =
     let same = c.in_ok-clone.ensures.cases in
     (omega (arith, c.decreases, ap type_depth same), subst IsCarried (sym same) c.requires)
-
-pub new_empty_array-returns-clause-err : goal.new_empty_array-returns-clause-err
-new_empty_array-returns-clause-err t c =
-    only_memory c.new_null_array.result c.new_null_array.ensures.err (λ is. c.new_null_array.ensures.overflow is (Fits-nil (type_of c.args.data_type)))
-
-pub new_null_array-returns-in_ok-null_bytes-in-Utf8-clause-ok_rows : goal.new_null_array-returns-in_ok-null_bytes-in-Utf8-clause-ok_rows
-new_null_array-returns-in_ok-null_bytes-in-Utf8-clause-ok_rows t c =
-    c.in_ok-null_bytes-in-Utf8.ensures.rows ∙ slots_null (type_of c.args.data_type) c.args.length (ap shape_of (sym c.to_physical_type.ensures ∙ c.in-Utf8.is))
-
-pub new_null_array-returns-in_ok-null_bytes-in-LargeUtf8-clause-ok_rows : goal.new_null_array-returns-in_ok-null_bytes-in-LargeUtf8-clause-ok_rows
-new_null_array-returns-in_ok-null_bytes-in-LargeUtf8-clause-ok_rows t c =
-    c.in_ok-null_bytes-in-LargeUtf8.ensures.rows ∙ slots_null (type_of c.args.data_type) c.args.length (ap shape_of (sym c.to_physical_type.ensures ∙ c.in-LargeUtf8.is))
-
-pub new_null_array-returns-in_ok-null_bytes-in-Binary-clause-ok_rows : goal.new_null_array-returns-in_ok-null_bytes-in-Binary-clause-ok_rows
-new_null_array-returns-in_ok-null_bytes-in-Binary-clause-ok_rows t c =
-    c.in_ok-null_bytes-in-Binary.ensures.rows ∙ slots_null (type_of c.args.data_type) c.args.length (ap shape_of (sym c.to_physical_type.ensures ∙ c.in-Binary.is))
-
-pub new_null_array-returns-in_ok-null_bytes-in-LargeBinary-clause-ok_rows : goal.new_null_array-returns-in_ok-null_bytes-in-LargeBinary-clause-ok_rows
-new_null_array-returns-in_ok-null_bytes-in-LargeBinary-clause-ok_rows t c =
-    c.in_ok-null_bytes-in-LargeBinary.ensures.rows ∙ slots_null (type_of c.args.data_type) c.args.length (ap shape_of (sym c.to_physical_type.ensures ∙ c.in-LargeBinary.is))
 
 pub null_columns-push_columns-requires : goal.null_columns-push_columns-requires
 null_columns-push_columns-requires t c =
@@ -56,20 +36,20 @@ pub null_fixed_lists-returns-in_default-clause-overflow : goal.null_fixed_lists-
 null_fixed_lists-returns-in_default-clause-overflow t c =
     λ is fits. c.in_default.ensures (rw c.list_size.ensures (items_fit (type_of c.args.data_type) c.args.length c.requires.1 fits).0)
 
-pub null_fixed_lists-new_null_array-requires : goal.null_fixed_lists-new_null_array-requires
-null_fixed_lists-new_null_array-requires t c =
+pub null_fixed_lists-null_rows-requires : goal.null_fixed_lists-null_rows-requires
+null_fixed_lists-null_rows-requires t c =
     let same = c.in_ok-item_type.ensures.cases ∙ c.item_type.ensures in
     let child = list_child (type_of c.args.data_type) c.requires.0 (ap shape_of c.requires.1) in
     (omega (arith, c.decreases, child.1, ap type_depth same), subst IsCarried (sym same) child.0)
 
-pub null_fixed_lists-returns-in_err-new_null_array-clause-overflow : goal.null_fixed_lists-returns-in_err-new_null_array-clause-overflow
-null_fixed_lists-returns-in_err-new_null_array-clause-overflow t c =
+pub null_fixed_lists-returns-in_err-null_rows-clause-overflow : goal.null_fixed_lists-returns-in_err-null_rows-clause-overflow
+null_fixed_lists-returns-in_err-null_rows-clause-overflow t c =
     λ is fits.
-    let gives = rw is at c.from_residual-in_err-new_null_array.ensures.1 in
+    let gives = rw is at c.from_residual-in_err-null_rows.ensures.1 in
     let same = c.in_ok-item_type.ensures.cases ∙ c.item_type.ensures in
     let count = c.in-Some.ensures.1 ∙ ap (λ s. c.args.length * s) c.list_size.ensures in
     let items = (items_fit (type_of c.args.data_type) c.args.length c.requires.1 fits).1 in
-    c.in_err-new_null_array.ensures.overflow (cc) (rw (same, count) items)
+    c.in_err-null_rows.ensures.overflow (cc) (rw (same, count) items)
 
 pub null_lists-empty_child-requires : goal.null_lists-empty_child-requires
 null_lists-empty_child-requires t c =
@@ -116,8 +96,8 @@ null_unions-returns-in_err-fields-in-Dense-clause-overflow t c =
     let gives = rw is at c.from_residual-in_err-fields-in-Dense.ensures.1 in
     c.in_err-fields-in-Dense.ensures.overflow (cc) (rw c.min.ensures (dense_fits (type_of c.args.data_type) c.args.length (ap shape_of c.requires.1) (sym c.mode.ensures ∙ c.in-Dense.is) fits))
 
-pub push_columns-new_null_array-requires : goal.push_columns-new_null_array-requires
-push_columns-new_null_array-requires t c =
+pub push_columns-null_rows-requires : goal.push_columns-null_rows-requires
+push_columns-null_rows-requires t c =
     let i = c.loop-field.field-index in
     let fs = c.args.fields.now in
     let f = c.field-item.result in

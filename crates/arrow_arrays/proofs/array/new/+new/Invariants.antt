@@ -12,11 +12,8 @@ use Rattle.arrow_arrays.proofs.array.new.+new.Given as goal
 abbrev pub decreases-empty_child : goal.decreases-empty_child
 decreases-empty_child l = 8 * type_depth (type_of l.data_type.now) + 7
 
-abbrev pub decreases-new_empty_array : goal.decreases-new_empty_array
-decreases-new_empty_array l = 8 * type_depth (type_of l.data_type) + 6
-
-abbrev pub decreases-new_null_array : goal.decreases-new_null_array
-decreases-new_null_array l = 8 * type_depth (type_of l.data_type) + 5
+abbrev pub decreases-null_rows : goal.decreases-null_rows
+decreases-null_rows l = 8 * type_depth (type_of l.data_type) + 5
 
 abbrev pub decreases-null_lists : goal.decreases-null_lists
 decreases-null_lists l = 8 * type_depth (type_of l.data_type) + 4
