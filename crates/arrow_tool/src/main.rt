@@ -1,17 +1,9 @@
-//! The program `kernels`: reads lines from standard input, runs the kernel that each names, and
-//! writes one line for each.
+//! The program `kernels`: answers the lines of standard input on standard output.
 #![tactic(auto)]
 
+use arrow_engine::engine;
+use arrow_engine::stream::Guarded;
 use std::process::ExitCode;
-use stream::Guarded;
-
-mod answer;
-mod commands;
-pub mod engine;
-mod line;
-mod literals;
-pub mod stream;
-mod text;
 
 fn main(rt: HostRuntime) -> ExitCode {
     let mut reader = Guarded::new(rt.stdin());
