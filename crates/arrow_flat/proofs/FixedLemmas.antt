@@ -9,9 +9,10 @@ use Rattle.arrow_types.specs.Carried.{IsCarried}
 use Rattle.arrow_types.specs.Physical.{physical_type_of}
 use Rattle.arrow_types.specs.declared.datatypes.physical_type.PhysicalType.TheVariants as physical
 use Rattle.arrow_types.specs.Slot.{Bytes}
+use Rattle.arrow_memory.specs.Sliced.{sliced}
 use Rattle.arrow_memory.proofs.SlicedLemmas.{length-sliced}
 use Rattle.arrow_flat.specs.FixedRows.{FixedParts, AreFixedRows, fixed_row_bytes, fixed_slots, fixed_slice, fixed_size_in}
-use Rattle.arrow_flat.specs.PieceLaws.{length-chunks}
+use Rattle.arrow_flat.specs.PieceLaws.{length-chunks, slots_of_chunks}
 use Rattle.arrow_flat.specs.Pieces.{chunks}
 use Rattle.arrow_flat.proofs.StoredLemmas.{map-same}
 
@@ -60,7 +61,7 @@ same_rows zero size other_size xs whole other_whole = refl
 same_rows (suc count) size other_size xs whole other_whole =
     ap (λ s. chunks (suc count) s xs) (eq_of_mul-eq-mul_left (suc count) (omega arith) size other_size (whole ∙ sym other_whole))
 
-pub fixed_rows_decide : (p q : FixedParts) (r : Bool) → AreFixedRows p → AreFixedRows q → p.count ≡ q.count → Decides r (p.bytes ≡ q.bytes) → Decides r (fixed_slots p ≡ fixed_slots q)
+fixed_rows_decide : (p q : FixedParts) (r : Bool) → AreFixedRows p → AreFixedRows q → p.count ≡ q.count → Decides r (p.bytes ≡ q.bytes) → Decides r (fixed_slots p ≡ fixed_slots q)
 fixed_rows_decide p q r held other_held counts told =
     let one : (x y : List ℕ) → Bytes x ≡ Bytes y → x ≡ y = λ x y same. cc in (
       λ e. ap (map Bytes) (
@@ -72,6 +73,14 @@ fixed_rows_decide p q r held other_held counts told =
           let rows = map-same Bytes one (fixed_row_bytes p) (fixed_row_bytes q) same in
           told.1 (sym (glued-chunks p.count p.size p.bytes held.whole) ∙ (ap glued rows ∙ glued-chunks q.count q.size q.bytes other_held.whole)),
     )
+
+-- and parts of them are where the bytes of these are
+pub fixed_parts_decide : (p q : FixedParts) (a b len : ℕ) (r : Bool) → AreFixedRows p → AreFixedRows q → a + len ≤ p.count → b + len ≤ q.count → Decides r ((fixed_slice p a len).bytes ≡ (fixed_slice q b len).bytes) → Decides r (sliced (fixed_slots p) a len ≡ sliced (fixed_slots q) b len)
+fixed_parts_decide p q a b len r held other_held here there told =
+    let left = slots_of_chunks Bytes p.count p.size p.bytes a len (omega (arith, here, length-fixed_slots p)) in
+    let right = slots_of_chunks Bytes q.count q.size q.bytes b len (omega (arith, there, length-fixed_slots q)) in
+    let parts = fixed_rows_decide (fixed_slice p a len) (fixed_slice q b len) r (part_of_fixed_rows p a len held here) (part_of_fixed_rows q b len other_held there) refl told in
+    (λ e. sym left ∙ (parts.0 e ∙ right), λ same. parts.1 (left ∙ (same ∙ sym right)))
 
 -- a carried type of rows of a fixed size has a byte a row at least
 pub some_bytes : (t : ArrowType) → IsCarried t → physical_type_of t ≡ physical.FixedSizeBinary → 0 < fixed_size_in t

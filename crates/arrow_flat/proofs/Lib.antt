@@ -2,5 +2,6 @@ pub mod FixedLemmas
 pub mod LengthLemmas
 pub mod PartsLemmas
 pub mod PieceLemmas
+pub mod RunLemmas
 pub mod ScalarLemmas
 pub mod StoredLemmas

@@ -115,23 +115,6 @@ pub marks-masked : (v : Option (List Bool)) (xs : List Slot) → All IsValue xs 
 marks-masked None xs values fits = values
 marks-masked (Some bits) xs values fits = marks-mask bits xs values fits
 
-mask-all : (bits : List Bool) (xs : List Slot) → length bits ≡ length xs → count_by is_null (mask bits xs) ≡ 0 → mask bits xs ≡ xs
-mask-all [] [] fits none = refl
-mask-all [] (x ∷ xs) fits none = absurd (omega (arith, fits))
-mask-all (b ∷ bits) [] fits none = absurd (omega (arith, fits))
-mask-all (true ∷ bits) (x ∷ xs) fits none =
-    ap (λ ys. x ∷ ys) (mask-all bits xs (omega (arith, fits)) (omega (arith, none, sum_by-cons (λ s. cond (is_null s) 1 0) x (mask bits xs))))
-mask-all (false ∷ bits) (x ∷ xs) fits none =
-    absurd (omega (arith, none, sum_by-cons (λ s. cond (is_null s) 1 0) Null (mask bits xs)))
-
--- where no row is null the rows are what is stored
-pub masked-all : (v : Option (List Bool)) (xs : List Slot) → FitsRows v (length xs) → count_by is_null (masked v xs) ≡ 0 → masked v xs ≡ xs
-masked-all None xs fits none = refl
-masked-all (Some bits) xs fits none = mask-all bits xs fits none
-
-value_not_null : (s : Slot) → IsValue s → s ≡ Null → ⊥
-value_not_null s value is = cc (ap is_null is)
-
 -- one row
 
 mask_at : (bits : List Bool) (xs : List Slot) (i : ℕ) → length bits ≡ length xs → i < length xs → get_or (mask bits xs) i Null ≡ (if get_or bits i true then get_or xs i Null else Null)
@@ -159,10 +142,6 @@ pub row_marked : {V : Type 0} {slots : V → List Slot} {are_of : V → ArrowTyp
 row_marked {V} {slots} p i array values within =
     marked_row p.validity (rows_by slots p) i (marks-masked p.validity (slots p.values) values array.fits) (omega (arith, within, length-masked p.validity (slots p.values) array.fits))
 
--- what is stored is not null
-pub stored_not_null : (xs : List Slot) (i : ℕ) → All IsValue xs → i < length xs → get_or xs i Null ≡ Null → ⊥
-stored_not_null xs i values within is = value_not_null (get_or xs i Null) (values i Null within) is
-
 -- a place among the rows is one among what is stored, where the parts are seen so
 pub within_stored : {V : Type 0} {slots : V → List Slot} {are_of : V → ArrowType → Type 0} (p q : Parts V) (k : ℕ) → IsArray slots are_of p → p ≡ q → k ≤ length (rows_by slots q) → k ≤ length (slots p.values)
 within_stored {V} {slots} p q k array seen within =
@@ -171,20 +150,6 @@ within_stored {V} {slots} p q k array seen within =
 
 pub length-rows_by : {V : Type 0} {slots : V → List Slot} {are_of : V → ArrowType → Type 0} (p : Parts V) → IsArray slots are_of p → length (rows_by slots p) ≡ length (slots p.values)
 length-rows_by {V} {slots} p array = length-masked p.validity (slots p.values) array.fits
-
--- without nulls the rows are what is stored
-pub rows_without_nulls : {V : Type 0} {slots : V → List Slot} {are_of : V → ArrowType → Type 0} (p : Parts V) → IsArray slots are_of p → count_by is_null (rows_by slots p) ≡ 0 → rows_by slots p ≡ slots p.values
-rows_without_nulls {V} {slots} p array none = masked-all p.validity (slots p.values) array.fits none
-
--- rows of which each is the same are the same
-pub all_same : (xs ys : List Slot) (n : ℕ) → length xs ≡ n → length ys ≡ n → take n xs ≡ take n ys → xs ≡ ys
-all_same xs ys n left right same = sym (take_all n xs (omega (arith, left))) ∙ (same ∙ take_all n ys (omega (arith, right)))
-
--- all rows are a part from the first on
-pub sliced_all : {A : Type 0} (xs : List A) (start len : ℕ) → start + len ≤ length xs → len ≡ length xs → sliced xs start len ≡ xs
-sliced_all xs start len within whole =
-    let first : start ≡ 0 = omega (arith, within, whole) in
-    rw first (take_all len xs (omega (arith, whole)))
 
 -- two parts with one more row of each
 pub sliced_next : {A : Type 0} (xs ys : List A) (start other_start i : ℕ) (d : A) → start + i < length xs → other_start + i < length ys → sliced xs start i ≡ sliced ys other_start i → get_or xs (start + i) d ≡ get_or ys (other_start + i) d → sliced xs start (i + 1) ≡ sliced ys other_start (i + 1)

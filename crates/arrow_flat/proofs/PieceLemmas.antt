@@ -1,5 +1,5 @@
 -- Rows that lie one behind the other, one at a time.
-use Rattle.std.proofs.Common.{◌≡◌, ℕ, zero, suc, ◌+◌, ◌-◌, ◌<◌, ◌≤◌, pos, Bool, Some, List, [], ◌∷◌, length, map, get_or, drop, slice_index, refl, ap, subst, ◌∙◌, arith}
+use Rattle.std.proofs.Common.{◌≡◌, ℕ, zero, suc, ◌+◌, ◌-◌, ◌<◌, ◌≤◌, pos, Bool, Some, List, [], ◌∷◌, length, map, get_or, drop, slice_index, refl, ap, sym, subst, ◌∙◌, arith}
 use Rattle.std.specs.Prelude.{slice_get, nat_eq}
 use Rattle.std.specs.Bool.{Decides}
 use Rattle.std.specs.Cmp.Lexicographic.{pointwise}
@@ -47,12 +47,16 @@ pub part_of_offsets : (os : List ℕ) (o n : ℕ) → IsOffsets os → o + n ≤
 part_of_offsets os o n held within some =
     rw (map_sliced pos os o n) (sliced_offsets (map pos os) o n held (omega (arith, within, length-map os pos)) some)
 
+-- a member of a part
+pub member_of_part : (xs : List ℕ) (o n i : ℕ) → i < n → slice_index (sliced xs o n) i ≡ slice_index xs (o + i)
+member_of_part xs o n i within = get_or-take n (drop o xs) i 0 within ∙ get_or-drop o xs i 0
+
 -- the last offset of a part is none behind the last
 pub last_of_part : (os : List ℕ) (o n : ℕ) → IsOffsets os → o + (n + 1) ≤ length os → last_of (sliced os o (n + 1)) ≤ last_of os
 last_of_part os o n held within =
     let long = length-sliced os o (n + 1) within in
     let last : length (sliced os o (n + 1)) - 1 ≡ n = omega (arith, long) in
-    let read : slice_index (sliced os o (n + 1)) n ≡ slice_index os (o + n) = get_or-take (n + 1) (drop o os) n 0 (omega arith) ∙ get_or-drop o os n 0 in
+    let read : slice_index (sliced os o (n + 1)) n ≡ slice_index os (o + n) = member_of_part os o (n + 1) n (omega arith) in
     let bound = at_most_last os (o + n) held (omega (arith, within)) in
     rw (last, read) bound
 
@@ -69,6 +73,12 @@ part_of_rows Allows p offset len held within =
 -- as many slots as rows
 pub length-byte_slots : (slot : List ℕ → Slot) (p : ByteParts) → length (byte_slots slot p) ≡ length p.offsets - 1
 length-byte_slots slot p = length-map (row_bytes p) slot ∙ length-pieces p.offsets p.bytes
+
+-- rows up to one begin at an offset, where the parts are seen so
+pub rows_before : (slot : List ℕ → Slot) (p q : ByteParts) (k : ℕ) → IsOffsets p.offsets → p ≡ q → k ≤ length (byte_slots slot q) → k < length p.offsets
+rows_before slot p q k held seen within =
+    let there = subst (λ r. k ≤ length (byte_slots slot r)) (sym seen) within in
+    omega (arith, there, length-byte_slots slot p, held.some, length-map p.offsets pos)
 
 -- the slot of a row that is read
 pub slot_of_row : {A : Type 0} (slot : A → Slot) (xs : List A) (i : ℕ) (x : A) → slice_get xs i ≡ Some x → get_or (map slot xs) i Null ≡ slot x

@@ -1,9 +1,11 @@
 -- What is stored, and the slots that hold it.
-use Rattle.std.proofs.Common.{◌≡◌, ◌↔◌, Bool, true, false, List, [], ◌∷◌, map, refl, ap, sym, ◌∙◌}
+use Rattle.std.proofs.Common.{◌≡◌, ◌↔◌, ℕ, Bool, true, false, List, [], ◌∷◌, map, refl, ap, sym, ◌∙◌}
 use Rattle.std.specs.Prelude.{IsTrue}
-use Rattle.std.specs.Bool.{Decides, beq}
+use Rattle.std.specs.Bool.{Decides}
 use Rattle.arrow_types.specs.Relation.{related, eq}
 use Rattle.arrow_types.specs.Slot.{Slot, Boolean}
+use Rattle.arrow_memory.specs.Sliced.{sliced}
+use Rattle.arrow_memory.proofs.OffsetLemmas.{map_sliced}
 
 -- lists are one where their images are, under a function that is one to one
 pub map-same : {A : Type 0} (f : A → Slot) → ((x y : A) → f x ≡ f y → x ≡ y) → (xs ys : List A) → map f xs ≡ map f ys → xs ≡ ys
@@ -17,8 +19,13 @@ map-same f one (x ∷ xs) (y ∷ ys) same =
     let one_rest = map-same f one xs ys rest in
     (λ i. one_first i ∷ one_rest i)
 
-pub map-decides : {A : Type 0} (f : A → Slot) → ((x y : A) → f x ≡ f y → x ≡ y) → (xs ys : List A) (r : Bool) → Decides r (xs ≡ ys) → Decides r (map f xs ≡ map f ys)
+map-decides : {A : Type 0} (f : A → Slot) → ((x y : A) → f x ≡ f y → x ≡ y) → (xs ys : List A) (r : Bool) → Decides r (xs ≡ ys) → Decides r (map f xs ≡ map f ys)
 map-decides f one xs ys r told = (λ e. ap (map f) (told.0 e), λ same. told.1 (map-same f one xs ys same))
+
+-- and so are parts of them
+pub sliced-decides : {A : Type 0} (f : A → Slot) → ((x y : A) → f x ≡ f y → x ≡ y) → (xs ys : List A) (a b n : ℕ) (r : Bool) → Decides r (sliced xs a n ≡ sliced ys b n) → Decides r (sliced (map f xs) a n ≡ sliced (map f ys) b n)
+sliced-decides f one xs ys a b n r told =
+    rw (← map_sliced f xs a n, ← map_sliced f ys b n) (map-decides f one (sliced xs a n) (sliced ys b n) r told)
 
 truth : {a b : Bool} → Boolean a ≡ Boolean b → a ≡ b
 truth same = cc
@@ -32,9 +39,3 @@ slots_same slot same answers decides x y is =
 
 pub truth_values_same : (x y : Bool) → Boolean x ≡ Boolean y → x ≡ y
 truth_values_same x y same = truth same
-
-pub booleans_decide : (x y : Bool) → Decides (beq x y) (x ≡ y)
-booleans_decide true true = (λ e. refl, λ e. refl)
-booleans_decide true false = (λ e. cc, λ e. cc)
-booleans_decide false true = (λ e. cc, λ e. cc)
-booleans_decide false false = (λ e. refl, λ e. refl)

@@ -1,5 +1,5 @@
 -- A flat array as contracts see it: its type, what is stored, and which rows are valid. Its rows follow.
-use Rattle.std.specs.Prelude.{◌≡◌, ◌<◌, ℕ, Bool, false, not, Option, Some, None, List, length, map, count_by, option_map, refl}
+use Rattle.std.specs.Prelude.{◌≡◌, ◌<◌, ℕ, Bool, true, false, not, Option, Some, None, List, length, map, replicate, count_by, option_map, refl}
 use Rattle.std.specs.Coded.{Coded, code_by, coded×, coded_list, coded_bool, coded_option}
 use Rattle.std.specs.List.{All}
 use Rattle.arrow_types.specs.ArrowType.{ArrowType}
@@ -31,6 +31,11 @@ FitsRows (Some validity) n = length validity ≡ n
 abbrev pub unset_in : Option (List Bool) → ℕ
 unset_in None = 0
 unset_in (Some validity) = count_by not validity
+
+-- which of `len` rows from one on are valid
+abbrev pub bits_by : Option (List Bool) → ℕ → ℕ → List Bool
+bits_by None start len = replicate len true
+bits_by (Some validity) start len = sliced validity start len
 
 -- the rows: what is stored where it is valid, and Null elsewhere
 abbrev pub rows_by : {V : Type 0} → (V → List Slot) → Parts V → List Slot

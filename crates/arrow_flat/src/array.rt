@@ -8,11 +8,11 @@ ghost use Rattle.arrow_types.specs.Carried.{IsCarried};
 ghost use Rattle.arrow_types.specs.Relation.{is_null};
 ghost use Rattle.arrow_types.specs.SameTree.{same_by, same_by-equivalence};
 ghost use Rattle.arrow_types.specs.Slot.{Slot, Null};
-ghost use Rattle.arrow_types.specs.Rows.{valid_at};
+ghost use Rattle.arrow_types.specs.Rows.{mask, valid_at};
 ghost use Rattle.arrow_types.specs.TypeOf.{type_of};
 ghost use Rattle.arrow_memory.specs.Sliced.{sliced};
 ghost use Rattle.arrow_flat.specs.Faults.{IsCarriedAs};
-ghost use Rattle.arrow_flat.specs.Parts.{Parts, FitsRows, IsValue, MarksNulls, rows_by, meaning_by, meaning_code, slice_by, with_bits};
+ghost use Rattle.arrow_flat.specs.Parts.{Parts, FitsRows, IsValue, bits_by, MarksNulls, rows_by, meaning_by, meaning_code, slice_by, with_bits};
 
 mod any_element;
 mod any_primitive;
@@ -62,18 +62,15 @@ pub trait Values: Clone + Drop {
         requires { offset + len ≤ length (slots self.old) }
         ensures { self.new ≡ slice self.old offset len };
 
-    /// Whether the same rows are stored.
-    fn equal(&self, other: &Self) -> bool
-        ensures { IsTrue result ↔ (slots self.now ≡ slots other.now) };
-
-    /// Whether the same is stored in row `i` as in row `j` of the other.
+    /// Whether the same is stored in `len` rows from row `start` on as in those of the other from row
+    /// `other_start` on.
     ///
     /// # Requires
-    /// `i` is below the count of rows, and `j` below that of the other.
-    fn equal_at(&self, i: usize, other: &Self, j: usize) -> bool
-        requires here { i < length (slots self.now) }
-        requires there { j < length (slots other.now) }
-        ensures { IsTrue result ↔ (slice_index_or (slots self.now) i Null ≡ slice_index_or (slots other.now) j Null) };
+    /// `start + len` is at most the count of rows, and `other_start + len` at most that of the other.
+    fn equal_range(&self, start: usize, other: &Self, other_start: usize, len: usize) -> bool
+        requires here { start + len ≤ length (slots self.now) }
+        requires there { other_start + len ≤ length (slots other.now) }
+        ensures { IsTrue result ↔ (sliced (slots self.now) start len ≡ sliced (slots other.now) other_start len) };
 
     ghost copies: { (x y : Self) → Self.is_clone x y → y ≡ x };
 
@@ -212,22 +209,9 @@ impl<V: Values> FlatArray<V> {
         validity::is_valid(&self.validity, i)
     }
 
-    /// Whether row `i` is the same as row `j` of the other, null or not.
-    fn equal_row(&self, i: usize, other: &FlatArray<V>, j: usize) -> bool
-        requires here { i < length (V.slots self.now.values) }
-        requires there { j < length (V.slots other.now.values) }
-        ensures { IsTrue result ↔ (slice_index_or (rows_by V.slots self.now) i Null ≡ slice_index_or (rows_by V.slots other.now) j Null) }
-    {
-        match (self.is_valid(i), other.is_valid(j)) {
-            (true, true) => self.values.equal_at(i, &other.values, j),
-            (false, false) => true,
-            (true, false) | (false, true) => false,
-        }
-    }
-
     /// Whether `len` rows from row `start` on are the same as those of the other from row
-    /// `other_start` on, null or not: at once where these are all rows and none is null, and else row
-    /// by row.
+    /// `other_start` on, null or not: the same rows are null, and each run of rows that are not is
+    /// compared at once.
     ///
     /// # Requires
     /// `start + len` is at most the count of rows, and `other_start + len` at most that of the other.
@@ -242,17 +226,15 @@ impl<V: Values> FlatArray<V> {
         requires there { other_start + len ≤ length (rows_by V.slots other.now) }
         ensures { IsTrue result ↔ (sliced (rows_by V.slots self.now) start len ≡ sliced (rows_by V.slots other.now) other_start len) }
     {
-        let (rows, other_rows) = (self.len(), other.len());
-        let is_whole = len == rows && len == other_rows;
-        if is_whole && self.is_without_nulls() && other.is_without_nulls() {
-            return self.values.equal(&other.values);
-        }
-        for i in 0..len {
-            if !self.equal_row(start + i, other, other_start + i) {
-                return false;
-            }
-        }
-        true
+        validity::equal_range(&self.validity, start, &other.validity, other_start, len)
+            && equal_runs(
+                &self.values,
+                &self.validity,
+                start,
+                &other.values,
+                other_start,
+                len,
+            )
     }
 
     /// Whether the rows are the same.
@@ -262,15 +244,34 @@ impl<V: Values> FlatArray<V> {
         let len = self.len();
         len == other.len() && self.equal_range(0, other, 0, len)
     }
+}
 
-    /// Whether no row is null: then the rows are what is stored.
-    fn is_without_nulls(&self) -> bool
-        ensures { IsTrue result → rows_by V.slots self.now ≡ V.slots self.now.values }
-    {
-        // Its reading opens the parts: a validity without a bit that is not set is as none.
-        let _ = &self.validity;
-        self.null_count() == 0
+/// Whether the same is stored in `len` rows from row `start` on as in others, but beneath nulls: each
+/// run of rows that are not null is compared at once.
+fn equal_runs<V: Values>(
+    values: &V,
+    validity: &Option<Bitmap>,
+    start: usize,
+    others: &V,
+    other_start: usize,
+    len: usize,
+) -> bool
+    requires here { start + len ≤ length (V.slots values.now) }
+    requires there { other_start + len ≤ length (V.slots others.now) }
+    requires fits { FitsRows validity.now (length (V.slots values.now)) }
+    ensures { IsTrue result ↔ (mask (bits_by validity.now start len) (sliced (V.slots values.now) start len) ≡ mask (bits_by validity.now start len) (sliced (V.slots others.now) other_start len)) }
+{
+    // Places are those of a `usize`, as the counts of rows are.
+    let _ = (values.len(), others.len());
+    let mut i = 0;
+    while i < len {
+        let (is_valid, run) = validity::run_at(validity, start + i, len - i);
+        if is_valid && !values.equal_range(start + i, others, other_start + i, run) {
+            return false;
+        }
+        i += run;
     }
+    true
 }
 
 /// Whether a data type is carried and lies in memory so.

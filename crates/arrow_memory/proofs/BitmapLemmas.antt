@@ -1,21 +1,21 @@
 -- Lists of bits against the words that hold them.
 use Rattle.std.proofs.Common.{◌≡◌, ℕ, ◌+◌, ◌-◌, ◌*◌, ◌/◌, ◌%◌, ◌^◌, ◌<◌, ◌≤◌, min, replicate, zero, suc, Bool, true, false, not, cond, List, [], ◌∷◌, ◌++◌, length, get_or, take, drop, refl, ap, sym, ◌∙◌, subst, arith, slice_index, zero-add, inl, inr}
 use Rattle.std.specs.Prelude.{◌==◌, nat_eq, bit_and, slice_get, Some}
-use Rattle.std.specs.Bool.{beq}
+use Rattle.std.specs.Bool.{beq, Decides, one_answer}
 use Rattle.std.specs.Cmp.{booleans_Decides}
 use Rattle.std.specs.Cmp.Lexicographic.{pointwise, pointwise_decides}
 use Rattle.std.specs.Int.{bit_at}
 use Rattle.std.specs.List.{count_by}
 use Rattle.std.proofs.lemmas.Bool.{cases_lt}
-use Rattle.std.proofs.lemmas.List.{length-replicate, ext_get_or, get_or-take, get_or-drop, get_or_append_left, get_or_push, length-append, take_at, drop_at, take_min, drop_min, drop-drop}
+use Rattle.std.proofs.lemmas.List.{length-replicate, ext_get_or, get_or-take, get_or-drop, get_or_append_left, get_or_push, length-append, take_all, take_at, drop_at, take_min, drop_min, drop-drop}
 use Rattle.std.proofs.lemmas.List.Sums.{sum_by-cons}
-use Rattle.std.proofs.lemmas.Nat.{one_shl, and_mask}
 use Rattle.std.proofs.lemmas.Nat.Bits.{shr_and_one, bit_at-zero}
 use Rattle.std.proofs.lemmas.Option.{slice_get-get_or}
 use Rattle.std.proofs.lemmas.Simd.{bit_mask_l}
 use Rattle.arrow_memory.specs.Sliced.{sliced}
 use Rattle.arrow_memory.specs.Words.{is_set, bits_in, word_of, set_count}
-use Rattle.arrow_memory.proofs.WordLemmas.{length-bits_in, get_or-bits_in, sliced-bits_in, sliced-bits_in_end, word_of-low}
+use Rattle.arrow_memory.proofs.SlicedLemmas.{length-sliced, same_joined}
+use Rattle.arrow_memory.proofs.WordLemmas.{length-bits_in, get_or-bits_in}
 
 -- each bit is set or not
 pub count_by-not : (bits : List Bool) → count_by not bits + set_count bits ≡ length bits
@@ -35,28 +35,26 @@ bit_of-word_of bits k = ap (λ x. nat_eq x 1) (bit_mask_l bits k) ∙ digit_is (
 
 -- ---- equality by words
 
-bit_of-part : (bits : List Bool) (i : ℕ) → (bit_at (word_of (sliced bits (64 * (i / 64)) 64)) (i % 64) == 1) ≡ get_or bits i false
-bit_of-part bits i =
-    let below : i % 64 < 64 = omega arith in
-    let place : 64 * (i / 64) + i % 64 ≡ i = omega arith in
-    bit_of-word_of (sliced bits (64 * (i / 64)) 64) (i % 64) ∙ (get_or-take 64 (drop (64 * (i / 64)) bits) (i % 64) false below ∙ (get_or-drop (64 * (i / 64)) bits (i % 64) false ∙ ap (λ k. get_or bits k false) place))
+-- bits that are as many are the same where the word that holds them is
+words_same : (xs ys : List Bool) → length xs ≡ length ys → word_of xs ≡ word_of ys → xs ≡ ys
+words_same xs ys long same =
+    ext_get_or false xs ys long (λ i h. sym (bit_of-word_of xs i) ∙ (ap (λ word. bit_at word i == 1) same ∙ bit_of-word_of ys i))
 
-pub same_from_words : (xs ys : List Bool) → length xs ≡ length ys → ((j : ℕ) → 64 * j < length xs → word_of (sliced xs (64 * j) 64) ≡ word_of (sliced ys (64 * j) 64)) → xs ≡ ys
-same_from_words xs ys long same =
-    ext_get_or false xs ys long
-    (λ i h.
-    let within : 64 * (i / 64) < length xs = omega arith in
-    sym (bit_of-part xs i) ∙ (ap (λ word. bit_at word (i % 64) == 1) (same (i / 64) within) ∙ bit_of-part ys i))
+-- so many bits more of two lists, given as words
+pub same_more : (xs ys : List Bool) (a b m n : ℕ) → a + (m + n) ≤ length xs → b + (m + n) ≤ length ys → sliced xs a m ≡ sliced ys b m → word_of (sliced xs (a + m) n) ≡ word_of (sliced ys (b + m) n) → sliced xs a (m + n) ≡ sliced ys b (m + n)
+same_more xs ys a b m n here there before words =
+    let left = length-sliced xs (a + m) n (omega arith) in
+    let right = length-sliced ys (b + m) n (omega arith) in
+    same_joined xs ys a b m n before (words_same (sliced xs (a + m) n) (sliced ys (b + m) n) (left ∙ sym right) words)
 
-pub pointwise_same : (xs ys : List Bool) → xs ≡ ys → true ≡ pointwise beq xs ys
-pointwise_same xs ys e = sym ((pointwise_decides booleans_Decides xs ys).1 e)
-
-not_true : (b : Bool) → (b ≡ true → ⊥) → false ≡ b
-not_true true h = absurd (h refl)
-not_true false h = refl
-
-pub pointwise_differs : (xs ys : List Bool) → (xs ≡ ys → ⊥) → false ≡ pointwise beq xs ys
-pointwise_differs xs ys h = not_true (pointwise beq xs ys) (λ e. h ((pointwise_decides booleans_Decides xs ys).0 e))
+-- a test of all bits of two lists that are as long is their equality
+pub all_decide : (xs ys : List Bool) (n : ℕ) (result : Bool) → length xs ≡ n → length ys ≡ n → Decides result (sliced xs 0 n ≡ sliced ys 0 n) → result ≡ pointwise beq xs ys
+all_decide xs ys n result long other_long told =
+    let left = take_all n xs (omega arith) in
+    let right = take_all n ys (omega arith) in
+    one_answer result (pointwise beq xs ys)
+    (λ e. sym left ∙ (told.0 e ∙ right), λ same. told.1 (ap (take n) same))
+    (pointwise_decides booleans_Decides xs ys)
 
 -- ---- packing
 
@@ -125,18 +123,6 @@ unset_count words offset len seen ones e counted =
     let all = rw (width, e) at counted in
     let long = ap length e in
     (omega (arith, count_by-not seen, length-bits_in words offset len), omega (arith, count_by-not seen, length-bits_in words offset len))
-
--- a word of the bits, as `word` reads it: where fewer than 64 are left, and where there are as many
-pub word_of-left : (words : List ℕ) (offset len first : ℕ) (seen : List Bool) (word : ℕ) → bits_in words offset len ≡ seen → first < len → len - first < 64 → word ≡ word_of (bits_in words (offset + first) 64) → bit_and word (1 * 2 ^ (len - first) % 2 ^ 64 - 1) ≡ word_of (sliced seen first 64)
-word_of-left words offset len first seen word e within short read =
-    let in_len : first ≤ len = omega arith in
-    let in_word : len - first ≤ 64 = omega arith in
-    rw (← e, one_shl (len - first) 64 short, and_mask, read, word_of-low words (offset + first) (len - first) in_word) (ap word_of (sym (sliced-bits_in_end words offset len first 64 in_len in_word)))
-
-pub word_of-whole : (words : List ℕ) (offset len first : ℕ) (seen : List Bool) (word : ℕ) → bits_in words offset len ≡ seen → 64 ≤ len - first → word ≡ word_of (bits_in words (offset + first) 64) → word ≡ word_of (sliced seen first 64)
-word_of-whole words offset len first seen word e enough read =
-    let within : first + 64 ≤ len = omega arith in
-    rw (← e, read) (ap word_of (sym (sliced-bits_in words offset len first 64 within)))
 
 -- ---- bits of words
 

@@ -1,5 +1,6 @@
 -- A slice of a slice.
-use Rattle.std.proofs.Common.{◌≡◌, ℕ, ◌+◌, ◌-◌, ◌≤◌, List, length, drop, arith}
+use Rattle.std.proofs.Common.{◌≡◌, ℕ, ◌+◌, ◌-◌, ◌≤◌, List, ◌++◌, length, take, drop, ap, sym, ◌∙◌, arith}
+use Rattle.std.proofs.Math.Seq.{take-add}
 use Rattle.std.proofs.lemmas.List.{drop-take, take-take, drop-drop, length-take, length-drop}
 use Rattle.arrow_memory.specs.Sliced.{sliced}
 
@@ -11,3 +12,19 @@ sliced-sliced xs a m o n h =
 
 pub length-sliced : {A : Type 0} (xs : List A) (o n : ℕ) → o + n ≤ length xs → length (sliced xs o n) ≡ n
 length-sliced xs o n h = omega (arith, length-take n (drop o xs), length-drop o xs)
+
+-- ---- parts of two lists
+
+-- a slice that is cut in two
+pub sliced-cut : {A : Type 0} (xs : List A) (a m n : ℕ) → sliced xs a (m + n) ≡ sliced xs a m ++ sliced xs (a + m) n
+sliced-cut xs a m n = take-add m n (drop a xs) ∙ ap (λ ys. take m (drop a xs) ++ take n ys) (drop-drop m a xs)
+
+-- parts are the same where those that they are cut in are
+pub same_joined : {A : Type 0} (xs ys : List A) (a b m n : ℕ) → sliced xs a m ≡ sliced ys b m → sliced xs (a + m) n ≡ sliced ys (b + m) n → sliced xs a (m + n) ≡ sliced ys b (m + n)
+same_joined xs ys a b m n first second =
+    sliced-cut xs a m n ∙ ((λ i. first i ++ second i) ∙ sym (sliced-cut ys b m n))
+
+-- and a part of parts that are the same is the same
+pub same_within : {A : Type 0} (xs ys : List A) (a b m o n : ℕ) → o + n ≤ m → sliced xs a m ≡ sliced ys b m → sliced xs (a + o) n ≡ sliced ys (b + o) n
+same_within xs ys a b m o n within same =
+    sym (sliced-sliced xs a m o n within) ∙ (ap (λ zs. sliced zs o n) same ∙ sliced-sliced ys b m o n within)

@@ -4,7 +4,7 @@ use Rattle.std.specs.Prelude.{◌==◌, count_ones, bit_and, bit_or}
 use Rattle.std.specs.Int.{bit_at, from_bool}
 use Rattle.std.specs.List.{range_with_len}
 use Rattle.std.proofs.lemmas.Bool.Decides.{nat_tests}
-use Rattle.std.proofs.lemmas.List.{same_lists, take_all, length-take, length-drop, get_or-take, get_or-drop, map-id, map-append}
+use Rattle.std.proofs.lemmas.List.{same_lists, length-take, length-drop, get_or-take, get_or-drop, map-id, map-append}
 use Rattle.std.proofs.lemmas.List.Sums.{count_by-le-length, sum_by-append}
 use Rattle.std.proofs.lemmas.List.FromFn.{length-map-range_with_len, get_or-map-range_with_len}
 use Rattle.std.proofs.lemmas.Nat.{shr-shr, shr_le, shl-shr, mod-pow-add, mod_below, field_of, pow_pos, or_shifted, or_comm, one_shl, and_mask, mul-mod_first}
@@ -227,16 +227,6 @@ pushed_below packed b word h e =
     let room : word * 2 % 18446744073709551616 ≡ word * 2 ^ 1 = omega arith in
     let digit = bool_small b in
     rw (room, bool_number b, or_shifted word 1 (cond b 1 0) digit, e) (omega arith)
-
--- a slice that reaches past the end of the bits
-pub sliced-bits_in_end : (words : List ℕ) (offset len o n : ℕ) → o ≤ len → len - o ≤ n → sliced (bits_in words offset len) o n ≡ bits_in words (offset + o) (len - o)
-sliced-bits_in_end words offset len o n h k =
-    let bits = bits_in words offset len in
-    let long = length-bits_in words offset len in
-    let left = length-drop o bits in
-    let short : length (drop o bits) ≤ n = omega arith in
-    let exact : length (drop o bits) ≤ len - o = omega arith in
-    take_all n (drop o bits) short ∙ (sym (take_all (len - o) (drop o bits) exact) ∙ sliced-bits_in words offset len o (len - o) (omega arith))
 
 -- the low n bits of a word
 pub word_of-low : (words : List ℕ) (place n : ℕ) → n ≤ 64 → word_of (bits_in words place 64) % 2 ^ n ≡ word_of (bits_in words place n)

@@ -14,7 +14,7 @@ mod bitmap_ops;
 mod mutable;
 mod runs;
 
-use crate::words::{WORD_BITS, append_bits, bits_from, count_ones, pack, word_from};
+use crate::words::{WORD_BITS, append_bits, bits_from, count_ones, pack};
 use arrow_types::error::Error;
 pub use mutable::MutableBitmap;
 use std::alloc::{AllocError, Global};
@@ -151,19 +151,28 @@ impl Bitmap {
         part
     }
 
-    /// The 64 bits from bit `64 * j` on as a word, with zeros past the last.
-    fn word(&self, j: usize) -> u64
-        requires { 64 * j < length self.now }
-        ensures { result ≡ word_of (sliced self.now (64 * j) 64) }
+    /// Whether `len` bits from place `start` on are those of the other from place `other_start` on,
+    /// compared a word at a time.
+    ///
+    /// # Requires
+    /// `start + len` is at most the count of bits, and `other_start + len` at most that of the other.
+    pub fn equal_range(&self, start: usize, other: &Bitmap, other_start: usize, len: usize) -> bool
+        requires here { start + len ≤ length self.now }
+        requires there { other_start + len ≤ length other.now }
+        ensures { IsTrue result ↔ (sliced self.now start len ≡ sliced other.now other_start len) }
     {
-        let len = self.len;
-        let first = WORD_BITS * j;
-        let word = word_from(&self.words, self.offset + first);
-        if len - first < WORD_BITS {
-            word & ((1 << (len - first)) - 1)
-        } else {
-            word
+        // Each place is a `usize`, since the counts of bits are.
+        let _ = (self.len(), other.len());
+        let mut place = 0;
+        while place < len {
+            let count = WORD_BITS.min(len - place);
+            let word = self.bits_from(start + place, count);
+            if word != other.bits_from(other_start + place, count) {
+                return false;
+            }
+            place += count;
         }
+        true
     }
 
     /// So many bits from bit `first` on as a word, with zeros above.
@@ -212,15 +221,8 @@ impl PartialEq for Bitmap {
         ensures value { result ≡ pointwise beq self.now other.now }
         ensures bits { IsTrue result ↔ (self.now ≡ other.now) }
     {
-        if self.len() != other.len() {
-            return false;
-        }
-        for j in 0..self.len().div_ceil(WORD_BITS) {
-            if self.word(j) != other.word(j) {
-                return false;
-            }
-        }
-        true
+        let len = self.len();
+        len == other.len() && self.equal_range(0, other, 0, len)
     }
 }
 

@@ -35,12 +35,8 @@ impl Values for Bitmap {
         Bitmap::slice(self, offset, len)
     }
 
-    fn equal(&self, other: &Bitmap) -> bool {
-        self == other
-    }
-
-    fn equal_at(&self, i: usize, other: &Bitmap, j: usize) -> bool {
-        self.get_bit(i) == other.get_bit(j)
+    fn equal_range(&self, start: usize, other: &Bitmap, other_start: usize, len: usize) -> bool {
+        Bitmap::equal_range(self, start, other, other_start, len)
     }
 
     ghost copies = { Prim.search rules };

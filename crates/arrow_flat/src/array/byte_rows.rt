@@ -10,6 +10,7 @@ ghost use Rattle.arrow_types.specs.Slot.{Slot};
 ghost use Rattle.arrow_types.specs.TypeOf.{type_of};
 ghost use Rattle.arrow_types.specs.declared.datatypes.physical_type.PhysicalType.{PhysicalType};
 ghost use Rattle.arrow_memory.specs.Offsets.{last_of};
+ghost use Rattle.arrow_memory.specs.Sliced.{sliced};
 ghost use Rattle.arrow_flat.specs.ByteRows.{ByteParts, row_bytes, byte_slots, byte_slice};
 ghost use Rattle.arrow_flat.specs.Faults.{IsCarriedAs, NamesFirst};
 ghost use Rattle.arrow_flat.specs.Parts.{FitsRows, IsValue};
@@ -87,11 +88,12 @@ impl<O: Offset, K: ByteKind> ByteRows<O, K> {
         &self.bytes.as_slice()[start..end]
     }
 
-    /// The bytes of all rows, one row behind the other.
-    fn all(&self) -> &[u8]
-        ensures { result.now ≡ concat (row_bytes self.now) }
+    /// The bytes of `len` rows from row `start` on, one row behind the other.
+    fn joined(&self, start: usize, len: usize) -> &[u8]
+        requires { start + len < length self.now.offsets }
+        ensures { result.now ≡ concat (row_bytes (byte_slice self.now start len)) }
     {
-        let (start, end) = span(&self.offsets);
+        let (start, end) = span(&self.offsets, start, len);
         &self.bytes.as_slice()[start..end]
     }
 }
@@ -112,15 +114,17 @@ impl<O: Offset, K: ByteKind> Values for ByteRows<O, K> {
         self.offsets.slice(offset, len + 1);
     }
 
-    fn equal(&self, other: &ByteRows<O, K>) -> bool {
-        if !are_as_long(&self.offsets, &other.offsets) {
-            return false;
-        }
-        self.all() == other.all()
-    }
-
-    fn equal_at(&self, i: usize, other: &ByteRows<O, K>, j: usize) -> bool {
-        self.row(i) == other.row(j)
+    fn equal_range(
+        &self,
+        start: usize,
+        other: &ByteRows<O, K>,
+        other_start: usize,
+        len: usize,
+    ) -> bool {
+        // Places are those of a `usize`, as the counts of rows are.
+        let _ = (self.len(), other.len());
+        are_as_long(&self.offsets, start, &other.offsets, other_start, len)
+            && self.joined(start, len) == other.joined(other_start, len)
     }
 
     ghost copies = { Prim.search rules };
@@ -145,15 +149,16 @@ impl<O: Offset, K: ByteKind> Clone for ByteRows<O, K> {
     }
 }
 
-/// Where the first row begins, and the last one ends.
-fn span<O: Offset>(offsets: &OffsetsBuffer<O>) -> (usize, usize)
-    ensures start { result.0 ≡ slice_index offsets.now 0 }
-    ensures end { result.1 ≡ last_of offsets.now }
+/// Where the first of `len` rows from row `start` on begins, and the last of them ends.
+fn span<O: Offset>(offsets: &OffsetsBuffer<O>, start: usize, len: usize) -> (usize, usize)
+    requires { start + len < length offsets.now }
+    ensures start { result.0 ≡ slice_index offsets.now start }
+    ensures end { result.1 ≡ slice_index offsets.now (start + len) }
     ensures rises { result.0 ≤ result.1 }
+    ensures within { result.1 ≤ last_of offsets.now }
 {
-    let start = offsets.buffer()[0].to_usize();
-    let end = offsets.last().to_usize();
-    (start, end)
+    let offsets = offsets.buffer();
+    (offsets[start].to_usize(), offsets[start + len].to_usize())
 }
 
 /// How many bytes row `i` has.
@@ -165,15 +170,23 @@ fn row_len<O: Offset>(offsets: &OffsetsBuffer<O>, i: usize) -> usize
     end - start
 }
 
-/// Whether there are as many rows under some offsets as under others, each as long.
-fn are_as_long<O: Offset>(offsets: &OffsetsBuffer<O>, others: &OffsetsBuffer<O>) -> bool
-    ensures { IsTrue result ↔ (lengths offsets.now ≡ lengths others.now) }
+/// Whether each of `len` rows from row `start` on is as long as that of others from row `other_start`
+/// on.
+fn are_as_long<O: Offset>(
+    offsets: &OffsetsBuffer<O>,
+    start: usize,
+    others: &OffsetsBuffer<O>,
+    other_start: usize,
+    len: usize,
+) -> bool
+    requires here { start + len < length offsets.now }
+    requires there { other_start + len < length others.now }
+    ensures { IsTrue result ↔ (sliced (lengths offsets.now) start len ≡ sliced (lengths others.now) other_start len) }
 {
-    if offsets.len() != others.len() {
-        return false;
-    }
-    for i in 0..offsets.len() - 1 {
-        if row_len(offsets, i) != row_len(others, i) {
+    // Places are those of a `usize`, as the counts of offsets are.
+    let _ = (offsets.len(), others.len());
+    for i in 0..len {
+        if row_len(offsets, start + i) != row_len(others, other_start + i) {
             return false;
         }
     }

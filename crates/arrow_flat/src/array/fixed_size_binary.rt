@@ -1,6 +1,6 @@
 //! Arrays of bytes, each row of as many.
 
-ghost use Rattle.std.specs.Prelude.{◌≡◌, ◌*◌, ◌/◌, ◌<◌, ◌≤◌, List, length, slice_get, Some, IfOk, IfErr, OnOk, refl};
+ghost use Rattle.std.specs.Prelude.{◌≡◌, ◌+◌, ◌*◌, ◌/◌, ◌<◌, ◌≤◌, List, length, slice_get, Some, IfOk, IfErr, OnOk, refl};
 ghost use Rattle.std.proofs.Common.{rules};
 ghost use Rattle.std.proofs.lemmas.List.Elements.{All-map};
 ghost use Rattle.arrow_types.specs.Physical.{physical_type_of};
@@ -8,7 +8,7 @@ ghost use Rattle.arrow_types.specs.Slot.{Bytes};
 ghost use Rattle.arrow_types.specs.TypeOf.{type_of};
 ghost use Rattle.arrow_types.specs.declared.datatypes.physical_type.PhysicalType.TheVariants as physical;
 ghost use Rattle.arrow_flat.specs.Faults.{IsCarriedAs, NamesKindOrLength};
-ghost use Rattle.arrow_flat.specs.FixedRows.{FixedParts, fixed_row_bytes, fixed_slots, fixed_slice, fixed_size_in, FitsBytes};
+ghost use Rattle.arrow_flat.specs.FixedRows.{FixedParts, AreFixedRows, fixed_row_bytes, fixed_slots, fixed_slice, fixed_size_in, FitsBytes};
 ghost use Rattle.arrow_flat.specs.Parts.{IsValue};
 ghost use Rattle.arrow_flat.specs.PieceLaws.{slots_of_chunks};
 
@@ -55,6 +55,17 @@ impl FixedRows {
         &bytes[start..end]
     }
 
+    /// The bytes of `len` rows from row `start` on, one row behind the other.
+    fn joined(&self, start: usize, len: usize) -> &[u8]
+        requires { start + len ≤ self.now.count }
+        ensures bytes { result.now ≡ (fixed_slice self.now start len).bytes }
+        ensures sound { AreFixedRows self.now }
+    {
+        let bytes = self.bytes.as_slice();
+        let (from, to) = (self.start(start), self.start(start + len));
+        &bytes[from..to]
+    }
+
     /// Where row `i` begins, or, with no row there, where the last one ends.
     fn start(&self, i: usize) -> usize
         requires { i ≤ self.now.count }
@@ -82,12 +93,8 @@ impl Values for FixedRows {
         self.count = len;
     }
 
-    fn equal(&self, other: &FixedRows) -> bool {
-        self.count == other.count && self.bytes.as_slice() == other.bytes.as_slice()
-    }
-
-    fn equal_at(&self, i: usize, other: &FixedRows, j: usize) -> bool {
-        self.row(i) == other.row(j)
+    fn equal_range(&self, start: usize, other: &FixedRows, other_start: usize, len: usize) -> bool {
+        self.joined(start, len) == other.joined(other_start, len)
     }
 
     ghost copies = { Prim.search rules };

@@ -36,12 +36,9 @@ impl<T: NativeType> Values for Buffer<T> {
         Buffer::slice(self, offset, len)
     }
 
-    fn equal(&self, other: &Buffer<T>) -> bool {
-        self.as_slice() == other.as_slice()
-    }
-
-    fn equal_at(&self, i: usize, other: &Buffer<T>, j: usize) -> bool {
-        self.as_slice()[i] == other.as_slice()[j]
+    fn equal_range(&self, start: usize, other: &Buffer<T>, other_start: usize, len: usize) -> bool {
+        let (values, others) = (self.as_slice(), other.as_slice());
+        values[start..start + len] == others[other_start..other_start + len]
     }
 
     ghost copies = { Prim.search rules };

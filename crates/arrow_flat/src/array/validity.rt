@@ -1,12 +1,12 @@
 //! What arrays do with their validity: a bit for each row, set where the row is valid. Without it no
 //! row is null ("Validity bitmaps").
 
-ghost use Rattle.std.specs.Prelude.{◌≡◌, ◌+◌, ◌≤◌, ◌<◌, ◌↔◌, length, IsTrue, IfSome, option_map, List, not, slice_index_or, option_copied};
+ghost use Rattle.std.specs.Prelude.{◌≡◌, ◌+◌, ◌≤◌, ◌<◌, ◌↔◌, length, replicate, true, IsTrue, IfSome, option_map, List, not, slice_index_or, option_copied};
 ghost use Rattle.arrow_types.specs.Relation.{is_null};
 ghost use Rattle.arrow_types.specs.Rows.{valid_at};
 ghost use Rattle.arrow_types.specs.Slot.{Slot, Null};
 ghost use Rattle.arrow_memory.specs.Sliced.{sliced};
-ghost use Rattle.arrow_flat.specs.Parts.{FitsRows, unset_in, HasRow, MarksNulls};
+ghost use Rattle.arrow_flat.specs.Parts.{FitsRows, unset_in, bits_by, HasRow, MarksNulls};
 
 use arrow_memory::bitmap::Bitmap;
 
@@ -68,5 +68,66 @@ pub fn slice(validity: &mut Option<Bitmap>, offset: usize, len: usize)
 {
     if let Some(validity) = validity {
         validity.slice(offset, len);
+    }
+}
+
+/// Whether of `len` rows from row `start` on the same ones are null as of others from row
+/// `other_start` on, compared a word at a time.
+///
+/// # Requires
+/// Where there are bits, `start + len` is at most their count, and `other_start + len` that of the
+/// others.
+pub(crate) fn equal_range(
+    validity: &Option<Bitmap>,
+    start: usize,
+    other: &Option<Bitmap>,
+    other_start: usize,
+    len: usize,
+) -> bool
+    requires here { IfSome validity.now (λ bits. start + len ≤ length bits) }
+    requires there { IfSome other.now (λ bits. other_start + len ≤ length bits) }
+    ensures { IsTrue result ↔ (bits_by validity.now start len ≡ bits_by other.now other_start len) }
+{
+    match (validity, other) {
+        (None, None) => true,
+        (Some(bits), None) => are_set(bits, start, len),
+        (None, Some(others)) => are_set(others, other_start, len),
+        (Some(bits), Some(others)) => bits.equal_range(start, others, other_start, len),
+    }
+}
+
+/// Whether `len` bits from bit `start` on are set.
+fn are_set(bits: &Bitmap, start: usize, len: usize) -> bool
+    requires { start + len ≤ length bits.now }
+    ensures { IsTrue result ↔ (sliced bits.now start len ≡ replicate len true) }
+{
+    // A place is a `usize`, as the count of bits is.
+    let _ = bits.len();
+    if len == 0 {
+        return true;
+    }
+    let (is_set, end) = bits.run_at(start, start + len);
+    is_set && end == start + len
+}
+
+/// Whether row `start` is valid, and how many rows from there on are as it is, of `len` rows.
+///
+/// # Requires
+/// `len` is at least 1, and where there are bits, `start + len` is at most their count.
+pub(crate) fn run_at(validity: &Option<Bitmap>, start: usize, len: usize) -> (bool, usize)
+    requires some { 0 < len }
+    requires within { IfSome validity.now (λ bits. start + len ≤ length bits) }
+    ensures some { 0 < result.1 }
+    ensures within { result.1 ≤ len }
+    ensures run { bits_by validity.now start result.1 ≡ replicate result.1 result.0 }
+{
+    match validity {
+        None => (true, len),
+        Some(bits) => {
+            // A place is a `usize`, as the count of bits is.
+            let _ = bits.len();
+            let (is_valid, end) = bits.run_at(start, start + len);
+            (is_valid, end - start)
+        }
     }
 }

@@ -225,6 +225,93 @@ fn check_equality<V: Letters>(
     Ok(())
 }
 
+/// Rows and where a range of them begins, others, how many rows both have, and whether these are the
+/// same.
+const RANGES: [(&[u8], usize, &[u8], usize, usize, bool); 14] = [
+    // other letters beneath the nulls, and other places
+    (b"abCdEFgh", 1, b"bXdYZgh", 0, 7, true),
+    // a null more, a null less, and another letter in the last row
+    (b"abCdEFgh", 1, b"bXDYZgh", 0, 7, false),
+    (b"abCdEFgh", 1, b"bXdYzgh", 0, 7, false),
+    (b"abCdEFgh", 1, b"bXdYZgi", 0, 7, false),
+    // nulls outside of the range alone
+    (b"Abc", 1, b"bcD", 0, 2, true),
+    (b"Abc", 1, b"bbD", 0, 2, false),
+    (b"abc", 1, b"bC", 0, 2, false),
+    (b"ABc", 0, b"aDE", 1, 2, true),
+    (b"Ab", 0, b"ba", 1, 0, true),
+    // runs across 64 rows
+    (
+        b"aaaaaaaaaaaaaaaaaaaaaaaaaaaaaaBcDeeeeeeeeeeeeeeeeeeeeeeeeeeeeeFgHHHijk",
+        0,
+        b"bbbbbaaaaaaaaaaaaaaaaaaaaaaaaaaaaaaXcYeeeeeeeeeeeeeeeeeeeeeeeeeeeeeZgTUVijk",
+        5,
+        70,
+        true,
+    ),
+    (
+        b"aaaaaaaaaaaaaaaaaaaaaaaaaaaaaaBcDeeeeeeeeeeeeeeeeeeeeeeeeeeeeeFgHHHijk",
+        3,
+        b"aaaaaaaaaaaaaaaaaaaaaaaaaaaXcYeeeeeeeeeeeeeeeeeeeeeeeeeeeeeZgTUVijk",
+        0,
+        67,
+        true,
+    ),
+    (
+        b"aaaaaaaaaaaaaaaaaaaaaaaaaaaaaaBcDeeeeeeeeeeeeeeeeeeeeeeeeeeeeeFgHHHijk",
+        0,
+        b"aaaaaaaaaaaaaaaaaaaaaaaaaaaaaaXcYeeeeeeeeeeeeeeeeeeeeeeeeeeeeeZggUVijk",
+        0,
+        70,
+        false,
+    ),
+    (
+        b"aaaaaaaaaaaaaaaaaaaaaaaaaaaaaaBcDeeeeeeeeeeeeeeeeeeeeeeeeeeeeeFgHHHijk",
+        0,
+        b"aaaaaaaaaaaaaaaaaaaaaaaaaaaaaaXcYeeeeeeeeeeeeeeeeeeeeeeeeeeeeeZgTUVjjk",
+        0,
+        68,
+        false,
+    ),
+    (
+        b"aaaaaaaaaaaaaaaaaaaaaaaaaaaaaaBcDeeeeeeeeeeeeeeeeeeeeeeeeeeeeeFgHHHijk",
+        0,
+        b"aaaaaaaaaaaaaaaaaaaaaaaaaaaaaaXcYeeeeeeeeeeeeeeeeeeeeeeeeeeeeeZgTUVjjk",
+        0,
+        67,
+        true,
+    ),
+];
+
+/// A range of rows beside one of others.
+fn check_range<V: Letters>(
+    rt: &impl Abort,
+    array: &FlatArray<V>,
+    start: usize,
+    other: &FlatArray<V>,
+    other_start: usize,
+    len: usize,
+    want: bool,
+) {
+    assert!(rt; start <= array.len() && len <= array.len() - start);
+    assert!(rt; other_start <= other.len() && len <= other.len() - other_start);
+    check!(rt; array.equal_range(start, other, other_start, len) == want, len);
+    check!(rt; other.equal_range(other_start, array, start, len) == want, len);
+}
+
+/// Ranges are equal by their rows, whatever is stored beneath nulls and outside of them.
+fn check_ranges<V: Letters>(
+    rt: &(impl Abort + Alloc<A = Global>),
+    plain: &DataType,
+) -> Result<(), Error> {
+    for (left, start, right, other_start, len, want) in &RANGES {
+        let array = array_of::<V>(rt.alloc(), plain, left)?;
+        let other = array_of::<V>(rt.alloc(), plain, right)?;
+        check_range(rt, &array, *start, &other, *other_start, *len, *want);
+    }
+    Ok(())
+}
+
 /// Validities that are not of two rows.
 const LENGTHS: [&[bool]; 4] = [&[], &[true], &[true, true, true], &[false, false, false]];
 
@@ -280,6 +367,7 @@ fn check_kind<V: Letters>(
     check_slices::<V>(rt, &plain)?;
     check_validities::<V>(rt, &plain)?;
     check_equality::<V>(rt, &plain)?;
+    check_ranges::<V>(rt, &plain)?;
     check_refused::<V>(rt, &plain, others)?;
     check_types::<V>(rt, &plain)
 }

@@ -56,6 +56,8 @@ fn check_twice(
     check_bits(rt, &twice, &want[len / 2..])?;
     check!(rt; twice != *part);
     let packed = Bitmap::from_bools(rt.alloc(), want)?;
+    check!(rt; part.equal_range(1, &packed, 1, len - 1));
+    check!(rt; part.equal_range(1, &packed, 0, len - 1) == (want[1..] == want[..len - 1]));
     check!(rt; twice == packed.sliced(len / 2, len - len / 2));
     Ok(())
 }
