@@ -1,7 +1,8 @@
-use Rattle.std.proofs.Common.{◌∙◌, ◌*◌, ◌<◌, length, ap, sym, subst, arith}
+use Rattle.std.proofs.Common.{rules, IfErr, ◌∙◌, ◌*◌, ◌<◌, length, ap, sym, subst, arith}
 use Rattle.arrow_types.specs.Carried.{IsCarried}
 use Rattle.arrow_types.specs.TypeOf.{type_of}
 use Rattle.arrow_types.proofs.FitsLemmas.{Fits-nil}
+use Rattle.arrow_memory.specs.Grown.{IsGrowthError}
 use Rattle.arrow_arrays.specs.TypeDepth.{type_depth}
 use Rattle.arrow_arrays.specs.TypeParts.{field_types}
 use Rattle.arrow_arrays.proofs.ColumnLemmas.{only_memory, first_columns, other_columns, carried_at, fits_at, less_deep}
@@ -15,6 +16,14 @@ pub empty_child-null_rows-requires : goal.empty_child-null_rows-requires
 empty_child-null_rows-requires t c =
     let same = c.in_ok-clone.ensures.cases in
     (omega (arith, c.decreases, ap type_depth same), subst IsCarried (sym same) c.requires)
+
+pub empty_child-returns-in_err-child-clause-err : goal.empty_child-returns-in_err-child-clause-err
+empty_child-returns-in_err-child-clause-err t c =
+    let passed = c.from_residual-in_err-child in
+    let growth : IfErr passed.result IsGrowthError = search rules in
+    only_memory passed.result growth (λ is.
+    let gives = rw is at passed.ensures.1 in
+    c.in_err-child.ensures.overflow (cc) (Fits-nil (type_of c.in_ok-clone.field-0)))
 
 pub null_columns-push_columns-requires : goal.null_columns-push_columns-requires
 null_columns-push_columns-requires t c =
