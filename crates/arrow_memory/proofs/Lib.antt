@@ -5,4 +5,5 @@ pub mod MutableLemmas
 pub mod OffsetLemmas
 pub mod RunLemmas
 pub mod SlicedLemmas
+pub mod ValidLemmas
 pub mod WordLemmas

@@ -119,7 +119,7 @@ stored_part f xs new os o n held seen is within some =
     }
 
 -- the old offsets and more behind them
-stored_more : {A : Type 0} (f : A → ℤ) (xs new : List A) (os more : List ℕ) → AreOffsets (map f xs) → map unsigned_abs (map f xs) ≡ os → map f new ≡ map f xs ++ map pos more → RisesFrom (pos (last_of os)) (map pos more) → StoredAs f new (os ++ more)
+pub stored_more : {A : Type 0} (f : A → ℤ) (xs new : List A) (os more : List ℕ) → AreOffsets (map f xs) → map unsigned_abs (map f xs) ≡ os → map f new ≡ map f xs ++ map pos more → RisesFrom (pos (last_of os)) (map pos more) → StoredAs f new (os ++ more)
 stored_more f xs new os more held seen is behind =
     let all : map f new ≡ map pos (os ++ more) = is ∙ (ap (λ zs. zs ++ map pos more) (sym (as_stored (map f xs) os held seen)) ∙ sym (map-append pos os more)) in
     record { held = subst AreOffsets (sym all) (offsets_more os more (seen_offsets (map f xs) os held seen) behind); seen = as_seen (map f new) (os ++ more) all }
@@ -179,7 +179,7 @@ pub stored_rows : {A : Type 0} (f : A → ℤ) (xs kept new : List A) (os others
 stored_rows f xs kept new os others place start len held seen same is at rise within =
     stored_more f xs new os (counted_on (last_of os) others start len) held seen (is ∙ (λ i. map f (same i) ++ map pos (counted_on (at i) others start len))) (counted_rise (last_of os) others start len rise within)
 
-natural : (z : ℤ) → pos 0 ≤ℤ z → z ≡ pos (unsigned_abs z)
+pub natural : (z : ℤ) → pos 0 ≤ℤ z → z ≡ pos (unsigned_abs z)
 natural (pos n) positive = refl
 natural (negsuc n) positive = absurd (omega (arith, ints, positive))
 

@@ -1,5 +1,5 @@
 -- Runs of equal bits: in a word, and over words.
-use Rattle.std.proofs.Common.{◌≡◌, ℕ, zero, suc, ◌+◌, ◌-◌, ◌^◌, ◌<◌, ◌≤◌, min, w64, Bool, true, false, not, List, length, get_or, drop, replicate, ap, sym, ◌∙◌, arith, inl, inr}
+use Rattle.std.proofs.Common.{◌≡◌, ℕ, zero, suc, ◌+◌, ◌-◌, ◌^◌, ◌<◌, ◌≤◌, min, w64, Bool, true, false, not, List, [], ◌∷◌, length, get_or, drop, replicate, ◌++◌, ap, sym, ◌∙◌, arith, inl, inr}
 use Rattle.std.specs.Prelude.{◌==◌, nat_eq, slice_get, Some}
 use Rattle.std.specs.Int.{bit_at, bit_not, trailing_zeros}
 use Rattle.std.specs.Int.Count.{trailing_of_zero}
@@ -8,8 +8,9 @@ use Rattle.std.proofs.lemmas.List.{length-replicate, ext_get_or, get_or-take, ge
 use Rattle.std.proofs.lemmas.Nat.Bits.{bit_at_not, bit_at-zero, bit_at-trailing_zeros, bit_at-lt}
 use Rattle.std.proofs.lemmas.Option.{slice_get-get_or}
 use Rattle.arrow_memory.specs.Sliced.{sliced}
-use Rattle.arrow_memory.specs.Words.{word_of, IsLowRun}
+use Rattle.arrow_memory.specs.Words.{is_set, bits_in, word_of, IsLowRun}
 use Rattle.arrow_memory.proofs.BitmapLemmas.{bit_of-word_of}
+use Rattle.arrow_memory.proofs.WordLemmas.{length-bits_in, get_or-bits_in, bits_in-add}
 
 -- ---- in a word
 
@@ -111,4 +112,69 @@ some_alike bits start place n bit first order ends =
       | inr after ↦
           let at : place + n ≡ start = omega arith in
           absurd (not_itself bit (cc (first, ends, at)))
+    ]
+
+-- ---- the bits that words hold
+
+-- each bit of the words from one place up to another is equal to `bit`
+abbrev pub AreSet : List ℕ → ℕ → ℕ → Bool → Type 0
+AreSet words start place bit = (i : ℕ) → start ≤ i → i < place → is_set words i ≡ bit
+
+pub bits_set : (words : List ℕ) (start place : ℕ) (bit : Bool) → start ≤ place → AreSet words start place bit → bits_in words start (place - start) ≡ replicate (place - start) bit
+bits_set words start place bit order alike =
+    let long = length-bits_in words start (place - start) in
+    let many = length-replicate (place - start) bit in
+    ext_get_or false (bits_in words start (place - start)) (replicate (place - start) bit) (omega arith)
+    (λ i h.
+    let below : i < place - start = omega arith in
+    get_or-bits_in words start (place - start) i false below ∙ (alike (start + i) (omega arith) (omega arith) ∙ sym (get_or-replicate (place - start) i bit false below)))
+
+-- a bit of the word at a place
+set_there : (words : List ℕ) (place count k : ℕ) → k < count → (bit_at (word_of (bits_in words place count)) k == 1) ≡ is_set words (place + k)
+set_there words place count k below =
+    bit_of-word_of (bits_in words place count) k ∙ get_or-bits_in words place count k false below
+
+-- as many more as the word at the place begins with
+pub set_more : (words : List ℕ) (start place count n word : ℕ) (bit : Bool) → AreSet words start place bit → word ≡ word_of (bits_in words place count) → IsLowRun word count bit n → AreSet words start (place + n) bit
+set_more words start place count n word bit alike is run i from below =
+    elim (cases_lt i place) as (λ _. is_set words i ≡ bit) [
+      | inl before ↦ alike i from before
+      | inr after ↦
+          let at : place + (i - place) ≡ i = omega arith in
+          let in_run : i - place < n = omega arith in
+          let there = set_there words place count (i - place) (omega (arith, run.within)) in
+          ap (λ k. is_set words k) (sym at) ∙ (sym there ∙ (ap (λ w. nat_eq (bit_at w (i - place)) 1) (sym is) ∙ run.alike (i - place) in_run))
+    ]
+
+-- the bit behind them
+pub set_ends : (words : List ℕ) (place count n word : ℕ) (bit : Bool) → word ≡ word_of (bits_in words place count) → IsLowRun word count bit n → n < count → is_set words (place + n) ≡ not bit
+set_ends words place count n word bit is run short =
+    sym (set_there words place count n short) ∙ (ap (λ w. nat_eq (bit_at w n) 1) (sym is) ∙ run.ends short)
+
+-- the bits that are left, cut in a run of bits that are not set, one of set bits, and the rest
+pub cut_twice : (words : List ℕ) (start set next end : ℕ) → start ≤ set → set ≤ next → next ≤ end → bits_in words start (set - start) ≡ replicate (set - start) false → bits_in words set (next - set) ≡ replicate (next - set) true → bits_in words start (end - start) ≡ replicate (set - start) false ++ (replicate (next - set) true ++ bits_in words next (end - next))
+cut_twice words start set next end low mid high unset is_run =
+    let first : end - start ≡ set - start + (end - set) = omega arith in
+    let at : start + (set - start) ≡ set = omega arith in
+    let second : end - set ≡ next - set + (end - next) = omega arith in
+    let there : set + (next - set) ≡ next = omega arith in
+    let front = bits_in-add words start (set - start) (end - set) in
+    let back = bits_in-add words set (next - set) (end - next) in
+    ap (bits_in words start) first ∙ (front ∙ (λ i. unset i ++ ((ap (λ k. bits_in words k (end - set)) at ∙ (ap (bits_in words set) second ∙ (back ∙ (λ j. is_run j ++ bits_in words (there j) (end - next))))) i)))
+
+none_there : (xs : List Bool) → length xs ≡ 0 → slice_get xs 0 ≡ Some true → ⊥
+none_there [] none first = cc
+none_there (x ∷ xs) none first = absurd (omega (arith, none))
+
+-- what is left does not begin with a set bit
+pub not_first : (words : List ℕ) (next end : ℕ) → (next < end → is_set words next ≡ false) → slice_get (bits_in words next (end - next)) 0 ≡ Some true → ⊥
+not_first words next end longest first =
+    let long = length-bits_in words next (end - next) in
+    elim (cases_lt next end) as (λ _. ⊥) [
+      | inl before ↦
+          let at : next + 0 ≡ next = omega arith in
+          let read = slice_get-get_or (bits_in words next (end - next)) 0 false (omega arith) in
+          let here = get_or-bits_in words next (end - next) 0 false (omega arith) ∙ (ap (is_set words) at ∙ longest before) in
+          cc (read, here, first)
+      | inr after ↦ none_there (bits_in words next (end - next)) (omega arith) first
     ]

@@ -1,6 +1,6 @@
 -- Worked offsets, and the bits of a word.
 use Rattle.std.specs.Prelude.{◌≡◌, ◌∷◌, [], true, false, refl}
-use Rattle.arrow_memory.specs.Offsets.{last_of, with_row, with_rows}
+use Rattle.arrow_memory.specs.Offsets.{last_of, with_row, with_rows, with_valid_rows}
 use Rattle.arrow_memory.specs.Words.{bits_in, word_of}
 
 -- a row of 4 items, one of none, and one of 5
@@ -10,6 +10,10 @@ rows_one_by_one = refl
 -- rows 1 and 2 of others, which begin at 13: one of no item and one of 5
 rows_of_others : with_rows (0 ∷ 4 ∷ []) (10 ∷ 13 ∷ 13 ∷ 18 ∷ []) 1 2 ≡ 0 ∷ 4 ∷ 4 ∷ 9 ∷ []
 rows_of_others = refl
+
+-- three rows of others, of which the first and the last are null
+rows_of_others_with_nulls : with_valid_rows (0 ∷ 4 ∷ []) (false ∷ true ∷ false ∷ []) (10 ∷ 13 ∷ 15 ∷ 20 ∷ []) 0 ≡ 0 ∷ 4 ∷ 4 ∷ 6 ∷ 6 ∷ []
+rows_of_others_with_nulls = refl
 
 -- offsets of no row, which need not be 0
 ends_without_rows : last_of (7 ∷ []) ≡ 7

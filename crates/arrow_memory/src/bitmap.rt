@@ -17,6 +17,7 @@ mod runs;
 use crate::words::{WORD_BITS, append_bits, bits_from, count_ones, pack};
 use arrow_types::error::Error;
 pub use mutable::MutableBitmap;
+pub use runs::BitRuns;
 use std::alloc::{AllocError, Global};
 use std::marker::Model;
 use std::rc::Rc;
@@ -176,7 +177,7 @@ impl Bitmap {
     }
 
     /// So many bits from bit `first` on as a word, with zeros above.
-    fn bits_from(&self, first: usize, count: usize) -> u64
+    pub(crate) fn bits_from(&self, first: usize, count: usize) -> u64
         requires within { first + count ≤ length self.now }
         requires in_word { count ≤ 64 }
         ensures { result ≡ word_of (sliced self.now first count) }

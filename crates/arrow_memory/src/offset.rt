@@ -1,6 +1,6 @@
 //! Offsets: where the rows of a text, binary, list or map array lie.
 
-ghost use Rattle.std.specs.Prelude.{◌≡◌, pos, ◌+◌, ◌-◌, ◌<◌, ◌≤◌, ◌+ℤ◌, ◌-ℤ◌, ◌≤ℤ◌, [], ◌∷◌, ◌++◌, length, map, replicate, slice_index, slice_index_or, nat_eq, unsigned_abs, IsTrue, ◌↔◌, IfOk, IfErr, OnOk, OnErr, IsOkUnless, Err};
+ghost use Rattle.std.specs.Prelude.{◌≡◌, pos, ◌+◌, ◌-◌, ◌<◌, ◌≤◌, ◌+ℤ◌, ◌-ℤ◌, ◌≤ℤ◌, [], ◌∷◌, ◌++◌, length, map, replicate, slice_index, slice_index_or, nat_eq, unsigned_abs, IsTrue, ◌↔◌, IfOk, IfErr, OnOk, OnErr, IsOkUnless, Err, if◌then◌else◌};
 ghost use Rattle.std.specs.Cmp.{partial_equiv_from_equiv, nat_eq_equiv};
 ghost use Rattle.std.specs.Cmp.Lexicographic.{pointwise, lists_equiv};
 ghost use Rattle.std.specs.List.{All};
@@ -8,10 +8,13 @@ ghost use Rattle.std.specs.Vec.{vec_len, vec_capacity};
 ghost use Rattle.arrow_types.specs.declared.error.Error.{Error};
 ghost use Rattle.arrow_types.specs.declared.error.SpecPart.{SpecPart};
 ghost use Rattle.arrow_memory.specs.Grown.{IsGrowthError};
-ghost use Rattle.arrow_memory.specs.Offsets.{AreOffsets, IsOffsets, last_of, with_row, counted_on, with_rows};
+ghost use Rattle.arrow_memory.specs.Offsets.{AreOffsets, IsOffsets, last_of, with_row, counted_on, with_rows, valid_length, valid_items, valid_ends, with_valid_rows};
 ghost use Rattle.arrow_memory.specs.Sliced.{sliced};
+ghost use Rattle.arrow_memory.specs.Words.{bits_in};
 
+use crate::bitmap::Bitmap;
 use crate::buffer::Buffer;
+use crate::words::WORD_BITS;
 use arrow_types::error::{Error, SpecPart};
 use arrow_types::types::{NativeType, Offset};
 use std::alloc::{AllocError, Global};
@@ -271,6 +274,37 @@ impl<O: Offset> Offsets<O> {
         Ok(())
     }
 
+    /// Appends `len` rows of other offsets, from row `start` on: as long as they are there where their bit
+    /// of a validity is set, and empty where it is not.
+    ///
+    /// # Requires
+    /// `start + len` is below the count of the other offsets, and at most that of the bits.
+    ///
+    /// # Errors
+    /// As of [`Offsets::try_push_usize`].
+    pub fn try_extend_from_valid(
+        &mut self,
+        other: &OffsetsBuffer<O>,
+        validity: &Bitmap,
+        start: usize,
+        len: usize,
+    ) -> Result<(), Error>
+        requires part { start + len < length other.now }
+        requires covered { start + len ≤ length validity.now }
+        ensures ok { OnOk result (self.new ≡ with_valid_rows self.old (sliced validity.now start len) other.now start) }
+        ensures overflow { (result ≡ Err Error.Overflow) ↔ (O.greatest < last_of self.old + valid_items (sliced validity.now start len) other.now start) }
+        ensures others { IfErr result IsGrowthError }
+        ensures err { OnErr result (self.new ≡ self.old) }
+    {
+        let last = *self.last();
+        if !valid_rows_fit(&last, other, validity, start, len) {
+            return Err(Error::Overflow);
+        }
+        self.offsets.reserve(len)?;
+        append_valid_rows(&mut self.offsets, last, other, validity, start, len);
+        Ok(())
+    }
+
     /// The offsets so far, shared from now on. Nothing is copied.
     ///
     /// # Errors
@@ -341,6 +375,128 @@ fn shift<O: Offset>(offsets: &mut [O], from: O, to: O)
     for offset in offsets.iter_mut() {
         *offset = offset.shifted(from, to);
     }
+}
+
+/// Whether the items of the rows whose bit is set end at the greatest offset at most, counted on from
+/// `last`. They are counted only where those of all rows may pass it.
+fn valid_rows_fit<O: Offset>(
+    last: &O,
+    other: &OffsetsBuffer<O>,
+    validity: &Bitmap,
+    start: usize,
+    len: usize,
+) -> bool
+    requires part { start + len < length other.now }
+    requires covered { start + len ≤ length validity.now }
+    requires not_negative { pos 0 ≤ℤ O.number last.now }
+    ensures { IsTrue result ↔ ((unsigned_abs (O.number last.now) + valid_items (sliced validity.now start len) other.now start) ≤ O.greatest) }
+{
+    let place = last.to_usize();
+    let (first, end) = other.range(start, len);
+    if O::from_usize(place + (end - first)).is_some() {
+        return true;
+    }
+    let items = count_valid_items(other, validity, start, len);
+    O::from_usize(place + items).is_some()
+}
+
+/// How many items the rows have whose bit is set, of `len` rows from row `start` on.
+fn count_valid_items<O: Offset>(
+    other: &OffsetsBuffer<O>,
+    validity: &Bitmap,
+    start: usize,
+    len: usize,
+) -> usize
+    requires part { start + len < length other.now }
+    requires covered { start + len ≤ length validity.now }
+    ensures count { result ≡ valid_items (sliced validity.now start len) other.now start }
+    ensures fits { result ≤ O.greatest }
+{
+    prove!(start < other.len());
+    let _ = other.range(start, len);
+    let mut items = 0;
+    for row in start..start + len {
+        items += count_items_of(other, row, validity.get_bit(row));
+    }
+    items
+}
+
+/// How many items a row has: none where it is not valid.
+fn count_items_of<O: Offset>(other: &OffsetsBuffer<O>, row: usize, is_valid: bool) -> usize
+    requires { row + 1 < length other.now }
+    ensures { result ≡ valid_length is_valid other.now row }
+{
+    let (begin, end) = other.start_end(row);
+    if is_valid { end - begin } else { 0 }
+}
+
+/// Appends where the rows end whose bit is set, and empty rows for the others, a word of bits at a
+/// time: `len` rows from row `start` on, counted on from `last`. There is room for them.
+fn append_valid_rows<O: Offset>(
+    offsets: &mut Vec<O>,
+    last: O,
+    other: &OffsetsBuffer<O>,
+    validity: &Bitmap,
+    start: usize,
+    len: usize,
+)
+    requires part { start + len < length other.now }
+    requires covered { start + len ≤ length validity.now }
+    requires room { vec_len offsets.old + len ≤ vec_capacity offsets.old }
+    requires not_negative { pos 0 ≤ℤ O.number last }
+    requires fits { (unsigned_abs (O.number last) + valid_items (sliced validity.now start len) other.now start) ≤ O.greatest }
+    ensures { map O.number offsets.new.items ≡ map O.number offsets.old.items ++ map pos (valid_ends (unsigned_abs (O.number last)) (sliced validity.now start len) other.now start) }
+{
+    prove!(start < other.len());
+    let end = start + len;
+    let mut last = last;
+    let mut row = start;
+    while row < end {
+        let count = WORD_BITS.min(end - row);
+        let word = validity.bits_from(row, count);
+        last = append_word_of_rows(offsets, last, other, row, word, count);
+        row += count;
+    }
+}
+
+/// Appends where `count` rows from row `start` on end, by the bits of a word, and answers the last of
+/// these offsets. No test depends on a bit.
+fn append_word_of_rows<O: Offset>(
+    offsets: &mut Vec<O>,
+    last: O,
+    other: &OffsetsBuffer<O>,
+    start: usize,
+    word: u64,
+    count: usize,
+) -> O
+    requires in_word { count ≤ 64 }
+    requires part { start + count < length other.now }
+    requires room { vec_len offsets.old + count ≤ vec_capacity offsets.old }
+    requires not_negative { pos 0 ≤ℤ O.number last }
+    requires fits { (unsigned_abs (O.number last) + valid_items (bits_in (word ∷ []) 0 count) other.now start) ≤ O.greatest }
+    ensures ends { map O.number offsets.new.items ≡ map O.number offsets.old.items ++ map pos (valid_ends (unsigned_abs (O.number last)) (bits_in (word ∷ []) 0 count) other.now start) }
+    ensures last { O.number result ≡ pos (unsigned_abs (O.number last) + valid_items (bits_in (word ∷ []) 0 count) other.now start) }
+    ensures len { vec_len offsets.new ≡ vec_len offsets.old + count }
+    ensures capacity { vec_capacity offsets.new ≡ vec_capacity offsets.old }
+{
+    let rows = other.buffer();
+    let mut last = last;
+    for k in 0..count {
+        let row = start + k;
+        let end = row + 1;
+        let next = rows[end];
+        let from = begin_of(rows[row], next, word >> k & 1 == 1);
+        last = next.shifted(from, last);
+        offsets.push_reserved(last);
+    }
+    last
+}
+
+/// Where a row begins that ends at `next`: there too, where it is not valid.
+fn begin_of<O: Offset>(begin: O, next: O, is_valid: bool) -> O
+    ensures { O.number result ≡ (if is_valid then O.number begin else O.number next) }
+{
+    if is_valid { begin } else { next }
 }
 
 /// Whether numbers are offsets.

@@ -21,6 +21,7 @@ fn check_bits(
     check!(rt; found.unset_bits() == unset);
     check!(rt; *found == Bitmap::from_bools(rt.alloc(), want)?);
     check_ends(rt, found, want);
+    check_set_runs(rt, found, want);
     Ok(())
 }
 
@@ -34,6 +35,21 @@ fn check_ends(rt: &impl Abort, found: &Bitmap, want: &[bool]) {
         }
         check!(rt; i < found.len() && found.run_at(i, found.len()) == (*bit, end));
     }
+}
+
+/// The runs of set bits, one after the other, and the bits that are not set before each.
+fn check_set_runs(rt: &impl Abort, found: &Bitmap, want: &[bool]) {
+    let mut runs = found.runs(0, found.len());
+    let (mut first, mut next) = (0usize, 0usize);
+    for (i, bit) in want.iter().enumerate() {
+        if i == next {
+            let (unset, set) = runs.next_set();
+            first = next.saturating_add(unset);
+            next = first.saturating_add(set);
+        }
+        check!(rt; *bit == (first <= i));
+    }
+    check!(rt; runs.next_set() == (0, 0));
 }
 
 /// A bitmap that is sliced itself is that slice.

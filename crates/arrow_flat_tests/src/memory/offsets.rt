@@ -1,6 +1,7 @@
 //! Offsets: which numbers are taken, where rows lie, and rows appended up to the greatest offset.
 
 use arrow_fixture::check;
+use arrow_memory::bitmap::Bitmap;
 use arrow_memory::offset::{Offsets, OffsetsBuffer};
 use arrow_types::error::{Error, SpecPart};
 use arrow_types::types::Offset;
@@ -181,4 +182,74 @@ pub fn check_appended(rt: &(impl Abort + Alloc<A = Global>)) -> Result<(), Error
         check!(rt; outcome.err() == Some(Error::OutOfMemory));
     }
     Ok(())
+}
+
+/// Which of four rows are valid, that have 3, 0, 5 and 2 items; the first that is appended, behind a row of so many
+/// items; and the offsets then. No offsets: the rows are refused.
+const VALID: [(&[bool], usize, usize, &[i32]); 7] = [
+    (&[true, true, true, true], 0, 4, &[0, 4, 7, 7, 12, 14]),
+    (&[false, true, false, true], 0, 4, &[0, 4, 4, 4, 4, 6]),
+    (&[false, false, false, false], 0, 4, &[0, 4, 4, 4, 4, 4]),
+    (&[true, false, true, false], 1, 4, &[0, 4, 4, 9, 9]),
+    (&[true, true, true, true], 4, 4, &[0, 4]),
+    (
+        &[false, true, false, true],
+        0,
+        2_147_483_645,
+        &[0, i32::MAX - 2, i32::MAX - 2, i32::MAX - 2, i32::MAX - 2, i32::MAX],
+    ),
+    (&[false, true, false, true], 0, 2_147_483_646, &[]),
+];
+
+/// Rows of others, of which those that are not valid are empty.
+fn check_valid_rows(
+    rt: &(impl Abort + Alloc<A = Global>),
+    valid: &[bool],
+    start: usize,
+    items: usize,
+    want: &[i32],
+) -> Result<(), Error> {
+    let others = offsets_of(rt.alloc(), &[10i32, 13, 13, 18, 20])?;
+    let validity = Bitmap::from_bools(rt.alloc(), valid)?;
+    assert!(rt; others.len() == 5 && validity.len() == 4 && start <= 4);
+    let mut offsets = Offsets::<i32>::with_capacity(rt.alloc(), 0)?;
+    offsets.try_push_usize(items)?;
+    let outcome = offsets.try_extend_from_valid(&others, &validity, start, 4 - start);
+    if want.is_empty() {
+        check!(rt; outcome.err() == Some(Error::Overflow) && offsets.len() == 2);
+        return Ok(());
+    }
+    outcome?;
+    check!(rt; offsets.into_buffer()?.buffer() == want);
+    Ok(())
+}
+
+/// More rows than a word has bits, of one item each, and every third null.
+fn check_words(rt: &(impl Abort + Alloc<A = Global>)) -> Result<(), Error> {
+    let mut others = Vec::from_slice(rt.alloc(), &[0i32])?;
+    let mut valid = Vec::new(rt.alloc());
+    let mut want = Vec::from_slice(rt.alloc(), &[0i32])?;
+    let mut items = 0i32;
+    for row in 0..150i32 {
+        others.push(row + 1)?;
+        valid.push(row % 3 > 0)?;
+        items = items.saturating_add(i32::from(row > 0 && row % 3 > 0));
+        if row > 0 {
+            want.push(items)?;
+        }
+    }
+    let others = OffsetsBuffer::try_from(rt.alloc(), others)?;
+    let validity = Bitmap::from_bools(rt.alloc(), &valid)?;
+    assert!(rt; others.len() == 151 && validity.len() == 150);
+    let mut offsets = Offsets::<i32>::with_capacity(rt.alloc(), 0)?;
+    offsets.try_extend_from_valid(&others, &validity, 1, 149)?;
+    check!(rt; offsets.into_buffer()?.buffer() == want.as_slice());
+    Ok(())
+}
+
+pub fn check_valid(rt: &(impl Abort + Alloc<A = Global>)) -> Result<(), Error> {
+    for (valid, start, items, want) in &VALID {
+        check_valid_rows(rt, valid, *start, *items, want)?;
+    }
+    check_words(rt)
 }

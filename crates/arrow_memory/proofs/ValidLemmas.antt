@@ -1,0 +1,208 @@
+-- Rows of others, of which those are empty whose bit is not set.
+use Rattle.std.proofs.Common.{◌≡◌, ℕ, zero, suc, ◌+◌, ◌-◌, ◌/◌, ◌%◌, ◌^◌, ◌<◌, ◌≤◌, ℤ, pos, ◌+ℤ◌, ◌-ℤ◌, ◌≤ℤ◌, Bool, true, false, List, [], ◌∷◌, ◌++◌, length, map, take, drop, get_or, slice_index, unsigned_abs, if◌then◌else◌, refl, ap, sym, ◌∙◌, arith}
+use Rattle.std.specs.Prelude.{◌==◌, nat_eq, bit_and, slice_get, Some}
+use Rattle.std.specs.Int.{bit_at}
+use Rattle.std.proofs.Math.Seq.{take-add}
+use Rattle.std.proofs.lemmas.Int.{ints}
+use Rattle.std.proofs.lemmas.List.{append_assoc, drop-drop, map-append}
+use Rattle.std.proofs.lemmas.Nat.Bits.{shr_and_one}
+use Rattle.arrow_memory.specs.Offsets.{RisesFrom, AreOffsets, IsOffsets, last_of, valid_length, valid_items, valid_ends, with_valid_rows}
+use Rattle.arrow_memory.specs.Sliced.{sliced}
+use Rattle.arrow_memory.specs.Words.{is_set, bits_in, word_of}
+use Rattle.arrow_memory.proofs.BitmapLemmas.{bit_of-word_of, bits_in_is}
+use Rattle.arrow_memory.proofs.OffsetLemmas.{StoredAs, natural, number_at, offsets_rise, stored_more}
+use Rattle.arrow_memory.proofs.SlicedLemmas.{length-sliced}
+use Rattle.arrow_memory.proofs.WordLemmas.{bits_in-add}
+
+-- ---- the rows of some bits, and those of others behind them
+
+pub valid_items-append : (xs ys : List Bool) (os : List ℕ) (i : ℕ) → valid_items (xs ++ ys) os i ≡ valid_items xs os i + valid_items ys os (i + length xs)
+valid_items-append [] ys os i =
+    let at : i + 0 ≡ i = omega arith in
+    rw at (omega arith)
+valid_items-append (b ∷ xs) ys os i =
+    let at : i + 1 + length xs ≡ i + suc (length xs) = omega arith in
+    omega (arith, ap (λ k. valid_items ys os k) at, valid_items-append xs ys os (i + 1))
+
+pub valid_ends-append : (place : ℕ) (xs ys : List Bool) (os : List ℕ) (i : ℕ) → valid_ends place (xs ++ ys) os i ≡ valid_ends place xs os i ++ valid_ends (place + valid_items xs os i) ys os (i + length xs)
+valid_ends-append place [] ys os i =
+    let at : i + 0 ≡ i = omega arith in
+    let same : place + 0 ≡ place = omega arith in
+    rw (at, same) refl
+valid_ends-append place (b ∷ xs) ys os i =
+    let n = valid_length b os i in
+    let at : i + 1 + length xs ≡ i + suc (length xs) = omega arith in
+    let counted : place + n + valid_items xs os (i + 1) ≡ place + (n + valid_items xs os (i + 1)) = omega arith in
+    ap (λ es. (place + n) ∷ es) (valid_ends-append (place + n) xs ys os (i + 1) ∙ (λ t. valid_ends (place + n) xs os (i + 1) ++ valid_ends (counted t) ys os (at t)))
+
+-- no more items than all these rows have
+pub valid_items-within : (bits : List Bool) (os : List ℕ) (i : ℕ) → IsOffsets os → i + length bits < length os → valid_items bits os i ≤ slice_index os (i + length bits) - slice_index os i
+valid_items-within [] os i held within = omega arith
+valid_items-within (true ∷ bits) os i held within =
+    let at : i + 1 + length bits ≡ i + suc (length bits) = omega arith in
+    let rest = valid_items-within bits os (i + 1) held (omega (arith, within)) in
+    let first = offsets_rise os i (i + 1) held (omega arith) (omega (arith, within)) in
+    let second = offsets_rise os (i + 1) (i + 1 + length bits) held (omega arith) (omega (arith, within)) in
+    omega (arith, ap (slice_index os) at, rest, first, second)
+valid_items-within (false ∷ bits) os i held within =
+    let at : i + 1 + length bits ≡ i + suc (length bits) = omega arith in
+    let rest = valid_items-within bits os (i + 1) held (omega (arith, within)) in
+    let first = offsets_rise os i (i + 1) held (omega arith) (omega (arith, within)) in
+    let second = offsets_rise os (i + 1) (i + 1 + length bits) held (omega arith) (omega (arith, within)) in
+    omega (arith, ap (slice_index os) at, rest, first, second)
+
+valid_rise : (place : ℕ) (bits : List Bool) (os : List ℕ) (i : ℕ) → RisesFrom (pos place) (map pos (valid_ends place bits os i))
+valid_rise place [] os i = tt
+valid_rise place (b ∷ bits) os i = (omega (arith, ints), valid_rise (place + valid_length b os i) bits os (i + 1))
+
+-- these rows behind one's own, where what was reserved before is `kept`
+pub stored_valid_rows : {A : Type 0} (f : A → ℤ) (xs kept new : List A) (os : List ℕ) (bits : List Bool) (others : List ℕ) (place start : ℕ) → AreOffsets (map f xs) → map unsigned_abs (map f xs) ≡ os → kept ≡ xs → map f new ≡ map f kept ++ map pos (valid_ends place bits others start) → place ≡ last_of os → StoredAs f new (with_valid_rows os bits others start)
+stored_valid_rows f xs kept new os bits others place start held seen same is at =
+    stored_more f xs new os (valid_ends (last_of os) bits others start) held seen (is ∙ (λ t. map f (same t) ++ map pos (valid_ends (at t) bits others start))) (valid_rise (last_of os) bits others start)
+
+-- ---- one row
+
+-- a row that begins at `from` and ends at `next`, counted on from `last`
+pub record IsRow (bit : Bool) (os : List ℕ) (i : ℕ) (from next last : ℤ) : Type 0 where
+  pub starts : pos 0 ≤ℤ from
+  pub rises : from ≤ℤ next
+  pub counted : last +ℤ (next -ℤ from) ≡ pos (unsigned_abs last + valid_length bit os i)
+
+pub is_row : (bit : Bool) (os : List ℕ) (i : ℕ) (from begin next last : ℤ) → from ≡ (if bit then begin else next) → begin ≡ pos (slice_index os i) → next ≡ pos (slice_index os (i + 1)) → slice_index os i ≤ slice_index os (i + 1) → pos 0 ≤ℤ last → IsRow bit os i from next last
+is_row true os i from begin next last is begins ends rise positive =
+    let whole = natural last positive in
+    record {
+      starts = omega (arith, ints, is, begins);
+      rises = omega (arith, ints, is, begins, ends, rise);
+      counted = omega (arith, ints, is, begins, ends, rise, whole);
+    }
+is_row false os i from begin next last is begins ends rise positive =
+    let whole = natural last positive in
+    record {
+      starts = omega (arith, ints, is, ends);
+      rises = omega (arith, ints, is);
+      counted = omega (arith, ints, is, whole);
+    }
+
+-- ---- the bits of a word
+
+-- a word that was made of bits holds these
+pub word_bits : (bits : List Bool) (word count : ℕ) → word ≡ word_of bits → length bits ≡ count → count ≤ 64 → bits_in (word ∷ []) 0 count ≡ bits
+word_bits bits word count is long small =
+    let each : (i : ℕ) → i < length bits → is_set (word ∷ []) i ≡ get_or bits i false =
+    λ i h.
+    let first : i / 64 ≡ 0 = omega (arith, h, long, small) in
+    let same : i % 64 ≡ i = omega (arith, h, long, small) in
+    (λ t. bit_at (slice_index (is t ∷ []) (first t)) (same t) == 1) ∙ bit_of-word_of bits i in
+    ap (bits_in (word ∷ []) 0) (sym long) ∙ bits_in_is (word ∷ []) bits each
+
+one_bit : (words : List ℕ) (k : ℕ) → bits_in words k 1 ≡ is_set words k ∷ []
+unfolding bits_in
+one_bit words k = refl
+
+-- the bits from one on
+pub bits_in-next : (words : List ℕ) (k count : ℕ) → k < count → bits_in words k (count - k) ≡ is_set words k ∷ bits_in words (k + 1) (count - (k + 1))
+bits_in-next words k count below =
+    let all : count - k ≡ 1 + (count - (k + 1)) = omega arith in
+    ap (bits_in words k) all ∙ (bits_in-add words k 1 (count - (k + 1)) ∙ ap (λ first. first ++ bits_in words (k + 1) (count - (k + 1))) (one_bit words k))
+
+pub sliced-cut : (bits : List Bool) (place count end : ℕ) → place + count ≤ end → sliced bits place (end - place) ≡ sliced bits place count ++ sliced bits (place + count) (end - (place + count))
+sliced-cut bits place count end within =
+    let all : end - place ≡ count + (end - (place + count)) = omega arith in
+    ap (λ n. take n (drop place bits)) all ∙ (take-add count (end - (place + count)) (drop place bits) ∙ ap (λ rest. take count (drop place bits) ++ take (end - (place + count)) rest) (drop-drop count place bits))
+
+first_there : (bits : List Bool) (bit : Bool) → slice_get bits 0 ≡ Some bit → take 1 bits ≡ bit ∷ []
+first_there [] bit read = cc
+first_there (b ∷ bits) bit read =
+    let is : b ≡ bit = cc in
+    ap (λ x. x ∷ []) is
+
+get_dropped : (bits : List Bool) (place : ℕ) → slice_get (drop place bits) 0 ≡ slice_get bits place
+get_dropped bits zero = refl
+get_dropped [] (suc place) = refl
+get_dropped (b ∷ bits) (suc place) = get_dropped bits place
+
+pub sliced-next : (bits : List Bool) (place end : ℕ) (bit : Bool) → place < end → slice_get bits place ≡ Some bit → sliced bits place (end - place) ≡ bit ∷ sliced bits (place + 1) (end - (place + 1))
+sliced-next bits place end bit below read =
+    sliced-cut bits place 1 end (omega arith) ∙ ap (λ first. first ++ sliced bits (place + 1) (end - (place + 1))) (first_there (drop place bits) bit (get_dropped bits place ∙ read))
+
+-- ---- a row more
+
+no_bit : (words : List ℕ) (k : ℕ) → bits_in words k 0 ≡ []
+unfolding bits_in
+no_bit words k = refl
+
+pub none_left : (words : List ℕ) (k count : ℕ) → count ≤ k → bits_in words k (count - k) ≡ []
+none_left words k count after =
+    let none : count - k ≡ 0 = omega arith in
+    ap (bits_in words k) none ∙ no_bit words k
+
+no_more : {A : Type 0} (xs : List A) → xs ++ [] ≡ xs
+no_more [] = refl
+no_more (x ∷ xs) = ap (λ ys. x ∷ ys) (no_more xs)
+
+bit_read : (word k : ℕ) → k < 64 → nat_eq (bit_and (word / 2 ^ k) 1) 1 ≡ is_set (word ∷ []) k
+bit_read word k below =
+    let first : k / 64 ≡ 0 = omega arith in
+    let same : k % 64 ≡ k = omega arith in
+    ap (λ b. nat_eq b 1) (shr_and_one word k) ∙ sym (λ t. nat_eq (bit_at (slice_index (word ∷ []) (first t)) (same t)) 1)
+
+-- a row by a bit of a word, and by offsets as they are stored
+pub row_by_word : {A : Type 0} (f : A → ℤ) (xs : List A) (os : List ℕ) (i k word : ℕ) (begin next from last : A) → map f xs ≡ map pos os → IsOffsets os → i + 1 < length os → k < 64 → begin ≡ get_or xs i begin → next ≡ get_or xs (i + 1) next → f from ≡ (if nat_eq (bit_and (word / 2 ^ k) 1) 1 then f begin else f next) → pos 0 ≤ℤ f last → IsRow (is_set (word ∷ []) k) os i (f from) (f next) (f last)
+row_by_word f xs os i k word begin next from last stored held within below here there is positive =
+    let bit = bit_read word k below in
+    let first = number_at f xs os i begin stored (omega arith) here in
+    let second = number_at f xs os (i + 1) next stored within there in
+    let rise = offsets_rise os i (i + 1) held (omega arith) within in
+    is_row (is_set (word ∷ []) k) os i (f from) (f begin) (f next) (f last) (is ∙ ap (λ b. if b then f begin else f next) bit) first second rise positive
+
+pub row_fits : (bit : Bool) (os : List ℕ) (i rest all greatest : ℕ) (from next last : ℤ) → IsRow bit os i from next last → unsigned_abs last + (valid_length bit os i + rest) ≡ all → all ≤ greatest → (last +ℤ (next -ℤ from)) ≤ℤ pos greatest
+row_fits bit os i rest all greatest from next last row total fits = omega (arith, ints, row.counted)
+
+pub total_next : (bit : Bool) (rest : List Bool) (os : List ℕ) (i j place next all : ℕ) → next ≡ place + valid_length bit os i → i + 1 ≡ j → place + valid_items (bit ∷ rest) os i ≡ all → next + valid_items rest os j ≡ all
+total_next bit rest os i j place next all is at total = omega (arith, ap (λ k. valid_items rest os k) at)
+
+pub ends_next : {A : Type 0} (f : A → ℤ) (xs new : List A) (x : A) (bit : Bool) (rest : List Bool) (os : List ℕ) (i j place next : ℕ) (all : List ℤ) → new ≡ xs ++ x ∷ [] → f x ≡ pos next → next ≡ place + valid_length bit os i → i + 1 ≡ j → map f xs ++ map pos (valid_ends place (bit ∷ rest) os i) ≡ all → map f new ++ map pos (valid_ends next rest os j) ≡ all
+ends_next f xs new x bit rest os i j place next all is value counted at same =
+    let behind = map pos (valid_ends next rest os j) in
+    let first : f x ≡ pos (place + valid_length bit os i) = value ∙ ap pos counted in
+    ap (λ zs. zs ++ behind) (ap (map f) is ∙ map-append f xs (x ∷ [])) ∙ (append_assoc (map f xs) (f x ∷ []) behind ∙ ((λ t. map f xs ++ (first t ∷ map pos (valid_ends (counted t) rest os (sym at t)))) ∙ same))
+
+pub ends_done : (xs all : List ℤ) (place : ℕ) (bits : List Bool) (os : List ℕ) (i : ℕ) → bits ≡ [] → xs ++ map pos (valid_ends place bits os i) ≡ all → xs ≡ all
+ends_done xs all place bits os i none same =
+    sym (no_more xs) ∙ (ap (λ bs. xs ++ map pos (valid_ends place bs os i)) (sym none) ∙ same)
+
+-- ---- a word more
+
+-- a part of some bits that are left, and the word of its first ones
+module _ (bits : List Bool) (place count end word : ℕ) (is : word ≡ word_of (sliced bits place count)) (within : place + count ≤ end) (inside : end ≤ length bits) (small : count ≤ 64) where
+  word_is : bits_in (word ∷ []) 0 count ≡ sliced bits place count
+  word_is =
+      word_bits (sliced bits place count) word count is (length-sliced bits place count (omega arith)) small
+
+  cut : sliced bits place (end - place) ≡ bits_in (word ∷ []) 0 count ++ sliced bits (place + count) (end - (place + count))
+  cut =
+      sliced-cut bits place count end within ∙ ap (λ first. first ++ sliced bits (place + count) (end - (place + count))) (sym word_is)
+
+  long : length (bits_in (word ∷ []) 0 count) ≡ count
+  long = ap length word_is ∙ length-sliced bits place count (omega arith)
+
+  pub word_items : (os : List ℕ) → valid_items (sliced bits place (end - place)) os place ≡ valid_items (bits_in (word ∷ []) 0 count) os place + valid_items (sliced bits (place + count) (end - (place + count))) os (place + count)
+  word_items os =
+      ap (λ xs. valid_items xs os place) cut ∙ (valid_items-append (bits_in (word ∷ []) 0 count) (sliced bits (place + count) (end - (place + count))) os place ∙ ap (λ n. valid_items (bits_in (word ∷ []) 0 count) os place + valid_items (sliced bits (place + count) (end - (place + count))) os (place + n)) long)
+
+  pub word_ends : (os : List ℕ) (xs new all : List ℤ) (first next : ℕ) → new ≡ xs ++ map pos (valid_ends first (bits_in (word ∷ []) 0 count) os place) → next ≡ first + valid_items (bits_in (word ∷ []) 0 count) os place → xs ++ map pos (valid_ends first (sliced bits place (end - place)) os place) ≡ all → new ++ map pos (valid_ends next (sliced bits (place + count) (end - (place + count))) os (place + count)) ≡ all
+  word_ends os xs new all first next more counted same =
+      let ys = bits_in (word ∷ []) 0 count in
+      let rest = sliced bits (place + count) (end - (place + count)) in
+      let behind = map pos (valid_ends next rest os (place + count)) in
+      let joined : valid_ends first ys os place ++ valid_ends next rest os (place + count) ≡ valid_ends first (sliced bits place (end - place)) os place =
+      (λ t. valid_ends first ys os place ++ valid_ends (counted t) rest os (place + sym long t)) ∙ (sym (valid_ends-append first ys rest os place) ∙ ap (λ bs. valid_ends first bs os place) (sym cut)) in
+      ap (λ zs. zs ++ behind) more ∙ (append_assoc xs (map pos (valid_ends first ys os place)) behind ∙ (ap (λ zs. xs ++ zs) (sym (map-append pos (valid_ends first ys os place) (valid_ends next rest os (place + count))) ∙ ap (map pos) joined) ∙ same))
+
+-- no more items than all rows from one up to another have
+pub part_within : (bits : List Bool) (os : List ℕ) (start len : ℕ) → IsOffsets os → start + len < length os → start + len ≤ length bits → valid_items (sliced bits start len) os start ≤ slice_index os (start + len) - slice_index os start
+part_within bits os start len held within covered =
+    let long = length-sliced bits start len covered in
+    let all = valid_items-within (sliced bits start len) os start held (omega arith) in
+    omega (arith, all, ap (λ n. slice_index os (start + n)) long)
