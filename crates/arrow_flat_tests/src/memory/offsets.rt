@@ -196,7 +196,14 @@ const VALID: [(&[bool], usize, usize, &[i32]); 7] = [
         &[false, true, false, true],
         0,
         2_147_483_645,
-        &[0, i32::MAX - 2, i32::MAX - 2, i32::MAX - 2, i32::MAX - 2, i32::MAX],
+        &[
+            0,
+            i32::MAX - 2,
+            i32::MAX - 2,
+            i32::MAX - 2,
+            i32::MAX - 2,
+            i32::MAX,
+        ],
     ),
     (&[false, true, false, true], 0, 2_147_483_646, &[]),
 ];
