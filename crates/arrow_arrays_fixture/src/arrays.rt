@@ -4,16 +4,16 @@ use arrow_arrays::array::{
     AnyArray, AnyKeys, AnyOffsetsBuffer, DictionaryArray, FixedSizeListArray, ListArray, MapArray,
     StructArray, UnionArray,
 };
-use arrow_fixture::arrays::{byte_rows, fixed_bytes, numbers, truths, validity_of};
-use arrow_fixture::read::read;
-use arrow_fixture::types::{extension, item, pair};
 use arrow_flat::array::{AnyPrimitive, Binary, NullArray, PrimitiveArray, Text};
+use arrow_flat_fixture::arrays::{byte_rows, fixed_bytes, numbers, truths, validity_of};
 use arrow_memory::bitmap::Bitmap;
 use arrow_memory::buffer::Buffer;
 use arrow_memory::offset::OffsetsBuffer;
 use arrow_types::datatypes::{DataType, IntegerType, PhysicalType, UnionMode};
 use arrow_types::error::Error;
 use arrow_types::types::{Offset, PrimitiveType};
+use arrow_types_fixture::read::read;
+use arrow_types_fixture::types::{extension, item, pair};
 use std::alloc::Global;
 
 /// What lists items: each letter as often as it comes after a, and in lists of a fixed size twice.

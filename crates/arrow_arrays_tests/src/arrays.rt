@@ -7,7 +7,7 @@ mod refused;
 mod rows;
 mod unions;
 
-use arrow_fixture::check_again;
+use arrow_types_fixture::check_again;
 
 #[test]
 fn rows_and_children(rt: HostRuntime) {

@@ -1,7 +1,7 @@
 //! What tests do with arrays that they lend or hand on.
 
 use arrow_arrays::array::AnyArray;
-use arrow_fixture::check;
+use arrow_types_fixture::check;
 use std::process::Abort;
 
 /// That two arrays are equal.

@@ -2,7 +2,7 @@
 
 use arrow_engine::engine::{RunFault, run, status};
 use arrow_engine::stream::{Fault, Sink, Source};
-use arrow_fixture::check;
+use arrow_types_fixture::check;
 use std::alloc::{AllocError, Global};
 use std::process::Abort;
 

@@ -6,7 +6,7 @@ mod nulls;
 mod numbers;
 mod scalars;
 
-use arrow_fixture::check_again;
+use arrow_types_fixture::check_again;
 
 #[test]
 fn flat_arrays(rt: HostRuntime) {

@@ -4,7 +4,6 @@ ghost use Rattle.std.specs.Prelude.{IfOk};
 ghost use Rattle.arrow_select.specs.Arrays.{IsFlat};
 
 use arrow_arrays::array::AnyArray;
-use arrow_fixture::{check, check_again};
 use arrow_flat::array::{AnyPrimitive, BooleanArray, PrimitiveArray};
 use arrow_memory::bitmap::Bitmap;
 use arrow_memory::buffer::Buffer;
@@ -12,6 +11,7 @@ use arrow_select::concatenate::concatenate;
 use arrow_select::filter::filter;
 use arrow_types::datatypes::DataType;
 use arrow_types::{ArgumentFault, Error};
+use arrow_types_fixture::{check, check_again};
 use std::alloc::Global;
 use std::process::Abort;
 

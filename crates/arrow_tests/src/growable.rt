@@ -3,7 +3,7 @@
 mod any;
 mod typed;
 
-use arrow_fixture::check_again;
+use arrow_types_fixture::check_again;
 
 #[test]
 fn growables(rt: HostRuntime) {

@@ -4,8 +4,8 @@ ghost use Rattle.std.specs.Prelude.{IsTrue};
 ghost use Rattle.arrow_select.specs.Arrays.{IsFlat};
 
 use arrow_arrays::array::AnyArray;
-use arrow_fixture::check;
 use arrow_types::datatypes::PhysicalType;
+use arrow_types_fixture::check;
 use std::process::Abort;
 
 /// That two arrays are equal.

@@ -6,8 +6,8 @@ mod window;
 
 use arrow_arrays::array::AnyArray;
 use arrow_arrays_fixture::arrays::{Shape, array_of};
-use arrow_fixture::{check, check_again};
 use arrow_types::error::Error;
+use arrow_types_fixture::{check, check_again};
 use std::alloc::Global;
 use std::process::Abort;
 

@@ -6,10 +6,10 @@ use arrow_arrays::array::{
     AnyArray, AnyOffsetsBuffer, FixedSizeListArray, ListArray, MapArray, StructArray,
 };
 use arrow_arrays_fixture::arrays::{ListKind, Shape, array_of, lists_of, make_structs};
-use arrow_fixture::check;
 use arrow_memory::bitmap::Bitmap;
 use arrow_types::datatypes::UnionMode;
 use arrow_types::error::Error;
+use arrow_types_fixture::check;
 use std::alloc::Global;
 use std::process::Abort;
 

@@ -2,14 +2,14 @@
 
 use arrow_arrays::array::{AnyKeys, DictionaryArray};
 use arrow_arrays_fixture::arrays::{Shape, flat};
-use arrow_fixture::arrays::marks_of;
-use arrow_fixture::check;
-use arrow_fixture::read::read;
-use arrow_fixture::types::refusal;
 use arrow_flat::array::PrimitiveArray;
+use arrow_flat_fixture::arrays::marks_of;
 use arrow_memory::buffer::Buffer;
 use arrow_types::datatypes::DataType;
 use arrow_types::error::{Error, SpecPart};
+use arrow_types_fixture::check;
+use arrow_types_fixture::read::read;
+use arrow_types_fixture::types::refusal;
 use std::alloc::Global;
 use std::process::Abort;
 

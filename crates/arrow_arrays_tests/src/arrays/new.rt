@@ -4,10 +4,10 @@ use crate::arrays::refused::check_refused;
 use crate::lent::check_same;
 use arrow_arrays::array::{AnyArray, new_empty_array, new_null_array};
 use arrow_arrays_fixture::arrays::{Shape, both, flat, make_union};
-use arrow_fixture::check;
-use arrow_fixture::read::read;
 use arrow_types::datatypes::DataType;
 use arrow_types::error::{Error, SpecPart};
+use arrow_types_fixture::check;
+use arrow_types_fixture::read::read;
 use std::alloc::Global;
 use std::process::Abort;
 

@@ -5,11 +5,11 @@ use arrow_arrays_fixture::arrays::{
     ListKind, Shape, array_of, both, flat, list_type, make_lists, make_structs, make_union,
     pair_type, struct_of,
 };
-use arrow_fixture::arrays::validity_of;
-use arrow_fixture::check;
-use arrow_fixture::types::refusal;
+use arrow_flat_fixture::arrays::validity_of;
 use arrow_types::datatypes::{DataType, UnionMode};
 use arrow_types::error::{Error, SpecPart};
+use arrow_types_fixture::check;
+use arrow_types_fixture::types::refusal;
 use std::alloc::Global;
 use std::process::Abort;
 

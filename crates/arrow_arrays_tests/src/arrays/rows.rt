@@ -3,11 +3,11 @@
 use crate::lent::from_row;
 use arrow_arrays::array::AnyArray;
 use arrow_arrays_fixture::arrays::{SHAPES, Shape, array_of, flat};
-use arrow_fixture::arrays::EQUAL;
-use arrow_fixture::check;
+use arrow_flat_fixture::arrays::EQUAL;
 use arrow_types::datatypes::{DataType, PhysicalType};
 use arrow_types::error::Error;
 use arrow_types::laws::{equals_both_ways, equals_itself, equals_through};
+use arrow_types_fixture::check;
 use std::alloc::Global;
 use std::process::Abort;
 

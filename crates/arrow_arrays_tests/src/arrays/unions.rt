@@ -3,10 +3,10 @@
 use crate::lent::from_row;
 use arrow_arrays::array::AnyArray;
 use arrow_arrays_fixture::arrays::{Shape, both, flat, make_union, pair_type};
-use arrow_fixture::check;
-use arrow_fixture::types::refusal;
 use arrow_types::datatypes::{DataType, UnionMode};
 use arrow_types::error::{Error, SpecPart};
+use arrow_types_fixture::check;
+use arrow_types_fixture::types::refusal;
 use std::alloc::Global;
 use std::process::Abort;
 

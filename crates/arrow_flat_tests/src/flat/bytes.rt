@@ -1,14 +1,14 @@
 //! Arrays of texts and of bytes, under offsets and in rows of a size.
 
-use arrow_fixture::arrays::marks_of;
-use arrow_fixture::check;
-use arrow_fixture::types::refusal;
 use arrow_flat::array::{Binary, ByteKind, ByteRows, FixedSizeBinaryArray, FlatArray, Text};
+use arrow_flat_fixture::arrays::marks_of;
 use arrow_memory::buffer::Buffer;
 use arrow_memory::offset::OffsetsBuffer;
 use arrow_types::datatypes::DataType;
 use arrow_types::error::{Error, SpecPart};
 use arrow_types::types::Offset;
+use arrow_types_fixture::check;
+use arrow_types_fixture::types::refusal;
 use std::alloc::Global;
 use std::process::Abort;
 

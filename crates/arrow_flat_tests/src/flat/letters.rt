@@ -2,18 +2,18 @@
 //!
 //! Rows are letters. A capital is a null, and beneath it the small letter is stored.
 
-use arrow_fixture::arrays::{EQUAL, byte_rows, fixed_bytes, numbers, truths, validity_of};
-use arrow_fixture::check;
-use arrow_fixture::types::{extension, refusal};
 use arrow_flat::array::{
     Binary, BooleanArray, ByteKind, ByteRows, FixedRows, FixedSizeBinaryArray, FlatArray,
     PrimitiveArray, Text, Values,
 };
+use arrow_flat_fixture::arrays::{EQUAL, byte_rows, fixed_bytes, numbers, truths, validity_of};
 use arrow_memory::bitmap::Bitmap;
 use arrow_memory::buffer::Buffer;
 use arrow_types::datatypes::DataType;
 use arrow_types::error::{Error, SpecPart};
 use arrow_types::types::Offset;
+use arrow_types_fixture::check;
+use arrow_types_fixture::types::{extension, refusal};
 use std::alloc::Global;
 use std::process::Abort;
 

@@ -1,10 +1,10 @@
 //! Arrays of the null type.
 
-use arrow_fixture::check;
-use arrow_fixture::types::{extension, refusal};
 use arrow_flat::array::NullArray;
 use arrow_types::datatypes::DataType;
 use arrow_types::error::{Error, SpecPart};
+use arrow_types_fixture::check;
+use arrow_types_fixture::types::{extension, refusal};
 use std::alloc::Global;
 use std::process::Abort;
 

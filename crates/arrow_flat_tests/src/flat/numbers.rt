@@ -1,15 +1,15 @@
 //! Arrays and scalars of numbers and intervals, of any element type.
 
 use crate::flat::scalars::check_scalar;
-use arrow_fixture::arrays::numbers;
-use arrow_fixture::check;
 use arrow_flat::array::{AnyPrimitive, PrimitiveArray};
 use arrow_flat::scalar::{AnyPrimitiveScalar, AnyScalar, PrimitiveScalar};
+use arrow_flat_fixture::arrays::numbers;
 use arrow_memory::bitmap::Bitmap;
 use arrow_memory::buffer::Buffer;
 use arrow_types::datatypes::{DataType, IntervalUnit, TimeUnit};
 use arrow_types::error::{Error, SpecPart};
 use arrow_types::types::{NativeType, days_ms, i256, months_days_ns};
+use arrow_types_fixture::check;
 use std::alloc::Global;
 use std::process::Abort;
 

@@ -1,10 +1,10 @@
 //! Scalars: truth values, texts, bytes, and entries of dictionaries.
 
-use arrow_fixture::check;
-use arrow_fixture::read::read;
 use arrow_flat::scalar::{AnyScalar, BinaryScalar, BooleanScalar, DictionaryScalar, Utf8Scalar};
 use arrow_types::datatypes::DataType;
 use arrow_types::error::{Error, SpecPart};
+use arrow_types_fixture::check;
+use arrow_types_fixture::read::read;
 use std::alloc::Global;
 use std::process::Abort;
 

@@ -8,10 +8,10 @@ ghost use Rattle.arrow_select.specs.Arrays.{IsFlat};
 use crate::lent::{from_row, is_flat};
 use arrow_arrays::array::{AnyArray, new_null_array};
 use arrow_arrays_fixture::arrays::{FLATS, Shape, array_of};
-use arrow_fixture::check;
 use arrow_growable::growable::{AnyGrowable, Growable, make_growable};
 use arrow_types::datatypes::{DataType, IntervalUnit};
 use arrow_types::error::Error;
+use arrow_types_fixture::check;
 use std::alloc::Global;
 use std::process::Abort;
 

@@ -8,7 +8,6 @@ ghost use Rattle.arrow_flat.specs.Parts.{rows_by};
 use crate::lent::{check_same, from_row};
 use arrow_arrays::array::{AnyArray, AnyOffset};
 use arrow_arrays_fixture::arrays::{Shape, array_of};
-use arrow_fixture::check;
 use arrow_flat::array::{
     AnyElement, AnyPrimitive, ByteKind, ByteRows, FlatArray, NullArray, PrimitiveArray,
 };
@@ -19,6 +18,7 @@ use arrow_growable::growable::{
 use arrow_types::datatypes::DataType;
 use arrow_types::error::Error;
 use arrow_types::types::Offset;
+use arrow_types_fixture::check;
 use std::alloc::Global;
 use std::process::Abort;
 

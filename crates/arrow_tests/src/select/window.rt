@@ -4,11 +4,11 @@ use crate::lent::{from_row, is_flat};
 use crate::select::check_answer;
 use arrow_arrays::array::AnyArray;
 use arrow_arrays_fixture::arrays::{FLATS, Shape, array_of};
-use arrow_fixture::check;
 use arrow_flat::array::NullArray;
 use arrow_select::window::shift;
 use arrow_types::datatypes::DataType;
 use arrow_types::error::{ArgumentFault, Error};
+use arrow_types_fixture::check;
 use std::alloc::Global;
 use std::process::Abort;
 

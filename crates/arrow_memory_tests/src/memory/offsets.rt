@@ -1,10 +1,10 @@
 //! Offsets: which numbers are taken, where rows lie, and rows appended up to the greatest offset.
 
-use arrow_fixture::check;
 use arrow_memory::bitmap::Bitmap;
 use arrow_memory::offset::{Offsets, OffsetsBuffer};
 use arrow_types::error::{Error, SpecPart};
 use arrow_types::types::Offset;
+use arrow_types_fixture::check;
 use std::alloc::Global;
 use std::process::Abort;
 

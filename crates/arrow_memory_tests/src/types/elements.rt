@@ -4,7 +4,6 @@ ghost use Rattle.std.specs.Prelude.{◌≡◌, ◌↔◌, ◌≤ℤ◌, IsTrue};
 ghost use Rattle.arrow_types.specs.Relation.{related, eq};
 ghost use Rattle.arrow_types.specs.Slot.{Boolean};
 
-use arrow_fixture::check;
 use arrow_types::datatypes::IntegerType;
 use arrow_types::laws::{
     equal_is_same, index_of_number, key_of_number, number_of_index, offset_of_number, order_agrees,
@@ -14,6 +13,7 @@ use arrow_types::types::{
     DictionaryKey, Index, NativeOrd, NativeType, Offset, PrimitiveType, days_ms, i256,
     months_days_ns,
 };
+use arrow_types_fixture::check;
 use std::fmt::Debug;
 use std::process::Abort;
 

@@ -1,8 +1,8 @@
 //! Bitmaps at each bit offset: slices, logic by words, and bits appended behind others.
 
-use arrow_fixture::check;
 use arrow_memory::bitmap::{Bitmap, MutableBitmap};
 use arrow_types::error::Error;
+use arrow_types_fixture::check;
 use std::alloc::Global;
 use std::process::Abort;
 

@@ -4,7 +4,7 @@ mod datatypes;
 mod elements;
 mod errors;
 
-use arrow_fixture::check_again;
+use arrow_types_fixture::check_again;
 
 #[test]
 fn data_types(rt: HostRuntime) {

@@ -4,7 +4,7 @@ mod bitmaps;
 mod buffers;
 mod offsets;
 
-use arrow_fixture::check_again;
+use arrow_types_fixture::check_again;
 
 #[test]
 fn bits_values_and_offsets(rt: HostRuntime) {

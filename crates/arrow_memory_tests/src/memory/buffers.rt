@@ -1,8 +1,8 @@
 //! Buffers, and slices that share their values.
 
-use arrow_fixture::check;
 use arrow_memory::buffer::Buffer;
 use arrow_types::error::Error;
+use arrow_types_fixture::check;
 use std::alloc::Global;
 use std::process::Abort;
 

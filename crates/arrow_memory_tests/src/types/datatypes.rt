@@ -1,11 +1,11 @@
 //! Data types and fields.
 
-use arrow_fixture::check;
-use arrow_fixture::read::read;
-use arrow_fixture::types::child;
 use arrow_types::datatypes::{DataType, Field, IntegerType, PhysicalType};
 use arrow_types::error::Error;
 use arrow_types::types::PrimitiveType;
+use arrow_types_fixture::check;
+use arrow_types_fixture::read::read;
+use arrow_types_fixture::types::child;
 use std::alloc::Global;
 use std::process::Abort;
 

@@ -1,7 +1,6 @@
-//! What tests are made of: data types by words, and flat arrays by the letters of their rows.
+//! What tests are made of: facts that are asserted, and data types by words.
 #![tactic(auto)]
 
-pub mod arrays;
 pub mod read;
 pub mod types;
 

@@ -1,7 +1,7 @@
 //! The texts of errors, and refused memory.
 
-use arrow_fixture::check;
 use arrow_types::error::{ArgumentFault, Error, SpecPart, Unsupported};
+use arrow_types_fixture::check;
 use std::alloc::{AllocError, AllocFailed};
 use std::fmt::InlineText;
 
