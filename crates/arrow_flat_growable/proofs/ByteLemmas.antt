@@ -1,11 +1,10 @@
 -- Rows of bytes that come behind others.
-use Rattle.std.proofs.Common.{arith, ◌≡◌, ◌+◌, ◌-◌, ◌<◌, ◌≤◌, ℕ, zero, suc, pos, Bool, true, false, not, List, [], ◌∷◌, ◌++◌, length, map, replicate, take, drop, slice_index, if◌then◌else◌, refl, ap, sym, subst, ◌∙◌}
-use Rattle.std.specs.Prelude.{Result, Ok, Err, OnOk, OnErr, Some, slice_get}
-use Rattle.std.specs.Bool.{beq}
+use Rattle.std.proofs.Common.{arith, ◌≡◌, ◌+◌, ◌-◌, ◌<◌, ◌≤◌, ℕ, zero, suc, pos, true, List, [], ◌∷◌, ◌++◌, length, map, replicate, take, drop, slice_index, refl, ap, sym, subst, ◌∙◌}
+use Rattle.std.specs.Prelude.{Result, Ok, Err, OnOk, OnErr}
 use Rattle.std.specs.List.{All}
 use Rattle.std.proofs.Math.Seq.{drop-append-add, take-add}
 use Rattle.std.proofs.lemmas.Int.{ints}
-use Rattle.std.proofs.lemmas.List.{length-map, length-drop, length-append, length-replicate, append_assoc, drop-drop, take-append-le, drop-append-le, get_or-take, get_or-drop, get_or-replicate}
+use Rattle.std.proofs.lemmas.List.{length-map, length-drop, length-append, length-replicate, drop-drop, take-append-le, drop-append-le, get_or-take, get_or-drop, get_or-replicate}
 use Rattle.std.proofs.lemmas.List.Sums.{sum_by-append, sum_by-cons}
 use Rattle.std.proofs.lemmas.List.Elements.{All-append, All-take, All-drop}
 use Rattle.arrow_memory.specs.Offsets.{IsOffsets, RisesFrom, last_of, with_rows, counted_on}
@@ -19,12 +18,12 @@ use Rattle.arrow_flat_growable.specs.Bytes.{AreGrownBytes, filled, total}
 
 -- the last of some offsets
 
-last_behind : (n m : ℕ) (os : List ℕ) → last_of (n ∷ m ∷ os) ≡ last_of (m ∷ os)
+pub last_behind : (n m : ℕ) (os : List ℕ) → last_of (n ∷ m ∷ os) ≡ last_of (m ∷ os)
 last_behind n m os =
     let last : length (n ∷ m ∷ os) - 1 ≡ suc (length (m ∷ os) - 1) = omega arith in
     ap (λ i. slice_index (n ∷ m ∷ os) i) last
 
-last_more : (n : ℕ) (os more : List ℕ) → last_of (n ∷ os ++ more) ≡ last_of (last_of (n ∷ os) ∷ more)
+pub last_more : (n : ℕ) (os more : List ℕ) → last_of (n ∷ os ++ more) ≡ last_of (last_of (n ∷ os) ∷ more)
 last_more n [] more = refl
 last_more n (m ∷ os) more =
     last_behind n m (os ++ more) ∙ (last_more m os more ∙ ap (λ l. last_of (l ∷ more)) (sym (last_behind n m os)))
@@ -35,13 +34,13 @@ last_same n (suc k) = last_behind n n (replicate k n) ∙ last_same n k
 
 -- rows that come behind others
 
-pieces-more : (n : ℕ) (os more xs : List ℕ) → pieces_from n (os ++ more) xs ≡ pieces_from n os xs ++ pieces_from (last_of (n ∷ os)) more xs
+pub pieces-more : (n : ℕ) (os more xs : List ℕ) → pieces_from n (os ++ more) xs ≡ pieces_from n os xs ++ pieces_from (last_of (n ∷ os)) more xs
 pieces-more n [] more xs = refl
 pieces-more n (m ∷ os) more xs =
     ap (λ rows. sliced xs n (m - n) ∷ rows) (pieces-more m os more xs ∙ ap (λ l. pieces_from m os xs ++ pieces_from l more xs) (sym (last_behind n m os)))
 
 -- more bytes change no row before them
-pieces-within : (n : ℕ) (os xs ys : List ℕ) → n ≤ length xs → ((j : ℕ) → j < length os → slice_index os j ≤ length xs) → pieces_from n os (xs ++ ys) ≡ pieces_from n os xs
+pub pieces-within : (n : ℕ) (os xs ys : List ℕ) → n ≤ length xs → ((j : ℕ) → j < length os → slice_index os j ≤ length xs) → pieces_from n os (xs ++ ys) ≡ pieces_from n os xs
 pieces-within n [] xs ys low high = refl
 pieces-within n (m ∷ os) xs ys low high =
     let end : m ≤ length xs = high 0 (omega arith) in
@@ -101,7 +100,7 @@ same_begin (n ∷ os) more held = refl
 
 -- rows of others behind one's own
 
-part_cut : (os : List ℕ) (start len : ℕ) → start < length os → sliced os start (len + 1) ≡ slice_index os start ∷ sliced os (start + 1) len
+pub part_cut : (os : List ℕ) (start len : ℕ) → start < length os → sliced os start (len + 1) ≡ slice_index os start ∷ sliced os (start + 1) len
 part_cut [] start len within = absurd (omega (arith, within))
 part_cut (n ∷ os) zero len within =
     let next : len + 1 ≡ suc len = omega arith in
@@ -140,7 +139,7 @@ module _ (others values : List ℕ) (start len : ℕ) (held : IsOffsets others) 
       let same : total (pieces (sliced others start (len + 1)) values) ≡ total (sliced (pieces others values) start len) = ap total (pieces-sliced others values start len) in
       omega (arith, all, same, begins, part_last)
 
-  part_rows : pieces_from (slice_index others start) (sliced others (start + 1) len) values ≡ sliced (pieces others values) start len
+  pub part_rows : pieces_from (slice_index others start) (sliced others (start + 1) len) values ≡ sliced (pieces others values) start len
   part_rows =
       ap (λ os. pieces os values) (sym (part_cut others start len (omega (arith, part)))) ∙ pieces-sliced others values start len
 
@@ -230,49 +229,7 @@ module _ (Allows : List ℕ → Type 0) (os bytes : List ℕ) (grown : AreGrownB
           rows = subst (All Allows) (sym ((λ i. pieces (is.0 i) (is.1 i)) ∙ moved)) (All-append Allows (pieces os bytes) (sliced (pieces others values) start len) grown.rows (All-take Allows len _ (All-drop Allows start _ allowed)));
         }
 
--- runs of bits
-
-pub same_bit : (a b : Bool) → not (beq a b) ≡ false → a ≡ b
-same_bit true true is = refl
-same_bit true false is = cc
-same_bit false true is = cc
-same_bit false false is = refl
-
-pub run_next : (bits : List Bool) (n : ℕ) (b : Bool) → take n bits ≡ replicate n b → slice_get bits n ≡ Some b → take (n + 1) bits ≡ replicate (n + 1) b
-run_next [] n b same read = cc
-run_next (x ∷ bits) zero b same read =
-    let is : x ≡ b = cc in
-    ap (λ y. y ∷ []) is
-run_next (x ∷ bits) (suc n) b same read =
-    let next : suc n + 1 ≡ suc (n + 1) = omega arith in
-    let head : x ≡ b = cc (same) in
-    let tail : take n bits ≡ replicate n b = ap (drop 1) same in
-    rw next (λ i. head i ∷ run_next bits n b tail read i)
-
-pub get_dropped : (bits : List Bool) (start n : ℕ) → slice_get (drop start bits) n ≡ slice_get bits (start + n)
-get_dropped bits zero n =
-    let same : zero + n ≡ n = omega arith in
-    rw same refl
-get_dropped [] (suc start) n = refl
-get_dropped (x ∷ bits) (suc start) n =
-    let next : suc start + n ≡ suc (start + n) = omega arith in
-    rw next (get_dropped bits start n)
-
--- bits that are one from a place up to another, and the bit there
-pub run_more : (bits : List Bool) (start place : ℕ) (b : Bool) → start ≤ place → sliced bits start (place - start) ≡ replicate (place - start) b → slice_get bits place ≡ Some b → sliced bits start (place + 1 - start) ≡ replicate (place + 1 - start) b
-run_more bits start place b order same read =
-    let at : start + (place - start) ≡ place = omega (arith, order) in
-    let next : place + 1 - start ≡ place - start + 1 = omega (arith, order) in
-    rw next (run_next (drop start bits) (place - start) b same (get_dropped bits start (place - start) ∙ (ap (slice_get bits) at ∙ read)))
-
 -- rows under their bits
-
-filled-append : (bits more : List Bool) (rows others : List (List ℕ)) → length bits ≡ length rows → filled (bits ++ more) (rows ++ others) ≡ filled bits rows ++ filled more others
-filled-append [] more [] others same = refl
-filled-append [] more (row ∷ rows) others same = absurd (omega (arith, same))
-filled-append (b ∷ bits) more [] others same = absurd (omega (arith, same))
-filled-append (b ∷ bits) more (row ∷ rows) others same =
-    ap (λ ys. (if b then row else []) ∷ ys) (filled-append bits more rows others (omega (arith, same)))
 
 filled-set : (n : ℕ) (rows : List (List ℕ)) → length rows ≡ n → filled (replicate n true) rows ≡ rows
 filled-set zero [] same = refl
@@ -280,47 +237,13 @@ filled-set zero (row ∷ rows) same = absurd (omega (arith, same))
 filled-set (suc n) [] same = absurd (omega (arith, same))
 filled-set (suc n) (row ∷ rows) same = ap (λ ys. row ∷ ys) (filled-set n rows (omega (arith, same)))
 
-filled-unset : (n : ℕ) (rows : List (List ℕ)) → length rows ≡ n → filled (replicate n false) rows ≡ replicate n []
-filled-unset zero [] same = refl
-filled-unset zero (row ∷ rows) same = absurd (omega (arith, same))
-filled-unset (suc n) [] same = absurd (omega (arith, same))
-filled-unset (suc n) (row ∷ rows) same = ap (λ ys. [] ∷ ys) (filled-unset n rows (omega (arith, same)))
+-- rows that are all valid
+pub all_set : (rows : List (List ℕ)) (start len : ℕ) → start + len ≤ length rows → filled (replicate len true) (sliced rows start len) ≡ sliced rows start len
+all_set rows start len within = filled-set len (sliced rows start len) (length-sliced rows start len within)
 
-pub run_set : (b : Bool) (rows : List (List ℕ)) (start len : ℕ) → b ≡ true → start + len ≤ length rows → filled (replicate len b) (sliced rows start len) ≡ sliced rows start len
-run_set b rows start len is within =
-    ap (λ c. filled (replicate len c) (sliced rows start len)) is ∙ filled-set len (sliced rows start len) (length-sliced rows start len within)
-
-pub run_unset : (b : Bool) (rows : List (List ℕ)) (start len : ℕ) → b ≡ false → start + len ≤ length rows → filled (replicate len b) (sliced rows start len) ≡ replicate len []
-run_unset b rows start len is within =
-    ap (λ c. filled (replicate len c) (sliced rows start len)) is ∙ filled-unset len (sliced rows start len) (length-sliced rows start len within)
-
-sliced-cut : {A : Type 0} (xs : List A) (start place end : ℕ) → start ≤ place → place ≤ end → sliced xs start (place - start) ++ sliced xs place (end - place) ≡ sliced xs start (end - start)
+pub sliced-cut : {A : Type 0} (xs : List A) (start place end : ℕ) → start ≤ place → place ≤ end → sliced xs start (place - start) ++ sliced xs place (end - place) ≡ sliced xs start (end - start)
 sliced-cut xs start place end low high =
     let at : start + (place - start) ≡ place = omega (arith, low) in
     let all : end - start ≡ place - start + (end - place) = omega (arith, low, high) in
     let behind : drop (place - start) (drop start xs) ≡ drop place xs = drop-drop (place - start) start xs ∙ ap (λ n. drop n xs) at in
     rw all (sym (take-add (place - start) (end - place) (drop start xs) ∙ ap (λ ys. take (place - start) (drop start xs) ++ take (end - place) ys) behind))
-
-module _ (bits : List Bool) (rows : List (List ℕ)) (start : ℕ) (covered : length bits ≡ length rows) where
-  filled-cut : (place end : ℕ) → start ≤ place → place ≤ end → end ≤ length bits → filled (sliced bits start (place - start)) (sliced rows start (place - start)) ++ filled (sliced bits place (end - place)) (sliced rows place (end - place)) ≡ filled (sliced bits start (end - start)) (sliced rows start (end - start))
-  filled-cut place end low high within =
-      let bits_long = length-sliced bits start (place - start) (omega (arith, low, high, within)) in
-      let rows_long = length-sliced rows start (place - start) (omega (arith, low, high, within, covered)) in
-      sym (filled-append (sliced bits start (place - start)) (sliced bits place (end - place)) (sliced rows start (place - start)) (sliced rows place (end - place)) (bits_long ∙ sym rows_long)) ∙ (λ i. filled (sliced-cut bits start place end low high i) (sliced-cut rows start place end low high i))
-
-  -- one run more
-  pub runs_more : (old now new : List (List ℕ)) (place next : ℕ) (b : Bool) → start ≤ place → place < next → next ≤ length bits → sliced bits place (next - place) ≡ replicate (next - place) b → now ≡ old ++ filled (sliced bits start (place - start)) (sliced rows start (place - start)) → new ≡ now ++ filled (replicate (next - place) b) (sliced rows place (next - place)) → new ≡ old ++ filled (sliced bits start (next - start)) (sliced rows start (next - start))
-  runs_more old now new place next b low high within run before after =
-      let done = filled (sliced bits start (place - start)) (sliced rows start (place - start)) in
-      after ∙ ((λ i. before i ++ filled (sym run i) (sliced rows place (next - place))) ∙ (append_assoc old done (filled (sliced bits place (next - place)) (sliced rows place (next - place))) ∙ ap (λ ys. old ++ ys) (filled-cut place next low (omega (arith, high)) within)))
-
-  -- and what has too many bytes then has too many at the end
-  pub runs_pass : (greatest : ℕ) (old now : List (List ℕ)) (place next end : ℕ) (b : Bool) → start ≤ place → place < next → next ≤ end → end ≤ length bits → sliced bits place (next - place) ≡ replicate (next - place) b → now ≡ old ++ filled (sliced bits start (place - start)) (sliced rows start (place - start)) → greatest < total (now ++ filled (replicate (next - place) b) (sliced rows place (next - place))) → greatest < total (old ++ filled (sliced bits start (end - start)) (sliced rows start (end - start)))
-  runs_pass greatest old now place next end b low high order within run before passes =
-      let new = now ++ filled (replicate (next - place) b) (sliced rows place (next - place)) in
-      let part = filled (sliced bits start (next - start)) (sliced rows start (next - start)) in
-      let rest = filled (sliced bits next (end - next)) (sliced rows next (end - next)) in
-      let is : new ≡ old ++ part = runs_more old now new place next b low high (omega (arith, order, within)) run before refl in
-      let all : total (part ++ rest) ≡ total (filled (sliced bits start (end - start)) (sliced rows start (end - start))) = ap total (filled-cut next end (omega (arith, low, high)) order within) in
-      let seen : total new ≡ total (old ++ part) = ap total is in
-      omega (arith, passes, seen, all, sum_by-append length old part, sum_by-append length part rest, sum_by-append length old (filled (sliced bits start (end - start)) (sliced rows start (end - start))))

@@ -6,4 +6,5 @@ pub mod MaskLemmas
 pub mod NullLemmas
 pub mod ResultLemmas
 pub mod StoreLemmas
+pub mod ValidRowLemmas
 pub mod ValidityLemmas

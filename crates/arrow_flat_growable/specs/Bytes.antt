@@ -1,5 +1,5 @@
 -- Rows of bytes that grow: what is stored where a row is null, and which layouts they have ("Variable-size Binary Layout").
-use Rattle.std.specs.Prelude.{ℕ, ◌≡◌, Bool, true, false, List, [], ◌∷◌, Option, length, sum_by, slice_index, if◌then◌else◌}
+use Rattle.std.specs.Prelude.{ℕ, ◌≡◌, ◌+◌, ◌-◌, ◌++◌, Bool, true, false, List, [], ◌∷◌, Option, length, sum_by, slice_index, if◌then◌else◌}
 use Rattle.std.specs.List.{All}
 use Rattle.arrow_types.specs.declared.datatypes.physical_type.PhysicalType.{PhysicalType}
 use Rattle.arrow_types.specs.declared.datatypes.physical_type.PhysicalType.TheVariants as physical
@@ -19,6 +19,16 @@ filled _ _ = []
 -- what is stored of a part of an array: a null row has no bytes
 abbrev pub stored_rows : Option (List Bool) → ByteParts → ℕ → ℕ → List (List ℕ)
 stored_rows v xs start len = filled (bits_of_slice v start len) (sliced (row_bytes xs) start len)
+
+-- the bytes of the rows from row i on, one for each bit, whose bit is set
+abbrev pub valid_bytes : List Bool → List ℕ → List ℕ → ℕ → List ℕ
+valid_bytes [] offsets xs i = []
+valid_bytes (bit ∷ bits) offsets xs i =
+    (if bit then sliced xs (slice_index offsets i) (slice_index offsets (i + 1) - slice_index offsets i) else []) ++ valid_bytes bits offsets xs (i + 1)
+
+-- bytes that begin with others
+abbrev pub BeginsWith : List ℕ → List ℕ → Type 0
+BeginsWith old new = (more : List ℕ) × (new ≡ old ++ more)
 
 -- the bytes of all rows together
 abbrev pub total : List (List ℕ) → ℕ

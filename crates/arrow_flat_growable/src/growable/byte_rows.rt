@@ -6,11 +6,11 @@ ghost use Rattle.arrow_types.specs.declared.error.Error.{Error};
 ghost use Rattle.arrow_types.specs.Fits.{byte_count};
 ghost use Rattle.arrow_types.specs.Physical.{physical_type_of};
 ghost use Rattle.arrow_memory.specs.Grown.{IsGrowthError};
-ghost use Rattle.arrow_memory.specs.Offsets.{IsOffsets, last_of, with_rows};
+ghost use Rattle.arrow_memory.specs.Offsets.{IsOffsets, last_of, valid_items, with_rows, with_valid_rows};
 ghost use Rattle.arrow_memory.specs.Sliced.{sliced};
 ghost use Rattle.arrow_flat.specs.ByteRows.{byte_slots, row_bytes};
 ghost use Rattle.arrow_flat.specs.Pieces.{pieces};
-ghost use Rattle.arrow_flat_growable.specs.Bytes.{IsBytesType, SparesBytes, filled, stored_rows, total};
+ghost use Rattle.arrow_flat_growable.specs.Bytes.{BeginsWith, IsBytesType, SparesBytes, filled, stored_rows, total, valid_bytes};
 
 use crate::growable::flat::GrowableValues;
 use arrow_arrays::array::{AnyArray, AnyOffset, AnyRows};
@@ -106,49 +106,31 @@ impl<O: Offset, K: GrowableKind> GrowableBytes<O, K> {
         copy_rows(&mut self.offsets, &mut self.bytes, rows, values, start, len)
     }
 
-    /// Appends a run of rows of an array that are all valid or all null.
-    fn append_run(
+    /// Appends rows of an array under its validity: those that are null without bytes.
+    fn append_valid(
         &mut self,
         array: &FlatArray<ByteRows<O, K>>,
-        is_valid: bool,
+        validity: &Bitmap,
         start: usize,
         len: usize,
     ) -> Result<(), Error>
         requires some { 0 < len }
         requires part { start + len ≤ length (row_bytes array.now.values) }
-        ensures ok { OnOk result (row_bytes self.new ≡ row_bytes self.old ++ filled (replicate len is_valid) (sliced (row_bytes array.now.values) start len)) }
-        ensures overflow { result ≡ Err Error.Overflow → O.greatest < total (row_bytes self.old ++ filled (replicate len is_valid) (sliced (row_bytes array.now.values) start len)) }
+        requires covered { start + len ≤ length validity.now }
+        ensures ok { OnOk result (row_bytes self.new ≡ row_bytes self.old ++ filled (sliced validity.now start len) (sliced (row_bytes array.now.values) start len)) }
+        ensures overflow { result ≡ Err Error.Overflow → O.greatest < total (row_bytes self.old ++ filled (sliced validity.now start len) (sliced (row_bytes array.now.values) start len)) }
         ensures others { IfErr result IsGrowthError }
     {
-        if is_valid {
-            self.append_all(array, start, len)
-        } else {
-            self.append_empty(len)
-        }
-    }
-
-    /// Appends rows of an array under its validity, a run at a time.
-    fn append_runs(
-        &mut self,
-        array: &FlatArray<ByteRows<O, K>>,
-        validity: &Bitmap,
-        start: usize,
-        end: usize,
-    ) -> Result<(), Error>
-        requires order { start ≤ end }
-        requires covered { length validity.now ≡ length (row_bytes array.now.values) }
-        requires part { end ≤ length validity.now }
-        ensures ok { OnOk result (row_bytes self.new ≡ row_bytes self.old ++ filled (sliced validity.now start (end - start)) (sliced (row_bytes array.now.values) start (end - start))) }
-        ensures overflow { result ≡ Err Error.Overflow → O.greatest < total (row_bytes self.old ++ filled (sliced validity.now start (end - start)) (sliced (row_bytes array.now.values) start (end - start))) }
-        ensures others { IfErr result IsGrowthError }
-    {
-        let mut row = start;
-        while row < end {
-            let (is_valid, next) = validity.run_at(row, end);
-            self.append_run(array, is_valid, row, next - row)?;
-            row = next;
-        }
-        Ok(())
+        let (rows, values) = parts(array);
+        copy_valid_rows(
+            &mut self.offsets,
+            &mut self.bytes,
+            rows,
+            values,
+            validity,
+            start,
+            len,
+        )
     }
 
     /// Appends rows of an array, those that are null without bytes.
@@ -168,8 +150,8 @@ impl<O: Offset, K: GrowableKind> GrowableBytes<O, K> {
         }
         prove!(len <= array.len());
         match array.validity() {
-            None => self.append_run(array, true, start, len),
-            Some(validity) => self.append_runs(array, validity, start, start + len),
+            None => self.append_all(array, start, len),
+            Some(validity) => self.append_valid(array, validity, start, len),
         }
     }
 }
@@ -226,6 +208,110 @@ fn copy_rows<O: Offset>(
     let Ok(()) = bytes.extend_from_slice(part) else {
         unreachable!();
     };
+    Ok(())
+}
+
+/// Appends rows that others name in their bytes, without bytes where their bit is not set. Where that is
+/// refused, all is as before.
+fn copy_valid_rows<O: Offset>(
+    offsets: &mut Offsets<O>,
+    bytes: &mut Vec<u8>,
+    rows: &OffsetsBuffer<O>,
+    values: &[u8],
+    validity: &Bitmap,
+    start: usize,
+    len: usize,
+) -> Result<(), Error>
+    requires part { start + len < length rows.now }
+    requires covered { start + len ≤ length validity.now }
+    requires within { last_of rows.now ≤ length values.now }
+    ensures sound { IsOffsets offsets.old }
+    ensures rows_sound { IsOffsets rows.now }
+    ensures ok { OnOk result ((offsets.new ≡ with_valid_rows offsets.old (sliced validity.now start len) rows.now start) × (bytes.new.items ≡ bytes.old.items ++ valid_bytes (sliced validity.now start len) rows.now values.now start)) }
+    ensures overflow { result ≡ Err Error.Overflow → O.greatest < last_of offsets.old + valid_items (sliced validity.now start len) rows.now start }
+    ensures others { IfErr result IsGrowthError }
+    ensures unchanged { OnErr result ((offsets.new ≡ offsets.old) × (bytes.new.items ≡ bytes.old.items)) }
+{
+    prove!(0 < offsets.len());
+    prove!(start < rows.len());
+    let done = bytes.len();
+    let copied = append_valid_rows(offsets, bytes, rows, values, validity, start, len);
+    if copied.is_err() {
+        bytes.truncate(done);
+    }
+    copied
+}
+
+/// The same, but that some bytes may be there where it is refused.
+fn append_valid_rows<O: Offset>(
+    offsets: &mut Offsets<O>,
+    bytes: &mut Vec<u8>,
+    rows: &OffsetsBuffer<O>,
+    values: &[u8],
+    validity: &Bitmap,
+    start: usize,
+    len: usize,
+) -> Result<(), Error>
+    requires part { start + len < length rows.now }
+    requires covered { start + len ≤ length validity.now }
+    requires within { last_of rows.now ≤ length values.now }
+    ensures ok { OnOk result ((offsets.new ≡ with_valid_rows offsets.old (sliced validity.now start len) rows.now start) × (bytes.new.items ≡ bytes.old.items ++ valid_bytes (sliced validity.now start len) rows.now values.now start)) }
+    ensures overflow { result ≡ Err Error.Overflow → O.greatest < last_of offsets.old + valid_items (sliced validity.now start len) rows.now start }
+    ensures others { IfErr result IsGrowthError }
+    ensures unchanged { OnErr result ((offsets.new ≡ offsets.old) × BeginsWith bytes.old.items bytes.new.items) }
+{
+    append_valid_bytes(bytes, rows, values, validity, start, len)?;
+    offsets.try_extend_from_valid(rows, validity, start, len)
+}
+
+/// Appends the bytes of those of `len` rows from row `start` on whose bit is set, a run at a time. Where that is
+/// refused, some may be there.
+fn append_valid_bytes<O: Offset>(
+    bytes: &mut Vec<u8>,
+    rows: &OffsetsBuffer<O>,
+    values: &[u8],
+    validity: &Bitmap,
+    start: usize,
+    len: usize,
+) -> Result<(), Error>
+    requires part { start + len < length rows.now }
+    requires covered { start + len ≤ length validity.now }
+    requires within { last_of rows.now ≤ length values.now }
+    ensures ok { OnOk result (bytes.new.items ≡ bytes.old.items ++ valid_bytes (sliced validity.now start len) rows.now values.now start) }
+    ensures before { OnErr result (BeginsWith bytes.old.items bytes.new.items) }
+    ensures err { IsOkUnless result Error.OutOfMemory }
+{
+    prove!(start < rows.len());
+    let mut left = validity.runs(start, len);
+    let end = start + len;
+    let mut row = start;
+    while row < end {
+        let (nulls, count) = left.next_set();
+        append_bytes(bytes, rows, values, row + nulls, count)?;
+        row += nulls + count;
+    }
+    Ok(())
+}
+
+/// Appends the bytes of `len` rows from row `start` on. Where that is refused, all is as before.
+fn append_bytes<O: Offset>(
+    bytes: &mut Vec<u8>,
+    rows: &OffsetsBuffer<O>,
+    values: &[u8],
+    start: usize,
+    len: usize,
+) -> Result<(), Error>
+    requires part { start + len < length rows.now }
+    requires within { last_of rows.now ≤ length values.now }
+    ensures ok { OnOk result (bytes.new.items ≡ bytes.old.items ++ sliced values.now (slice_index rows.now start) (slice_index rows.now (start + len) - slice_index rows.now start)) }
+    ensures unchanged { OnErr result (bytes.new.items ≡ bytes.old.items) }
+    ensures err { IsOkUnless result Error.OutOfMemory }
+{
+    if len == 0 {
+        return Ok(());
+    }
+    let (first, end) = span(rows, start, len);
+    bytes.extend_from_slice(&values[first..end])?;
     Ok(())
 }
 
