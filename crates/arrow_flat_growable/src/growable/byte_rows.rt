@@ -222,6 +222,7 @@ fn copy_valid_rows<O: Offset>(
     start: usize,
     len: usize,
 ) -> Result<(), Error>
+    requires some { 0 < len }
     requires part { start + len < length rows.now }
     requires covered { start + len ≤ length validity.now }
     requires within { last_of rows.now ≤ length values.now }
@@ -252,6 +253,7 @@ fn append_valid_rows<O: Offset>(
     start: usize,
     len: usize,
 ) -> Result<(), Error>
+    requires some { 0 < len }
     requires part { start + len < length rows.now }
     requires covered { start + len ≤ length validity.now }
     requires within { last_of rows.now ≤ length values.now }
@@ -260,6 +262,9 @@ fn append_valid_rows<O: Offset>(
     ensures others { IfErr result IsGrowthError }
     ensures unchanged { OnErr result ((offsets.new ≡ offsets.old) × BeginsWith bytes.old.items bytes.new.items) }
 {
+    let (first, end) = span(rows, start, len);
+    // Room for the bytes of all these rows, a wish: of those that are null none is copied.
+    let _ = bytes.reserve(end - first);
     append_valid_bytes(bytes, rows, values, validity, start, len)?;
     offsets.try_extend_from_valid(rows, validity, start, len)
 }

@@ -60,6 +60,7 @@ impl GrowableValidity {
     ///
     /// # Errors
     /// `Overflow` where there are to be more than 2^64 - 1 bits, `OutOfMemory` where memory is refused.
+    #[inline(always)]
     pub(crate) fn extend_from(
         &mut self,
         validity: Option<&Bitmap>,
@@ -128,6 +129,7 @@ impl GrowableValidity {
 }
 
 /// Appends the bits of a part of an array to those of so many rows.
+#[inline(always)]
 fn append(
     alloc: Global,
     bits: &mut Option<MutableBitmap>,
@@ -150,6 +152,7 @@ fn append(
 }
 
 /// Appends so many bits that are set, where bits are kept.
+#[inline(always)]
 fn append_set(bits: &mut Option<MutableBitmap>, len: usize) -> Result<(), Error>
     ensures ok { OnOk result (bits.new ≡ option_map (λ bits. bits ++ replicate len true) bits.old) }
     ensures overflow { result ≡ Err Error.Overflow → IsSomeAnd bits.old (λ bits. 2 ^ 64 ≤ length bits + len) }
@@ -163,6 +166,7 @@ fn append_set(bits: &mut Option<MutableBitmap>, len: usize) -> Result<(), Error>
 }
 
 /// Appends a part of a bitmap to the bits of so many rows.
+#[inline(never)]
 fn append_part(
     alloc: Global,
     bits: &mut Option<MutableBitmap>,
