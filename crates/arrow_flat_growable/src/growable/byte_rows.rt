@@ -263,7 +263,7 @@ fn append_valid_rows<O: Offset>(
     ensures unchanged { OnErr result ((offsets.new ≡ offsets.old) × BeginsWith bytes.old.items bytes.new.items) }
 {
     let (first, end) = span(rows, start, len);
-    // Room for the bytes of all these rows, a wish: of those that are null none is copied.
+    // Room for the bytes of all these rows, which are no more than the array has. It is a wish: a null row takes none.
     let _ = bytes.reserve(end - first);
     append_valid_bytes(bytes, rows, values, validity, start, len)?;
     offsets.try_extend_from_valid(rows, validity, start, len)
