@@ -176,8 +176,8 @@ fn clear_behind(words: &mut Vec<u64>, len: usize)
     }
 }
 
-/// Puts `len` bits from place `from` of others behind the first `place` ones: whole words of the others from
-/// where the last word is filled, of which the last one is cut.
+/// Puts `len` bits from place `from` of others behind the first `place` ones. Those of one word go as a word, and
+/// more as whole words of the others from where the last word is filled, of which the last one is cut.
 pub(crate) fn append_bits(
     words: &mut Vec<u64>,
     place: usize,
@@ -193,6 +193,10 @@ pub(crate) fn append_bits(
     ensures full { length words.new.items ≡ div_ceil (place + len) 64 }
     ensures appended { AppendsBits words.old.items words.new.items place (bits_in others.now from len) }
 {
+    if len <= WORD_BITS {
+        append_word(words, place, bits_from(others, from, len), len);
+        return;
+    }
     fill_word(words, place, others, from);
     let count = (place + len).div_ceil(WORD_BITS) - words.len();
     if count > 0 {
