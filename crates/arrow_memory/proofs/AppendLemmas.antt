@@ -334,10 +334,6 @@ appends_both old mid new place next ys zs front back at = λ xs reads long.
 pub equal_appends : (old new : List ℕ) (place word count : ℕ) (bit : Bool) → AppendsWord old new place word count → word ≡ word_of (replicate count bit) → AppendsBits old new place (replicate count bit)
 equal_appends old new place word count bit appends is = λ xs reads long. appends xs (replicate count bit) reads long is (length-replicate count bit)
 
--- a word that holds a part of other bits
-pub part_appends : (old new others : List ℕ) (place word from count : ℕ) → AppendsWord old new place word count → word ≡ word_of (bits_in others from count) → AppendsBits old new place (bits_in others from count)
-part_appends old new others place word from count appends is = λ xs reads long. appends xs (bits_in others from count) reads long is (length-bits_in others from count)
-
 -- more bits than are wanted, which are then cut
 pub appends_cut : (old all new others : List ℕ) (place from len more : ℕ) → AppendsBits old all place (bits_in others from more) → len ≤ more → ((ys : List Bool) → Reads all ys → Reads new (take (place + len) ys)) → AppendsBits old new place (bits_in others from len)
 appends_cut old all new others place from len more appends within cut = λ xs reads long. bits_cut new others xs place from len more long within (cut (xs ++ bits_in others from more) (appends xs reads long))

@@ -1,6 +1,6 @@
 use Rattle.std.proofs.Common.{◌≡◌, ◌+◌, ◌-◌, ◌*◌, ◌%◌, length, sym, subst, arith}
 use Rattle.arrow_memory.specs.Words.{bits_in, AppendsBits}
-use Rattle.arrow_memory.proofs.AppendLemmas.{appends_both, appends_cut, part_appends}
+use Rattle.arrow_memory.proofs.AppendLemmas.{appends_both, appends_cut}
 use Rattle.arrow_memory.proofs.WordLemmas.{length-bits_in, bits_in-add}
 use Rattle.arrow_memory.proofs.words.append_bits.Goals as goal
 use Rattle.arrow_memory.proofs.words.append_bits.Goals.{then-count-gt0, else-count-gt0}
@@ -8,7 +8,7 @@ use Rattle.arrow_memory.proofs.words.append_bits.Goals.{then-count-gt0, else-cou
 -- a word at most
 pub returns-then-len-le-WORD_BITS-clause-appended : goal.returns-then-len-le-WORD_BITS-clause-appended
 returns-then-len-le-WORD_BITS-clause-appended c =
-    part_appends c.args.words.now.items c.append_word.new.words.items c.args.others.now c.args.place c.bits_from.result c.args.from c.args.len c.append_word.ensures.appended c.bits_from.ensures
+    λ xs reads long. c.append_word.ensures.appended xs (bits_in c.args.others.now c.args.from c.args.len) reads long c.bits_from.ensures (length-bits_in c.args.others.now c.args.from c.args.len)
 
 -- the last word filled, whole words behind it, and the last of them cut
 pub returns-clause-appended : goal.returns-clause-appended
