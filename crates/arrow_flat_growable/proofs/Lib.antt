@@ -1,4 +1,4 @@
-pub mod ByteLemmas
+pub mod GrownRowLemmas
 pub mod FitsLemmas
 pub mod FixedRowsLemmas
 pub mod FlatLemmas

@@ -53,7 +53,7 @@ nulls_over g more n sound many fits passes =
 
 -- as many as can be counted do
 pub nulls_within : (g : Grown) → IsGrownNull g → g.count < 2 ^ 64 → FitsItself g
-nulls_within g sound counted = λ sparse. rw sound.nulls (nulls_fit g.arrow_type g.count sound.kind.1 counted)
+nulls_within g sound counted = rw sound.nulls (nulls_fit g.arrow_type g.count sound.kind.1 counted)
 
 -- rows of bound arrays are nulls
 pub nulls_among : {A : Type 0} (f : A → NullParts) (xs : List A) (i start len : ℕ) → i < length (map (λ x. null_layout (f x)) xs) → start + len ≤ length (rows (source_at (map (λ x. null_layout (f x)) xs) i)) → sliced (rows (source_at (map (λ x. null_layout (f x)) xs) i)) start len ≡ replicate len Null

@@ -1,4 +1,4 @@
--- Rows of bytes that come behind others, without bytes where their bit is not set.
+-- Rows that come behind others, in bytes or in the rows of a child: empty where their bit is not set.
 use Rattle.std.proofs.Common.{arith, ◌≡◌, ◌+◌, ◌-◌, ◌<◌, ◌≤◌, ℕ, zero, suc, Bool, true, false, List, [], ◌∷◌, ◌++◌, length, replicate, take, slice_index, if◌then◌else◌, refl, ap, sym, subst, ◌∙◌}
 use Rattle.std.specs.List.{All}
 use Rattle.std.proofs.Math.Seq.{drop-append_seam, take-append_seam}
@@ -10,8 +10,8 @@ use Rattle.arrow_memory.specs.Sliced.{sliced}
 use Rattle.arrow_memory.proofs.OffsetLemmas.{at_most_last, offsets_rise}
 use Rattle.arrow_memory.proofs.SlicedLemmas.{length-sliced}
 use Rattle.arrow_flat.specs.Pieces.{pieces, pieces_from}
-use Rattle.arrow_flat_growable.specs.Bytes.{AreGrownBytes, filled, total, valid_bytes}
-use Rattle.arrow_flat_growable.proofs.ByteLemmas.{last_behind, last_more, part_cut, part_rows, pieces-more, pieces-within, same_begin, sliced-cut, total_grown}
+use Rattle.arrow_flat_growable.specs.GrownRows.{AreGrown, filled, total, valid_values}
+use Rattle.arrow_flat_growable.proofs.GrownRowLemmas.{last_behind, last_more, part_cut, part_rows, pieces-more, pieces-within, same_begin, sliced-cut, total_grown}
 
 -- the last of their offsets
 last_valid : (place : ℕ) (bits : List Bool) (others : List ℕ) (i : ℕ) → last_of (place ∷ valid_ends place bits others i) ≡ place + valid_items bits others i
@@ -31,7 +31,7 @@ run_long nulls count old bits is =
     ap length is ∙ (length-append (replicate nulls false) (replicate count true ++ bits) ∙ (λ t. length-replicate nulls false t + (length-append (replicate count true) bits ∙ ap (λ n. n + length bits) (length-replicate count true)) t))
 
 -- rows stay as their kind asks where some are emptied
-filled_allowed : (Allows : List ℕ → Type 0) → Allows [] → (bits : List Bool) (rows : List (List ℕ)) → All Allows rows → All Allows (filled bits rows)
+filled_allowed : {A : Type 0} (Allows : List A → Type 0) → Allows [] → (bits : List Bool) (rows : List (List A)) → All Allows rows → All Allows (filled bits rows)
 filled_allowed Allows empty [] rows all = All-nil Allows
 filled_allowed Allows empty (b ∷ bits) [] all = All-nil Allows
 filled_allowed Allows empty (true ∷ bits) (row ∷ rows) all =
@@ -40,12 +40,12 @@ filled_allowed Allows empty (false ∷ bits) (row ∷ rows) all =
     All-cons Allows [] (filled bits rows) empty (filled_allowed Allows empty bits rows (λ k d within. all (suc k) d (omega (arith, within))))
 
 -- rows that other offsets name in values
-module _ (others values : List ℕ) (held : IsOffsets others) (within : last_of others ≤ length values) where
-  abbrev row : ℕ → List ℕ
+module _ {A : Type 0} (others : List ℕ) (values : List A) (held : IsOffsets others) (within : last_of others ≤ length values) where
+  abbrev row : ℕ → List A
   row i = sliced values (slice_index others i) (slice_index others (i + 1) - slice_index others i)
 
   -- the rows from row i on, as many as there are bits
-  abbrev rows_from : ℕ → ℕ → List (List ℕ)
+  abbrev rows_from : ℕ → ℕ → List (List A)
   rows_from i n = pieces_from (slice_index others i) (sliced others (i + 1) n) values
 
   next_row : (i n : ℕ) → i + 1 < length others → rows_from i (suc n) ≡ row i ∷ rows_from (i + 1) n
@@ -59,30 +59,30 @@ module _ (others values : List ℕ) (held : IsOffsets others) (within : last_of 
       let high = at_most_last others (i + 1) held inside in
       length-sliced values (slice_index others i) (slice_index others (i + 1) - slice_index others i) (omega (arith, low, high, within))
 
-  abbrev item : Bool → ℕ → List ℕ
+  abbrev item : Bool → ℕ → List A
   item b i = if b then row i else []
 
   item_long : (b : Bool) (i : ℕ) → i + 1 < length others → length (item b i) ≡ valid_length b others i
   item_long true i inside = row_long i inside
   item_long false i inside = refl
 
-  pub length-valid_bytes : (bits : List Bool) (i : ℕ) → i + length bits < length others → length (valid_bytes bits others values i) ≡ valid_items bits others i
-  length-valid_bytes [] i inside = refl
-  length-valid_bytes (b ∷ bits) i inside =
-      omega (arith, length-append (item b i) (valid_bytes bits others values (i + 1)), item_long b i (omega (arith, inside)), length-valid_bytes bits (i + 1) (omega (arith, inside)))
+  pub length-valid_values : (bits : List Bool) (i : ℕ) → i + length bits < length others → length (valid_values bits others values i) ≡ valid_items bits others i
+  length-valid_values [] i inside = refl
+  length-valid_values (b ∷ bits) i inside =
+      omega (arith, length-append (item b i) (valid_values bits others values (i + 1)), item_long b i (omega (arith, inside)), length-valid_values bits (i + 1) (omega (arith, inside)))
 
-  -- behind some bytes each row is where its offsets say
-  valid_pieces : (bits : List Bool) (i : ℕ) (bytes : List ℕ) → i + length bits < length others → pieces_from (length bytes) (valid_ends (length bytes) bits others i) (bytes ++ valid_bytes bits others values i) ≡ filled bits (rows_from i (length bits))
-  valid_pieces [] i bytes inside = refl
-  valid_pieces (b ∷ bits) i bytes inside =
+  -- behind some values each row is where its offsets say
+  valid_pieces : (bits : List Bool) (i : ℕ) (own : List A) → i + length bits < length others → pieces_from (length own) (valid_ends (length own) bits others i) (own ++ valid_values bits others values i) ≡ filled bits (rows_from i (length bits))
+  valid_pieces [] i own inside = refl
+  valid_pieces (b ∷ bits) i own inside =
       let first : i + 1 < length others = omega (arith, inside) in
-      let rest = valid_bytes bits others values (i + 1) in
-      let long : length (bytes ++ item b i) ≡ length bytes + valid_length b others i = length-append bytes (item b i) ∙ ap (λ n. length bytes + n) (item_long b i first) in
-      let count : length bytes + valid_length b others i - length bytes ≡ length (item b i) = omega (arith, item_long b i first) in
-      let here : sliced (bytes ++ (item b i ++ rest)) (length bytes) (length bytes + valid_length b others i - length bytes) ≡ item b i =
-      (λ t. take (count t) (drop-append_seam bytes (item b i ++ rest) t)) ∙ take-append_seam (item b i) rest in
-      let behind : pieces_from (length bytes + valid_length b others i) (valid_ends (length bytes + valid_length b others i) bits others (i + 1)) (bytes ++ (item b i ++ rest)) ≡ filled bits (rows_from (i + 1) (length bits)) =
-      (λ t. pieces_from (sym long t) (valid_ends (sym long t) bits others (i + 1)) (sym (append_assoc bytes (item b i) rest) t)) ∙ valid_pieces bits (i + 1) (bytes ++ item b i) (omega (arith, inside)) in
+      let rest = valid_values bits others values (i + 1) in
+      let long : length (own ++ item b i) ≡ length own + valid_length b others i = length-append own (item b i) ∙ ap (λ n. length own + n) (item_long b i first) in
+      let count : length own + valid_length b others i - length own ≡ length (item b i) = omega (arith, item_long b i first) in
+      let here : sliced (own ++ (item b i ++ rest)) (length own) (length own + valid_length b others i - length own) ≡ item b i =
+      (λ t. take (count t) (drop-append_seam own (item b i ++ rest) t)) ∙ take-append_seam (item b i) rest in
+      let behind : pieces_from (length own + valid_length b others i) (valid_ends (length own + valid_length b others i) bits others (i + 1)) (own ++ (item b i ++ rest)) ≡ filled bits (rows_from (i + 1) (length bits)) =
+      (λ t. pieces_from (sym long t) (valid_ends (sym long t) bits others (i + 1)) (sym (append_assoc own (item b i) rest) t)) ∙ valid_pieces bits (i + 1) (own ++ item b i) (omega (arith, inside)) in
       (λ t. here t ∷ behind t) ∙ ap (filled (b ∷ bits)) (sym (next_row i (length bits) first))
 
   total_valid : (bits : List Bool) (i : ℕ) → i + length bits < length others → total (filled bits (rows_from i (length bits))) ≡ valid_items bits others i
@@ -92,16 +92,16 @@ module _ (others values : List ℕ) (held : IsOffsets others) (within : last_of 
       let rest = filled bits (rows_from (i + 1) (length bits)) in
       ap (λ rows. total (filled (b ∷ bits) rows)) (next_row i (length bits) first) ∙ omega (arith, sum_by-cons length (item b i) rest, item_long b i first, total_valid bits (i + 1) (omega (arith, inside)))
 
-  -- the bytes of the rows of a run
-  pub unset_run : (n : ℕ) (bits : List Bool) (i : ℕ) → valid_bytes (replicate n false ++ bits) others values i ≡ valid_bytes bits others values (i + n)
+  -- the values of the rows of a run
+  pub unset_run : (n : ℕ) (bits : List Bool) (i : ℕ) → valid_values (replicate n false ++ bits) others values i ≡ valid_values bits others values (i + n)
   unset_run zero bits i =
       let same : i + 0 ≡ i = omega arith in
       rw same refl
   unset_run (suc n) bits i =
       let next : i + 1 + n ≡ i + suc n = omega arith in
-      unset_run n bits (i + 1) ∙ ap (valid_bytes bits others values) next
+      unset_run n bits (i + 1) ∙ ap (valid_values bits others values) next
 
-  pub set_run : (n : ℕ) (bits : List Bool) (i : ℕ) → i + n < length others → valid_bytes (replicate n true ++ bits) others values i ≡ sliced values (slice_index others i) (slice_index others (i + n) - slice_index others i) ++ valid_bytes bits others values (i + n)
+  pub set_run : (n : ℕ) (bits : List Bool) (i : ℕ) → i + n < length others → valid_values (replicate n true ++ bits) others values i ≡ sliced values (slice_index others i) (slice_index others (i + n) - slice_index others i) ++ valid_values bits others values (i + n)
   set_run zero bits i inside =
       let same : i + 0 ≡ i = omega arith in
       let none : slice_index others i - slice_index others i ≡ 0 = omega arith in
@@ -111,22 +111,27 @@ module _ (others values : List ℕ) (held : IsOffsets others) (within : last_of 
       let here = slice_index others i in
       let behind = slice_index others (i + 1) in
       let end = slice_index others (i + suc n) in
-      let rest = valid_bytes bits others values (i + suc n) in
+      let rest = valid_values bits others values (i + suc n) in
       let low = offsets_rise others i (i + 1) held (omega arith) (omega (arith, inside)) in
       let high = offsets_rise others (i + 1) (i + suc n) held (omega arith) inside in
-      let tail : valid_bytes (replicate n true ++ bits) others values (i + 1) ≡ sliced values behind (end - behind) ++ rest =
-      set_run n bits (i + 1) (omega (arith, inside)) ∙ (λ t. sliced values behind (slice_index others (next t) - behind) ++ valid_bytes bits others values (next t)) in
+      let tail : valid_values (replicate n true ++ bits) others values (i + 1) ≡ sliced values behind (end - behind) ++ rest =
+      set_run n bits (i + 1) (omega (arith, inside)) ∙ (λ t. sliced values behind (slice_index others (next t) - behind) ++ valid_values bits others values (next t)) in
       ap (λ ys. row i ++ ys) tail ∙ (sym (append_assoc (row i) (sliced values behind (end - behind)) rest) ∙ ap (λ ys. ys ++ rest) (sliced-cut values here behind end low high))
 
-  -- one run more
-  pub run_copied : (nulls count : ℕ) (old bits : List Bool) (i : ℕ) → old ≡ replicate nulls false ++ (replicate count true ++ bits) → i + length old < length others → (done bytes new : List ℕ) → new ≡ bytes ++ sliced values (slice_index others (i + nulls)) (slice_index others (i + nulls + count) - slice_index others (i + nulls)) → bytes ++ valid_bytes old others values i ≡ done → new ++ valid_bytes bits others values (i + (nulls + count)) ≡ done
-  run_copied nulls count old bits i is inside done bytes new grown all =
+  -- the values of a run at the head, and those of the rest
+  pub run_taken : (nulls count : ℕ) (old bits : List Bool) (i : ℕ) → old ≡ replicate nulls false ++ (replicate count true ++ bits) → i + length old < length others → valid_values old others values i ≡ sliced values (slice_index others (i + nulls)) (slice_index others (i + nulls + count) - slice_index others (i + nulls)) ++ valid_values bits others values (i + (nulls + count))
+  run_taken nulls count old bits i is inside =
       let long = run_long nulls count old bits is in
       let at : i + nulls + count ≡ i + (nulls + count) = omega arith in
       let part = sliced values (slice_index others (i + nulls)) (slice_index others (i + nulls + count) - slice_index others (i + nulls)) in
-      let left : valid_bytes old others values i ≡ part ++ valid_bytes bits others values (i + (nulls + count)) =
-      ap (λ bs. valid_bytes bs others values i) is ∙ (unset_run nulls (replicate count true ++ bits) i ∙ (set_run count bits (i + nulls) (omega (arith, inside, long)) ∙ ap (λ k. part ++ valid_bytes bits others values k) at)) in
-      ap (λ ys. ys ++ valid_bytes bits others values (i + (nulls + count))) grown ∙ (append_assoc bytes part (valid_bytes bits others values (i + (nulls + count))) ∙ (ap (λ ys. bytes ++ ys) (sym left) ∙ all))
+      ap (λ bs. valid_values bs others values i) is ∙ (unset_run nulls (replicate count true ++ bits) i ∙ (set_run count bits (i + nulls) (omega (arith, inside, long)) ∙ ap (λ k. part ++ valid_values bits others values k) at))
+
+  -- one run more
+  pub run_copied : (nulls count : ℕ) (old bits : List Bool) (i : ℕ) → old ≡ replicate nulls false ++ (replicate count true ++ bits) → i + length old < length others → (done own new : List A) → new ≡ own ++ sliced values (slice_index others (i + nulls)) (slice_index others (i + nulls + count) - slice_index others (i + nulls)) → own ++ valid_values old others values i ≡ done → new ++ valid_values bits others values (i + (nulls + count)) ≡ done
+  run_copied nulls count old bits i is inside done own new grown all =
+      let part = sliced values (slice_index others (i + nulls)) (slice_index others (i + nulls + count) - slice_index others (i + nulls)) in
+      let rest = valid_values bits others values (i + (nulls + count)) in
+      ap (λ ys. ys ++ rest) grown ∙ (append_assoc own part rest ∙ (ap (λ ys. own ++ ys) (sym (run_taken nulls count old bits i is inside)) ∙ all))
 
   -- rows behind one's own
   module _ (bits : List Bool) (start : ℕ) (part : start + length bits < length others) where
@@ -136,30 +141,30 @@ module _ (others values : List ℕ) (held : IsOffsets others) (within : last_of 
     valid_rows : rows_from start (length bits) ≡ sliced (pieces others values) start (length bits)
     valid_rows = part_rows others values start (length bits) held part within
 
-    pub valid_moved : (os bytes : List ℕ) → IsOffsets os → last_of os ≡ length bytes → pieces (with_valid_rows os bits others start) (bytes ++ valid_bytes bits others values start) ≡ pieces os bytes ++ filled bits (sliced (pieces others values) start (length bits))
-    valid_moved [] bytes sound ends = absurd (omega (arith, sound.some))
-    valid_moved (n ∷ os) bytes sound ends =
-        let more = valid_bytes bits others values start in
-        let all = bytes ++ more in
-        let old : pieces_from n os all ≡ pieces_from n os bytes =
-        pieces-within n os bytes more (omega (arith, ends, at_most_last (n ∷ os) 0 sound (omega arith))) (λ j inside. omega (arith, ends, at_most_last (n ∷ os) (suc j) sound (omega (arith, inside)))) in
+    pub valid_moved : (os : List ℕ) (own : List A) → IsOffsets os → last_of os ≡ length own → pieces (with_valid_rows os bits others start) (own ++ valid_values bits others values start) ≡ pieces os own ++ filled bits (sliced (pieces others values) start (length bits))
+    valid_moved [] own sound ends = absurd (omega (arith, sound.some))
+    valid_moved (n ∷ os) own sound ends =
+        let more = valid_values bits others values start in
+        let all = own ++ more in
+        let old : pieces_from n os all ≡ pieces_from n os own =
+        pieces-within n os own more (omega (arith, ends, at_most_last (n ∷ os) 0 sound (omega arith))) (λ j inside. omega (arith, ends, at_most_last (n ∷ os) (suc j) sound (omega (arith, inside)))) in
         let new : pieces_from (last_of (n ∷ os)) (valid_ends (last_of (n ∷ os)) bits others start) all ≡ filled bits (sliced (pieces others values) start (length bits)) =
-        (λ t. pieces_from (ends t) (valid_ends (ends t) bits others start) all) ∙ (valid_pieces bits start bytes part ∙ ap (filled bits) valid_rows) in
+        (λ t. pieces_from (ends t) (valid_ends (ends t) bits others start) all) ∙ (valid_pieces bits start own part ∙ ap (filled bits) valid_rows) in
         pieces-more n os (valid_ends (last_of (n ∷ os)) bits others start) all ∙ (λ t. old t ++ new t)
 
-    module _ (Allows : List ℕ → Type 0) (os bytes : List ℕ) (grown : AreGrownBytes Allows (record { offsets = os; bytes = bytes })) (sound : IsOffsets os) where
-      pub valid_total : total (pieces os bytes ++ filled bits (sliced (pieces others values) start (length bits))) ≡ last_of os + valid_items bits others start
+    module _ (Allows : List A → Type 0) (os : List ℕ) (own : List A) (grown : AreGrown Allows os own) (sound : IsOffsets os) where
+      pub valid_total : total (pieces os own ++ filled bits (sliced (pieces others values) start (length bits))) ≡ last_of os + valid_items bits others start
       valid_total =
           let more : total (filled bits (sliced (pieces others values) start (length bits))) ≡ valid_items bits others start = ap (λ rows. total (filled bits rows)) (sym valid_rows) ∙ total_valid bits start part in
-          omega (arith, sum_by-append length (pieces os bytes) (filled bits (sliced (pieces others values) start (length bits))), total_grown Allows os bytes grown sound, more)
+          omega (arith, sum_by-append length (pieces os own) (filled bits (sliced (pieces others values) start (length bits))), total_grown Allows os own grown sound, more)
 
-      pub valid_grown : Allows [] → All Allows (pieces others values) → (new_os new_bytes : List ℕ) → (new_os ≡ with_valid_rows os bits others start) × (new_bytes ≡ bytes ++ valid_bytes bits others values start) → AreGrownBytes Allows (record { offsets = new_os; bytes = new_bytes })
-      valid_grown empty allowed new_os new_bytes is =
+      pub valid_grown : Allows [] → All Allows (pieces others values) → (new_os : List ℕ) (new : List A) → (new_os ≡ with_valid_rows os bits others start) × (new ≡ own ++ valid_values bits others values start) → AreGrown Allows new_os new
+      valid_grown empty allowed new_os new is =
           let last : last_of new_os ≡ last_of os + valid_items bits others start = ap last_of is.0 ∙ valid_last os bits others start sound in
-          let size : length new_bytes ≡ length bytes + valid_items bits others start = ap length is.1 ∙ (length-append bytes (valid_bytes bits others values start) ∙ ap (λ n. length bytes + n) (length-valid_bytes bits start part)) in
+          let size : length new ≡ length own + valid_items bits others start = ap length is.1 ∙ (length-append own (valid_values bits others values start) ∙ ap (λ n. length own + n) (length-valid_values bits start part)) in
           let rows = filled_allowed Allows empty bits (sliced (pieces others values) start (length bits)) (All-take Allows (length bits) _ (All-drop Allows start _ allowed)) in
           record {
             begins = ap (λ ns. slice_index ns 0) is.0 ∙ (same_begin os (valid_ends (last_of os) bits others start) sound ∙ grown.begins);
             ends = last ∙ (ap (λ n. n + valid_items bits others start) grown.ends ∙ sym size);
-            rows = subst (All Allows) (sym ((λ t. pieces (is.0 t) (is.1 t)) ∙ valid_moved os bytes sound grown.ends)) (All-append Allows (pieces os bytes) (filled bits (sliced (pieces others values) start (length bits))) grown.rows rows);
+            rows = subst (All Allows) (sym ((λ t. pieces (is.0 t) (is.1 t)) ∙ valid_moved os own sound grown.ends)) (All-append Allows (pieces os own) (filled bits (sliced (pieces others values) start (length bits))) grown.rows rows);
           }

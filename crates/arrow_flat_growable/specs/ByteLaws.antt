@@ -17,24 +17,12 @@ use Rattle.arrow_memory.proofs.OffsetLemmas.{map_sliced}
 use Rattle.arrow_memory.proofs.SlicedLemmas.{length-sliced}
 use Rattle.arrow_flat.specs.ByteRows.{ByteParts, byte_slots, row_bytes}
 use Rattle.arrow_flat.specs.Parts.{FitsRows}
-use Rattle.arrow_flat_growable.specs.Bytes.{IsBytesType, SparesBytes, filled, stored_rows, total}
+use Rattle.arrow_flat_growable.specs.Bytes.{IsBytesType, SparesBytes, stored_rows}
+use Rattle.arrow_flat_growable.specs.GrownRows.{filled, total}
 use Rattle.arrow_flat_growable.specs.Validity.{bits_of_slice}
-use Rattle.arrow_flat_growable.specs.MaskLaws.{mask-append, mask-part, mask-unset, length-bits_of_slice}
+use Rattle.arrow_flat_growable.specs.MaskLaws.{mask-append, mask-filled, mask-part, mask-unset, length-bits_of_slice, length-filled}
 
--- what is stored beneath a null does not show
-mask-filled : (slot : List ℕ → Slot) (bits : List Bool) (rows : List (List ℕ)) → mask bits (map slot (filled bits rows)) ≡ mask bits (map slot rows)
-mask-filled slot [] rows = refl
-mask-filled slot (b ∷ bits) [] = refl
-mask-filled slot (true ∷ bits) (row ∷ rows) = ap (λ xs. slot row ∷ xs) (mask-filled slot bits rows)
-mask-filled slot (false ∷ bits) (row ∷ rows) = ap (λ xs. Null ∷ xs) (mask-filled slot bits rows)
-
-pub length-filled : (bits : List Bool) (rows : List (List ℕ)) → length bits ≡ length rows → length (filled bits rows) ≡ length rows
-length-filled [] [] same = refl
-length-filled [] (row ∷ rows) same = absurd (omega (arith, same))
-length-filled (b ∷ bits) [] same = absurd (omega (arith, same))
-length-filled (b ∷ bits) (row ∷ rows) same = ap suc (length-filled bits rows (omega (arith, same)))
-
--- nor does it have bytes
+-- what is stored beneath a null has no bytes
 spares-filled : (slot : List ℕ → Slot) → ((bytes : List ℕ) → byte_count (slot bytes) ≡ length bytes) → (bits : List Bool) (rows : List (List ℕ)) → length bits ≡ length rows → SparesBytes bits (map slot (filled bits rows))
 spares-filled slot counts [] [] same = refl
 spares-filled slot counts [] (row ∷ rows) same = absurd (omega (arith, same))

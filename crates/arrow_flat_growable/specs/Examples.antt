@@ -1,11 +1,10 @@
 -- Worked growables, computed from the definitions.
 use Rattle.std.specs.Prelude.{◌≡◌, ℕ, pos, true, None, Some, [], ◌∷◌, refl}
 use Rattle.arrow_types.specs.declared.datatypes.IntegerType.TheVariants.{Int32}
-use Rattle.arrow_types.specs.declared.datatypes.UnionMode.TheVariants.{Sparse, Dense}
-use Rattle.arrow_types.specs.ArrowType.{ArrowType, plain, integer, null, list, small, union, field, no_fields, more_fields}
+use Rattle.arrow_types.specs.declared.datatypes.UnionMode.TheVariants.{Sparse}
+use Rattle.arrow_types.specs.ArrowType.{ArrowType, plain, integer, null, union, field, no_fields, more_fields}
 use Rattle.arrow_types.specs.Slot.{Slot, Null, Number, Variant}
 use Rattle.arrow_arrays.specs.Layout.{flat}
-use Rattle.arrow_flat_growable.specs.Dense.{HoldsDense}
 use Rattle.arrow_flat_growable.specs.Grown.{Grown, appended, bound_to, empty_over, named_rows, null_rows_of}
 
 abbrev int32 : ArrowType
@@ -41,7 +40,3 @@ pair_of_ints = union Sparse (Some (pos 5 ∷ pos 7 ∷ [])) (more_fields (field 
 
 null_of_union : null_rows_of (empty_over pair_of_ints (Some [])) 1 ≡ Variant (pos 5) Null ∷ []
 null_of_union = refl
-
--- a list of dense unions holds one
-lists_of_dense : HoldsDense (list small (field [] (union Dense None no_fields) true)) ≡ Unit {0}
-lists_of_dense = refl

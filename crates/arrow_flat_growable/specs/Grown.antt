@@ -1,5 +1,5 @@
 -- What a growable means: the arrays that it takes rows from, the rows that it holds, and whether it has refused.
-use Rattle.std.specs.Prelude.{ℕ, ◌≡◌, ◌+◌, ◌<◌, ◌≤◌, Bool, true, false, List, [], ◌∷◌, ◌++◌, length, replicate, slice_index_or, take, Option, Some, None, refl}
+use Rattle.std.specs.Prelude.{ℕ, ◌≡◌, ◌+◌, ◌<◌, ◌≤◌, Bool, true, false, List, [], ◌∷◌, ◌++◌, ◌⊎◌, length, replicate, slice_index_or, take, Option, Some, None, refl}
 use Rattle.std.specs.List.{All}
 use Rattle.std.specs.Coded.{Coded, code_by, coded×, coded_list, coded_option, coded_bool, coded_ℕ}
 use Rattle.arrow_types.specs.declared.error.Error.{Error}
@@ -15,7 +15,6 @@ use Rattle.arrow_arrays.specs.Crowded.{CrowdedRow}
 use Rattle.arrow_arrays.specs.Layout.{Layout, flat, rows, type_of_layout}
 use Rattle.arrow_arrays.specs.StoredLayout.{layout_code}
 use Rattle.arrow_arrays.specs.declared.array.any.AnyArray.{AnyArray}
-use Rattle.arrow_flat_growable.specs.Dense.{HoldsDense}
 
 -- its type, the arrays that are bound to it, its rows, how many they are, and whether it has refused a call. Without bound arrays it takes nulls, whatever is named.
 -- Of the rows of one that has failed nothing is known; their count is that from before the refused call
@@ -68,14 +67,11 @@ rows_among (Some layouts) i start len = sliced (rows (source_at layouts i)) star
 abbrev pub named_rows : Grown → ℕ → ℕ → ℕ → List Slot
 named_rows g = rows_among g.sources
 
--- some of these rows is crowded behind the arrays before its own
+-- some of these rows is crowded behind the arrays before its own. Of the first array none is: no key of it grows
 abbrev pub AreCrowded : Option (List Layout) → ℕ → ℕ → ℕ → Type 0
 AreCrowded None i start len = ⊥
 AreCrowded (Some layouts) i start len =
-    (j : ℕ) × (start ≤ j) × (j < start + len) × CrowdedRow (take i layouts) (source_at layouts i) j
-
-abbrev pub NamesCrowded : Grown → ℕ → ℕ → ℕ → Type 0
-NamesCrowded g = AreCrowded g.sources
+    (0 < i) × ((j : ℕ) × (start ≤ j) × (j < start + len) × CrowdedRow (take i layouts) (source_at layouts i) j)
 
 -- the same with more rows behind
 abbrev pub appended : Grown → List Slot → Grown
@@ -90,6 +86,14 @@ null_rows_of g n = replicate n (null_slot g.arrow_type)
 abbrev pub FitsWith : Grown → List Slot → Type 0
 FitsWith g more = Fits g.arrow_type (g.rows ++ more)
 
+-- why rows that are named are refused: with them the rows do not fit, or one of them is crowded
+abbrev pub RefusedBy : Option (List Layout) → Type 0 → ℕ → ℕ → ℕ → Type 0
+RefusedBy None fits i start len = fits → ⊥
+RefusedBy (Some layouts) fits i start len = (fits → ⊥) ⊎ AreCrowded (Some layouts) i start len
+
+abbrev pub CannotHold : Grown → ℕ → ℕ → ℕ → Type 0
+CannotHold g i start len = RefusedBy g.sources (FitsWith g (named_rows g i start len)) i start len
+
 -- after a refused call: the same type, arrays and count, and it has failed
 pub record HasFailed (old new : Grown) : Type 0 where
   pub same_type : new.arrow_type ≡ old.arrow_type
@@ -97,9 +101,9 @@ pub record HasFailed (old new : Grown) : Type 0 where
   pub same_count : new.count ≡ old.count
   pub has_failed : new.failed ≡ true
 
--- its rows fit its type, where that holds no dense union
+-- its rows fit its type. Those of a dense union too: each row is copied apart, though rows of a bound array may share one of a child
 abbrev pub FitsItself : Grown → Type 0
-FitsItself g = (HoldsDense g.arrow_type → ⊥) → Fits g.arrow_type g.rows
+FitsItself g = Fits g.arrow_type g.rows
 
 -- its rows are as many as it counts, where it has not failed
 abbrev pub CountsRows : Grown → Type 0

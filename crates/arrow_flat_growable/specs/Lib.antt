@@ -1,10 +1,10 @@
 pub mod ByteLaws
 pub mod Bytes
-pub mod Dense
 pub mod Examples
 pub mod Flat
 pub mod FlatLaws
 pub mod Grown
+pub mod GrownRows
 pub mod MaskLaws
 pub mod Nulls
 pub mod Validity

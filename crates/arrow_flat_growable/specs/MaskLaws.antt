@@ -1,5 +1,5 @@
 -- Rows under a mask of bits, as the laws of what stores them ask.
-use Rattle.std.proofs.Common.{arith, ◌≡◌, ◌+◌, ◌≤◌, ℕ, zero, suc, Bool, true, false, List, [], ◌∷◌, ◌++◌, Option, Some, None, length, replicate, if◌then◌else◌, refl, ap}
+use Rattle.std.proofs.Common.{arith, ◌≡◌, ◌+◌, ◌≤◌, ℕ, zero, suc, Bool, true, false, List, [], ◌∷◌, ◌++◌, Option, Some, None, length, map, replicate, if◌then◌else◌, refl, ap}
 use Rattle.std.proofs.lemmas.List.{length-replicate}
 use Rattle.arrow_types.specs.Rows.{mask, masked}
 use Rattle.arrow_types.specs.Slot.{Slot, Null}
@@ -7,6 +7,7 @@ use Rattle.arrow_memory.specs.Sliced.{sliced}
 use Rattle.arrow_memory.proofs.SlicedLemmas.{length-sliced}
 use Rattle.arrow_flat.specs.Parts.{FitsRows}
 use Rattle.arrow_flat.proofs.PartsLemmas.{masked-sliced}
+use Rattle.arrow_flat_growable.specs.GrownRows.{filled}
 use Rattle.arrow_flat_growable.specs.Validity.{bits_of_slice}
 
 -- bits that are all set leave the rows as they are
@@ -40,3 +41,16 @@ length-bits_of_slice (Some bits) n start len fits within = length-sliced bits st
 pub mask-part : (v : Option (List Bool)) (xs : List Slot) (start len : ℕ) → start + len ≤ length xs → mask (bits_of_slice v start len) (sliced xs start len) ≡ sliced (masked v xs) start len
 mask-part None xs start len within = mask-set len (sliced xs start len) (length-sliced xs start len within)
 mask-part (Some bits) xs start len within = masked-sliced (Some bits) xs start len
+
+-- rows that are emptied beneath nulls: that does not show, and they are as many
+pub mask-filled : {A : Type 0} (slot : List A → Slot) (bits : List Bool) (rows : List (List A)) → mask bits (map slot (filled bits rows)) ≡ mask bits (map slot rows)
+mask-filled slot [] rows = refl
+mask-filled slot (b ∷ bits) [] = refl
+mask-filled slot (true ∷ bits) (row ∷ rows) = ap (λ xs. slot row ∷ xs) (mask-filled slot bits rows)
+mask-filled slot (false ∷ bits) (row ∷ rows) = ap (λ xs. Null ∷ xs) (mask-filled slot bits rows)
+
+pub length-filled : {A : Type 0} (bits : List Bool) (rows : List (List A)) → length bits ≡ length rows → length (filled bits rows) ≡ length rows
+length-filled [] [] same = refl
+length-filled [] (row ∷ rows) same = absurd (omega (arith, same))
+length-filled (b ∷ bits) [] same = absurd (omega (arith, same))
+length-filled (b ∷ bits) (row ∷ rows) same = ap suc (length-filled bits rows (omega (arith, same)))

@@ -2,7 +2,7 @@
 
 ghost use Rattle.std.specs.Prelude.{◌≡◌, ◌↔◌, true, Err, IfOk, IfErr, OnOk, OnErr};
 ghost use Rattle.arrow_types.specs.declared.error.Error.{Error};
-ghost use Rattle.arrow_flat_growable.specs.Grown.{Grown, NamesRows, NamesCrowded, CountsRows, FitsItself, FitsWith, HasFailed, HoldsRows, IsRefusal, IsFailedOrMemory, appended, empty_over, named_rows, null_rows_of};
+ghost use Rattle.arrow_flat_growable.specs.Grown.{Grown, CannotHold, NamesRows, CountsRows, FitsItself, FitsWith, HasFailed, HoldsRows, IsRefusal, IsFailedOrMemory, appended, empty_over, named_rows, null_rows_of};
 
 mod binary;
 mod boolean;
@@ -24,6 +24,7 @@ pub use flat::{FlatGrowable, GrowableValues};
 pub use null::{BoundNulls, GrowableNull};
 pub use primitive::GrowablePrimitive;
 pub use utf8::GrowableUtf8;
+pub use validity::GrowableValidity;
 
 /// An array under construction, to which rows of the arrays that are bound to it are appended, and null
 /// slots. After a call that refused it has failed: [`Growable::len`] answers the rows from before that
@@ -46,7 +47,7 @@ pub trait Growable<'a> {
         ensures fits { OnOk result (FitsItself (state self.new)) }
         ensures err { OnErr result (HasFailed (state self.old) (state self.new)) }
         ensures failed { (result ≡ Err Error.Failed) ↔ ((state self.old).failed ≡ true) }
-        ensures overflow { result ≡ Err Error.Overflow → FitsWith (state self.old) (named_rows (state self.old) index start len) → NamesCrowded (state self.old) index start len }
+        ensures overflow { result ≡ Err Error.Overflow → CannotHold (state self.old) index start len }
         ensures others { IfErr result IsRefusal };
 
     /// Appends so many null slots of the type.

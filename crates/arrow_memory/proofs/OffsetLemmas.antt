@@ -100,7 +100,7 @@ rises_more low n [] more rises behind = (rises.0, behind)
 rises_more low n (m ∷ os) more rises behind =
     (rises.0, rises_more (pos n) m os more rises.1 (subst (λ last. RisesFrom (pos last) (map pos more)) (last_behind n m os) behind))
 
-offsets_more : (os more : List ℕ) → IsOffsets os → RisesFrom (pos (last_of os)) (map pos more) → IsOffsets (os ++ more)
+pub offsets_more : (os more : List ℕ) → IsOffsets os → RisesFrom (pos (last_of os)) (map pos more) → IsOffsets (os ++ more)
 offsets_more [] more held behind = absurd (omega (arith, held.some))
 offsets_more (n ∷ os) more held behind = record { some = omega arith; rises = rises_more (pos 0) n os more held.rises behind }
 

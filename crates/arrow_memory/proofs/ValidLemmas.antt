@@ -10,7 +10,7 @@ use Rattle.arrow_memory.specs.Offsets.{RisesFrom, AreOffsets, IsOffsets, last_of
 use Rattle.arrow_memory.specs.Sliced.{sliced}
 use Rattle.arrow_memory.specs.Words.{is_set, bits_in, word_of}
 use Rattle.arrow_memory.proofs.BitmapLemmas.{bit_of-word_of, bits_in_is}
-use Rattle.arrow_memory.proofs.OffsetLemmas.{StoredAs, natural, number_at, offsets_rise, stored_more}
+use Rattle.arrow_memory.proofs.OffsetLemmas.{StoredAs, natural, number_at, offsets_more, offsets_rise, stored_more}
 use Rattle.arrow_memory.proofs.SlicedLemmas.{length-sliced}
 use Rattle.arrow_memory.proofs.WordLemmas.{bits_in-add}
 
@@ -54,6 +54,11 @@ valid_items-within (false ∷ bits) os i held within =
 valid_rise : (place : ℕ) (bits : List Bool) (os : List ℕ) (i : ℕ) → RisesFrom (pos place) (map pos (valid_ends place bits os i))
 valid_rise place [] os i = tt
 valid_rise place (b ∷ bits) os i = (omega (arith, ints), valid_rise (place + valid_length b os i) bits os (i + 1))
+
+-- offsets with those of these rows are offsets
+pub valid_sound : (os : List ℕ) (bits : List Bool) (others : List ℕ) (start : ℕ) → IsOffsets os → IsOffsets (with_valid_rows os bits others start)
+valid_sound os bits others start held =
+    offsets_more os (valid_ends (last_of os) bits others start) held (valid_rise (last_of os) bits others start)
 
 -- these rows behind one's own, where what was reserved before is `kept`
 pub stored_valid_rows : {A : Type 0} (f : A → ℤ) (xs kept new : List A) (os : List ℕ) (bits : List Bool) (others : List ℕ) (place start : ℕ) → AreOffsets (map f xs) → map unsigned_abs (map f xs) ≡ os → kept ≡ xs → map f new ≡ map f kept ++ map pos (valid_ends place bits others start) → place ≡ last_of os → StoredAs f new (with_valid_rows os bits others start)

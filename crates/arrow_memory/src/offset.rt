@@ -96,7 +96,10 @@ impl<O: Offset> OffsetsBuffer<O> {
     }
 
     /// Where the first of `len` rows from row `start` on begins, and the last of them ends.
-    fn range(&self, start: usize, len: usize) -> (usize, usize)
+    ///
+    /// # Requires
+    /// `start + len` is below the count of offsets.
+    pub fn range(&self, start: usize, len: usize) -> (usize, usize)
         requires { start + len < length self.now }
         ensures start { result.0 ≡ slice_index self.now start }
         ensures end { result.1 ≡ slice_index self.now (start + len) }

@@ -32,9 +32,9 @@ joined_around xss i xs read =
     ap joined (sym (take-append-drop i xss)) ∙ (joined-append (take i xss) (drop i xss) ∙ (ap (λ yss. joined (take i xss) ++ joined yss) (drop_at_read xss i xs read) ∙ sym (append_assoc (joined (take i xss)) xs (joined (drop (i + 1) xss)))))
 
 -- the first of arrays without children is without
-pub first_flat : {A : Type 0} (f : A → Layout) (arrays : List A) (i : ℕ) → i < length arrays → All (λ x. IsFlatType (physical_type_of (type_of_layout (f x)))) arrays → IsFlatType (physical_type_of (first_type (map f arrays)))
-first_flat f [] i within flat = absurd (omega (arith, within))
-first_flat f (x ∷ arrays) i within flat = flat 0 x (omega arith)
+pub first_flat : {A : Type 0} (f : A → Layout) (arrays : List A) → 0 < length arrays → All (λ x. IsFlatType (physical_type_of (type_of_layout (f x)))) arrays → IsFlatType (physical_type_of (first_type (map f arrays)))
+first_flat f [] some flat = absurd (omega (arith, some))
+first_flat f (x ∷ arrays) some flat = flat 0 x (omega arith)
 
 -- the types of all are one where each is the same
 pub of_one_type : {A : Type 0} (f : A → Layout) (arrays : List A) (t : ArrowType) → All (λ u. u ≡ t) (map (λ x. type_of_layout (f x)) arrays) → AreOfOneType (map f arrays)

@@ -1,5 +1,5 @@
--- Arrays without children: no type of theirs holds a dense union, and no row is crowded.
-use Rattle.std.proofs.Common.{◌≡◌, ℕ, List, sym, subst}
+-- Arrays without children: no row of theirs is crowded.
+use Rattle.std.proofs.Common.{◌≡◌, ℕ, List, Some, sym, subst, take}
 use Rattle.arrow_types.specs.declared.datatypes.physical_type.PhysicalType.{PhysicalType}
 use Rattle.arrow_types.specs.declared.datatypes.physical_type.PhysicalType.TheVariants as physical
 use Rattle.arrow_types.specs.ArrowType.{ArrowType, plain, list, struct, union, dictionary, extension, small, large, fixed_size, mapped}
@@ -10,19 +10,9 @@ use Rattle.arrow_arrays.specs.Layout.{Layout}
 use Rattle.arrow_arrays.specs.declared.array.any.AnyArray.{AnyArray}
 use Rattle.arrow_arrays.specs.declared.array.any.AnyArray.TheVariants.{Null, Boolean, Primitive, Utf8, LargeUtf8, Binary, LargeBinary, FixedSizeBinary, List as ListOf, FixedSizeList, Struct, Union, Map, Dictionary}
 use Rattle.arrow_arrays.specs.TypeParts.{IsFlatType}
-use Rattle.arrow_flat_growable.specs.Dense.{HoldsDense}
+use Rattle.arrow_flat_growable.specs.Grown.{AreCrowded, source_at}
+use Rattle.arrow_growable.specs.Growable.{IsGrowable}
 use Rattle.arrow_select.specs.Arrays.{IsFlat}
-
-pub without_dense : (t : ArrowType) → IsFlatType (physical_type_of t) → HoldsDense t → ⊥
-without_dense (plain p) flat dense = dense
-without_dense (list small f) flat dense = flat
-without_dense (list large f) flat dense = flat
-without_dense (list (fixed_size s) f) flat dense = flat
-without_dense (list (mapped sorted) f) flat dense = flat
-without_dense (struct fs) flat dense = flat
-without_dense (union mode ids fs) flat dense = flat
-without_dense (dictionary keys ordered t) flat dense = flat
-without_dense (extension name metadata t) flat dense = without_dense t flat dense
 
 -- the kinds of arrays with children
 abbrev IsNested : Kind → Type 0
@@ -49,7 +39,7 @@ nested_array : (array : AnyArray) → IsFlat array → kind_in (physical_type_of
 nested_array array flat kind nested =
     nested_layout (physical_type_of (any_array_type array)) flat (subst IsNested (sym kind) nested)
 
-pub uncrowded : (array : AnyArray) (before : List Layout) (j : ℕ) → IsFlat array → kind_in (physical_type_of (any_array_type array)) ≡ kind_of array → CrowdedRow before (layout_of array) j → ⊥
+uncrowded : (array : AnyArray) (before : List Layout) (j : ℕ) → IsFlat array → kind_in (physical_type_of (any_array_type array)) ≡ kind_of array → CrowdedRow before (layout_of array) j → ⊥
 uncrowded (Null p) before j flat kind crowded = crowded
 uncrowded (Boolean p) before j flat kind crowded = crowded
 uncrowded (Primitive p) before j flat kind crowded = crowded
@@ -64,3 +54,21 @@ uncrowded (Struct p) before j flat kind crowded = nested_array (Struct p) flat k
 uncrowded (Union p) before j flat kind crowded = nested_array (Union p) flat kind tt
 uncrowded (Map p) before j flat kind crowded = nested_array (Map p) flat kind tt
 uncrowded (Dictionary p) before j flat kind crowded = nested_array (Dictionary p) flat kind tt
+
+-- nor is any of those that are named
+pub none_crowded : (layouts : List Layout) (array : AnyArray) (i start len : ℕ) → source_at layouts i ≡ layout_of array → IsFlat array → kind_in (physical_type_of (any_array_type array)) ≡ kind_of array → AreCrowded (Some layouts) i start len → ⊥
+none_crowded layouts array i start len source flat kind crowded =
+    let row = crowded.1 in
+    uncrowded array (take i layouts) row.0 flat kind (subst (λ l. CrowdedRow (take i layouts) l row.0) source row.3)
+
+-- and they can grow
+pub flat_grows : (t : ArrowType) → IsFlatType (physical_type_of t) → IsGrowable t
+flat_grows (plain p) flat = tt
+flat_grows (list small f) flat = absurd flat
+flat_grows (list large f) flat = absurd flat
+flat_grows (list (fixed_size s) f) flat = absurd flat
+flat_grows (list (mapped sorted) f) flat = absurd flat
+flat_grows (struct fs) flat = absurd flat
+flat_grows (union mode ids fs) flat = absurd flat
+flat_grows (dictionary keys ordered t) flat = absurd flat
+flat_grows (extension name metadata t) flat = flat_grows t flat

@@ -1,22 +1,17 @@
--- A growable over arrays without children, call by call.
-use Rattle.std.proofs.Common.{arith, ◌≡◌, ◌+◌, ℕ, List, [], ◌++◌, length, replicate, take, false, Result, Ok, Err, Some, ap, sym, subst, ◌∙◌, length-append}
+-- A growable over arrays that are bound to it, call by call.
+use Rattle.std.proofs.Common.{arith, ◌≡◌, ◌+◌, ℕ, List, [], ◌++◌, length, replicate, take, false, Result, Ok, Err, Some, ap, sym, subst, ◌∙◌, length-append, inl, inr}
 use Rattle.std.specs.Prelude.{OnOk}
 use Rattle.std.proofs.lemmas.List.{append-nil, take_all}
 use Rattle.arrow_types.specs.declared.error.Error.{Error}
 use Rattle.arrow_types.specs.Fits.{Fits}
-use Rattle.arrow_types.specs.Physical.{physical_type_of}
 use Rattle.arrow_types.specs.Slot.{Slot, null_slot}
 use Rattle.arrow_types.proofs.FitsLemmas.{Fits-beginning, Fits-nil}
 use Rattle.arrow_memory.specs.Sliced.{sliced}
-use Rattle.arrow_arrays.specs.Any.{kind_in, kind_of, layout_of, any_array_rows, any_array_type}
-use Rattle.arrow_arrays.specs.Crowded.{CrowdedRow}
+use Rattle.arrow_arrays.specs.Any.{layout_of, any_array_rows}
 use Rattle.arrow_arrays.specs.Layout.{Layout, rows}
 use Rattle.arrow_arrays.specs.declared.array.any.AnyArray.{AnyArray}
-use Rattle.arrow_arrays.specs.TypeParts.{IsFlatType}
-use Rattle.arrow_flat_growable.specs.Grown.{Grown, FitsItself, FitsWith, NamesCrowded, appended, bound_to, first_type, named_rows, null_rows_of, source_at}
-use Rattle.arrow_select.specs.Arrays.{IsFlat}
+use Rattle.arrow_flat_growable.specs.Grown.{Grown, AreCrowded, CannotHold, FitsItself, FitsWith, appended, bound_to, first_type, named_rows, null_rows_of, source_at}
 use Rattle.arrow_select.specs.Growing.{HasAppended}
-use Rattle.arrow_select.proofs.FlatLemmas.{uncrowded, without_dense}
 
 -- no rows at first
 pub holds_none : (layouts : List Layout) (g : Grown) → g ≡ bound_to layouts → HasAppended layouts g []
@@ -36,16 +31,16 @@ module _ (layouts : List Layout) (g : Grown) (xs : List Slot) (held : HasAppende
   named i start len = ap (λ h. named_rows h i start len) held.0
 
   -- more rows
-  pub holds_more : (new : Grown) (added more : List Slot) → IsFlatType (physical_type_of (first_type layouts)) → added ≡ more → new ≡ appended g added → FitsItself new → HasAppended layouts new (xs ++ more)
-  holds_more new added more flat same is fits =
+  pub holds_more : (new : Grown) (added more : List Slot) → added ≡ more → new ≡ appended g added → FitsItself new → HasAppended layouts new (xs ++ more)
+  holds_more new added more same is fits =
       let next : new ≡ appended (bound_to layouts) (xs ++ more) = is ∙ (ap (appended g) same ∙ (ap (λ h. appended h more) held.0 ∙ appended_twice layouts xs more)) in
-      (next, subst FitsItself next fits (without_dense (first_type layouts) flat))
+      (next, subst FitsItself next fits)
 
   -- the same of a call that may refuse
-  pub holds_whole : (r : Result (Unit {0}) Error) (new : Grown) (added more whole : List Slot) → IsFlatType (physical_type_of (first_type layouts)) → added ≡ more → OnOk r (new ≡ appended g added) → OnOk r (FitsItself new) → whole ≡ xs ++ more → OnOk r (HasAppended layouts new whole)
-  holds_whole (Ok x) new added more whole flat same is fits all =
-      subst (HasAppended layouts new) (sym all) (holds_more new added more flat same is fits)
-  holds_whole (Err e) new added more whole flat same is fits all = tt
+  pub holds_whole : (r : Result (Unit {0}) Error) (new : Grown) (added more whole : List Slot) → added ≡ more → OnOk r (new ≡ appended g added) → OnOk r (FitsItself new) → whole ≡ xs ++ more → OnOk r (HasAppended layouts new whole)
+  holds_whole (Ok x) new added more whole same is fits all =
+      subst (HasAppended layouts new) (sym all) (holds_more new added more same is fits)
+  holds_whole (Err e) new added more whole same is fits all = tt
 
   -- rows that do not fit behind these do not fit in a whole that begins so
   pub refuses_whole : (added more rest whole : List Slot) → added ≡ more → (FitsWith g added → ⊥) → whole ≡ (xs ++ more) ++ rest → Fits (first_type layouts) whole → ⊥
@@ -58,11 +53,17 @@ module _ (layouts : List Layout) (g : Grown) (xs : List Slot) (held : HasAppende
   refuses_last added more whole same over is fits =
       refuses_whole added more [] whole same over (is ∙ sym (append-nil (xs ++ more))) fits
 
-  -- no row that is named is crowded
-  pub names_uncrowded : (array : AnyArray) (i start len : ℕ) → source_at layouts i ≡ layout_of array → IsFlat array → kind_in (physical_type_of (any_array_type array)) ≡ kind_of array → NamesCrowded g i start len → ⊥
-  names_uncrowded array i start len source flat kind crowded =
-      let row = subst (λ h. NamesCrowded h i start len) held.0 crowded in
-      uncrowded array (take i layouts) row.0 flat kind (subst (λ l. CrowdedRow (take i layouts) l row.0) source row.3)
+  -- rows that are refused, and of which none is crowded, do not fit
+  pub too_many_named : (i start len : ℕ) → (AreCrowded (Some layouts) i start len → ⊥) → CannotHold g i start len → FitsWith g (named_rows g i start len) → ⊥
+  too_many_named i start len room refused fits =
+      elim (subst (λ h. CannotHold h i start len) held.0 refused) [
+        | inl over ↦ over (subst (λ h. FitsWith h (named_rows h i start len)) held.0 fits)
+        | inr crowded ↦ room crowded
+      ]
+
+  -- and of the first array none is
+  pub too_many_first : (start len : ℕ) → CannotHold g 0 start len → FitsWith g (named_rows g 0 start len) → ⊥
+  too_many_first start len = too_many_named 0 start len (λ crowded. omega (arith, crowded.0))
 
 -- all rows of an array that is bound
 pub whole_source : (layouts : List Layout) (i : ℕ) (array : AnyArray) → source_at layouts i ≡ layout_of array → (n : ℕ) → n ≡ length (any_array_rows array) → sliced (rows (source_at layouts i)) 0 n ≡ any_array_rows array

@@ -46,7 +46,6 @@ fn selected<'a, G: Growable<'a> + Drop>(
     array: &AnyArray,
     filter: &BooleanArray,
 ) -> Result<AnyArray, Error>
-    requires flat { IsFlat array.now }
     requires bound { G.state growable ≡ bound_to (layout_of array.now ∷ []) }
     requires lengths { length (boolean_rows filter.now) ≡ length (any_array_rows array.now) }
     ensures array_type { IfOk result (λ kept. any_array_type kept ≡ any_array_type array.now) }
@@ -74,15 +73,12 @@ fn append_selected<'a, G: Growable<'a>>(
     array: &AnyArray,
     filter: &BooleanArray,
 ) -> Result<(), Error>
-    requires flat { IsFlat array.now }
     requires bound { G.state growable.old ≡ bound_to (layout_of array.now ∷ []) }
     requires lengths { length (boolean_rows filter.now) ≡ length (any_array_rows array.now) }
     ensures ok { OnOk result (HasAppended (layout_of array.now ∷ []) (G.state growable.new) (select (mask_of (boolean_rows filter.now)) (any_array_rows array.now))) }
     ensures overflow { result ≡ Err Error.Overflow → Fits (any_array_type array.now) (select (mask_of (boolean_rows filter.now)) (any_array_rows array.now)) → ⊥ }
     ensures others { IfErr result IsGrowthError }
 {
-    // The kind of an array follows from its data type: one without children has no crowded row.
-    let _ = array.data_type();
     for row in 0..array.len() {
         if is_true(filter, row) {
             growable.extend(0, row, 1)?;

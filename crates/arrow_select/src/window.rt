@@ -56,7 +56,6 @@ fn rows_between<'a, G: Growable<'a> + Drop>(
     front: usize,
     behind: usize,
 ) -> Result<AnyArray, Error>
-    requires flat { IsFlat array.now }
     requires bound { G.state growable ≡ bound_to (layout_of array.now ∷ []) }
     requires within { front + behind ≤ length (any_array_rows array.now) }
     ensures array_type { IfOk result (λ moved. any_array_type moved ≡ any_array_type array.now) }
@@ -78,15 +77,12 @@ fn append_between<'a, G: Growable<'a>>(
     front: usize,
     behind: usize,
 ) -> Result<(), Error>
-    requires flat { IsFlat array.now }
     requires bound { G.state growable.old ≡ bound_to (layout_of array.now ∷ []) }
     requires within { front + behind ≤ length (any_array_rows array.now) }
     ensures ok { OnOk result (HasAppended (layout_of array.now ∷ []) (G.state growable.new) (between (any_array_rows array.now) front behind (any_array_type array.now))) }
     ensures overflow { result ≡ Err Error.Overflow → Fits (any_array_type array.now) (between (any_array_rows array.now) front behind (any_array_type array.now)) → ⊥ }
     ensures others { IfErr result IsGrowthError }
 {
-    // The kind of an array follows from its data type: one without children has no crowded row.
-    let _ = array.data_type();
     growable.extend_validity(front)?;
     growable.extend(0, behind, array.len() - front - behind)?;
     growable.extend_validity(behind)

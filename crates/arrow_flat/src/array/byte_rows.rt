@@ -93,7 +93,7 @@ impl<O: Offset, K: ByteKind> ByteRows<O, K> {
         requires { start + len < length self.now.offsets }
         ensures { result.now ≡ concat (row_bytes (byte_slice self.now start len)) }
     {
-        let (start, end) = span(&self.offsets, start, len);
+        let (start, end) = self.offsets.range(start, len);
         &self.bytes.as_slice()[start..end]
     }
 }
@@ -147,18 +147,6 @@ impl<O: Offset, K: ByteKind> Clone for ByteRows<O, K> {
             kind: PhantomData,
         })
     }
-}
-
-/// Where the first of `len` rows from row `start` on begins, and the last of them ends.
-fn span<O: Offset>(offsets: &OffsetsBuffer<O>, start: usize, len: usize) -> (usize, usize)
-    requires { start + len < length offsets.now }
-    ensures start { result.0 ≡ slice_index offsets.now start }
-    ensures end { result.1 ≡ slice_index offsets.now (start + len) }
-    ensures rises { result.0 ≤ result.1 }
-    ensures within { result.1 ≤ last_of offsets.now }
-{
-    let offsets = offsets.buffer();
-    (offsets[start].to_usize(), offsets[start + len].to_usize())
 }
 
 /// How many bytes row `i` has.

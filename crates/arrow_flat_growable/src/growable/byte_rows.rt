@@ -10,7 +10,8 @@ ghost use Rattle.arrow_memory.specs.Offsets.{IsOffsets, last_of, valid_items, wi
 ghost use Rattle.arrow_memory.specs.Sliced.{sliced};
 ghost use Rattle.arrow_flat.specs.ByteRows.{byte_slots, row_bytes};
 ghost use Rattle.arrow_flat.specs.Pieces.{pieces};
-ghost use Rattle.arrow_flat_growable.specs.Bytes.{BeginsWith, IsBytesType, SparesBytes, filled, stored_rows, total, valid_bytes};
+ghost use Rattle.arrow_flat_growable.specs.Bytes.{BeginsWith, IsBytesType, SparesBytes, stored_rows};
+ghost use Rattle.arrow_flat_growable.specs.GrownRows.{filled, total, valid_values};
 
 use crate::growable::flat::GrowableValues;
 use arrow_arrays::array::{AnyArray, AnyOffset, AnyRows};
@@ -165,22 +166,6 @@ fn parts<O: Offset, K: ByteKind>(array: &FlatArray<ByteRows<O, K>>) -> (&Offsets
     (array.offsets(), array.values().as_slice())
 }
 
-/// Where the bytes of `len` rows from row `start` on begin and end.
-fn span<O: Offset>(rows: &OffsetsBuffer<O>, start: usize, len: usize) -> (usize, usize)
-    requires some { 0 < len }
-    requires part { start + len < length rows.now }
-    ensures start { result.0 ≡ slice_index rows.now start }
-    ensures end { result.1 ≡ slice_index rows.now (start + len) }
-    ensures rises { result.0 ≤ result.1 }
-    ensures within { result.1 ≤ last_of rows.now }
-    ensures sound { IsOffsets rows.now }
-{
-    prove!(start < rows.len());
-    let (first, _) = rows.start_end(start);
-    let (_, end) = rows.start_end(start + (len - 1));
-    (first, end)
-}
-
 /// Appends rows that others name in their bytes. Where that is refused, all is as before.
 fn copy_rows<O: Offset>(
     offsets: &mut Offsets<O>,
@@ -201,7 +186,7 @@ fn copy_rows<O: Offset>(
     ensures unchanged { OnErr result ((offsets.new ≡ offsets.old) × (bytes.new.items ≡ bytes.old.items)) }
 {
     prove!(0 < offsets.len());
-    let (first, end) = span(rows, start, len);
+    let (first, end) = rows.range(start, len);
     let part = &values[first..end];
     bytes.reserve(part.len())?;
     offsets.try_extend_from_slice(rows, start, len)?;
@@ -228,7 +213,7 @@ fn copy_valid_rows<O: Offset>(
     requires within { last_of rows.now ≤ length values.now }
     ensures sound { IsOffsets offsets.old }
     ensures rows_sound { IsOffsets rows.now }
-    ensures ok { OnOk result ((offsets.new ≡ with_valid_rows offsets.old (sliced validity.now start len) rows.now start) × (bytes.new.items ≡ bytes.old.items ++ valid_bytes (sliced validity.now start len) rows.now values.now start)) }
+    ensures ok { OnOk result ((offsets.new ≡ with_valid_rows offsets.old (sliced validity.now start len) rows.now start) × (bytes.new.items ≡ bytes.old.items ++ valid_values (sliced validity.now start len) rows.now values.now start)) }
     ensures overflow { result ≡ Err Error.Overflow → O.greatest < last_of offsets.old + valid_items (sliced validity.now start len) rows.now start }
     ensures others { IfErr result IsGrowthError }
     ensures unchanged { OnErr result ((offsets.new ≡ offsets.old) × (bytes.new.items ≡ bytes.old.items)) }
@@ -257,12 +242,12 @@ fn append_valid_rows<O: Offset>(
     requires part { start + len < length rows.now }
     requires covered { start + len ≤ length validity.now }
     requires within { last_of rows.now ≤ length values.now }
-    ensures ok { OnOk result ((offsets.new ≡ with_valid_rows offsets.old (sliced validity.now start len) rows.now start) × (bytes.new.items ≡ bytes.old.items ++ valid_bytes (sliced validity.now start len) rows.now values.now start)) }
+    ensures ok { OnOk result ((offsets.new ≡ with_valid_rows offsets.old (sliced validity.now start len) rows.now start) × (bytes.new.items ≡ bytes.old.items ++ valid_values (sliced validity.now start len) rows.now values.now start)) }
     ensures overflow { result ≡ Err Error.Overflow → O.greatest < last_of offsets.old + valid_items (sliced validity.now start len) rows.now start }
     ensures others { IfErr result IsGrowthError }
     ensures unchanged { OnErr result ((offsets.new ≡ offsets.old) × BeginsWith bytes.old.items bytes.new.items) }
 {
-    let (first, end) = span(rows, start, len);
+    let (first, end) = rows.range(start, len);
     // Room for the bytes of all these rows, which are no more than the array has. It is a wish: a null row takes none.
     let _ = bytes.reserve(end - first);
     append_valid_bytes(bytes, rows, values, validity, start, len)?;
@@ -282,7 +267,7 @@ fn append_valid_bytes<O: Offset>(
     requires part { start + len < length rows.now }
     requires covered { start + len ≤ length validity.now }
     requires within { last_of rows.now ≤ length values.now }
-    ensures ok { OnOk result (bytes.new.items ≡ bytes.old.items ++ valid_bytes (sliced validity.now start len) rows.now values.now start) }
+    ensures ok { OnOk result (bytes.new.items ≡ bytes.old.items ++ valid_values (sliced validity.now start len) rows.now values.now start) }
     ensures before { OnErr result (BeginsWith bytes.old.items bytes.new.items) }
     ensures err { IsOkUnless result Error.OutOfMemory }
 {
@@ -315,7 +300,7 @@ fn append_bytes<O: Offset>(
     if len == 0 {
         return Ok(());
     }
-    let (first, end) = span(rows, start, len);
+    let (first, end) = rows.range(start, len);
     bytes.extend_from_slice(&values[first..end])?;
     Ok(())
 }

@@ -8,7 +8,7 @@ ghost use Rattle.arrow_types.specs.Slot.{Null};
 ghost use Rattle.arrow_types.specs.TypeOf.{type_of};
 ghost use Rattle.arrow_flat.specs.Faults.{IsCarriedAs};
 ghost use Rattle.arrow_flat.specs.NullParts.{null_rows};
-ghost use Rattle.arrow_flat_growable.specs.Grown.{AreOfOneType, HasFailed, IsFailedOrMemory, IsFailedOrOverflow, IsRefusal, FitsItself, FitsWith, NamesCrowded, appended, bound_to, empty_over, named_rows, null_rows_of};
+ghost use Rattle.arrow_flat_growable.specs.Grown.{AreOfOneType, HasFailed, IsFailedOrMemory, IsFailedOrOverflow, IsRefusal, CannotHold, FitsItself, FitsWith, appended, bound_to, empty_over, named_rows, null_rows_of};
 ghost use Rattle.arrow_flat_growable.specs.Nulls.{CannotCount, IsGrownNull, null_layout};
 
 use crate::growable::Growable;
@@ -160,7 +160,7 @@ impl<'a> Growable<'a> for GrowableNull {
         ensures fits { OnOk result (FitsItself self.new) }
         ensures err { OnErr result (HasFailed self.old self.new) }
         ensures failed { (result ≡ Err Error.Failed) ↔ (self.old.failed ≡ true) }
-        ensures overflow { result ≡ Err Error.Overflow → FitsWith self.old (named_rows self.old index start len) → NamesCrowded self.old index start len }
+        ensures overflow { result ≡ Err Error.Overflow → CannotHold self.old index start len }
         ensures others { IfErr result IsRefusal }
         ensures takes_no_memory { IfErr result IsFailedOrOverflow }
         ensures exact { (result ≡ Err Error.Overflow) ↔ CannotCount self.old len }

@@ -17,7 +17,7 @@ use std::marker::Model;
 /// A bit for each row, set where the row is valid. No bitmap is kept until one is asked for or some row
 /// may be null.
 #[derive(Drop)]
-pub(crate) struct GrowableValidity {
+pub struct GrowableValidity {
     alloc: Global,
     bits: Option<MutableBitmap>,
     len: usize,
@@ -36,7 +36,10 @@ impl Model for GrowableValidity {
 
 impl GrowableValidity {
     /// No bits. With `is_kept` a bitmap is there from the first row on, with room for `capacity` bits.
-    pub(crate) fn new(
+    ///
+    /// # Errors
+    /// `OutOfMemory` where memory is refused, as for a capacity that is too great.
+    pub fn new(
         alloc: Global,
         is_kept: bool,
         capacity: usize,
@@ -56,12 +59,16 @@ impl GrowableValidity {
         })
     }
 
-    /// Appends the bits of `len` rows of an array from row `start` on, a word at a time.
+    /// Appends the bits of `len` rows of an array from row `start` on, a word at a time: all set where it
+    /// has no validity.
+    ///
+    /// # Requires
+    /// A validity has a bit for each of these rows.
     ///
     /// # Errors
     /// `Overflow` where there are to be more than 2^64 - 1 bits, `OutOfMemory` where memory is refused.
     #[inline(always)]
-    pub(crate) fn extend_from(
+    pub fn extend_from(
         &mut self,
         validity: Option<&Bitmap>,
         start: usize,
@@ -84,7 +91,7 @@ impl GrowableValidity {
     ///
     /// # Errors
     /// As of [`GrowableValidity::extend_from`].
-    pub(crate) fn extend_nulls(&mut self, additional: usize) -> Result<(), Error>
+    pub fn extend_nulls(&mut self, additional: usize) -> Result<(), Error>
         ensures ok { OnOk result (self.new ≡ self.old ++ replicate additional false) }
         ensures overflow { result ≡ Err Error.Overflow → 2 ^ 64 ≤ length self.old + additional }
         ensures others { IfErr result IsGrowthError }
@@ -101,7 +108,7 @@ impl GrowableValidity {
     ///
     /// # Errors
     /// `OutOfMemory` where memory is refused.
-    pub(crate) fn fresh(&self) -> Result<GrowableValidity, Error>
+    pub fn fresh(&self) -> Result<GrowableValidity, Error>
         ensures ok { IfOk result (λ validity. validity ≡ []) }
         ensures err { IsOkUnless result Error.OutOfMemory }
     {
@@ -112,7 +119,7 @@ impl GrowableValidity {
     ///
     /// # Errors
     /// `OutOfMemory` where memory is refused.
-    pub(crate) fn into_validity(self) -> Result<Option<Bitmap>, Error>
+    pub fn into_validity(self) -> Result<Option<Bitmap>, Error>
         ensures fits { IfOk result (λ validity. FitsRows validity (length self)) }
         ensures rows { IfOk result (λ validity. (xs : List Slot) → length xs ≡ length self → masked validity xs ≡ mask self xs) }
         ensures err { IsOkUnless result Error.OutOfMemory }

@@ -4,8 +4,9 @@ use Rattle.arrow_flat_growable.proofs.FlatLemmas.{source_is}
 use Rattle.arrow_flat_growable.proofs.ResultLemmas.{passed_on}
 use Rattle.arrow_select.specs.Arrays.{IsFlat, rows_in}
 use Rattle.arrow_select.specs.Growing.{HasAppended}
-use Rattle.arrow_select.proofs.ArrayLemmas.{first_flat, joined_next, joined_around, slice_get-map_read}
-use Rattle.arrow_select.proofs.GrowLemmas.{holds_none, holds_more, refuses_whole, names_uncrowded, named, whole_source}
+use Rattle.arrow_select.proofs.ArrayLemmas.{joined_next, joined_around, slice_get-map_read}
+use Rattle.arrow_select.proofs.FlatLemmas.{none_crowded}
+use Rattle.arrow_select.proofs.GrowLemmas.{holds_none, holds_more, refuses_whole, too_many_named, named, whole_source}
 use Rattle.arrow_select.proofs.concatenate.append_all.Goals as goal
 
 pub loop-index-init : goal.loop-index-init
@@ -22,7 +23,7 @@ returns-in_err-extend-clause-overflow g c overflows fits =
     let read = slice_get-map_read (λ (a : Bor _). any_array_rows a.now) arrays i c.index-arrays-index.result c.loop-index-test.true c.index-arrays-index.is in
     let overflow = ap Err (passed_on c.from_residual.result _ _ c.from_residual.ensures.1 overflows) in
     let more = named layouts _ _ c.loop-index.invariant i 0 c.len.result ∙ whole_source layouts i array source c.len.result c.len.ensures in
-    refuses_whole layouts _ _ c.loop-index.invariant _ _ _ _ more (λ fit. names_uncrowded layouts _ _ c.loop-index.invariant array i 0 c.len.result source flat c.data_type.ensures.kind (c.in_err-extend.ensures.overflow overflow fit)) (joined_around (rows_in arrays) i _ read) fits
+    refuses_whole layouts _ _ c.loop-index.invariant _ _ _ _ more (too_many_named layouts _ _ c.loop-index.invariant i 0 c.len.result (none_crowded layouts array i 0 c.len.result source flat c.data_type.ensures.kind) (c.in_err-extend.ensures.overflow overflow)) (joined_around (rows_in arrays) i _ read) fits
 
 pub loop-index-preserved : goal.loop-index-preserved
 loop-index-preserved g c =
@@ -30,7 +31,6 @@ loop-index-preserved g c =
     let layouts = layouts_in arrays in
     let i = c.loop-index.index in
     let source = source_is (λ (a : Bor _). layout_of a.now) arrays i c.index-arrays-index.result c.loop-index-test.true c.index-arrays-index.is in
-    let first = first_flat (λ (a : Bor _). layout_of a.now) arrays i c.loop-index-test.true c.requires.flat in
     let read = slice_get-map_read (λ (a : Bor _). any_array_rows a.now) arrays i c.index-arrays-index.result c.loop-index-test.true c.index-arrays-index.is in
     let more = named layouts _ _ c.loop-index.invariant i 0 c.len.result ∙ whole_source layouts i c.index-arrays-index.result.now source c.len.result c.len.ensures in
-    subst (HasAppended layouts (g.G.Growable.state c.extend.new.self)) (sym (joined_next (rows_in arrays) i _ read)) (holds_more layouts _ _ c.loop-index.invariant _ _ _ first more c.in_ok-extend.ensures.ok c.in_ok-extend.ensures.fits)
+    subst (HasAppended layouts (g.G.Growable.state c.extend.new.self)) (sym (joined_next (rows_in arrays) i _ read)) (holds_more layouts _ _ c.loop-index.invariant _ _ _ more c.in_ok-extend.ensures.ok c.in_ok-extend.ensures.fits)

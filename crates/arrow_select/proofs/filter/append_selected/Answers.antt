@@ -4,7 +4,7 @@ use Rattle.arrow_arrays.specs.Any.{any_array_rows, layout_of}
 use Rattle.arrow_flat_growable.proofs.ResultLemmas.{passed_on}
 use Rattle.arrow_select.specs.Growing.{HasAppended}
 use Rattle.arrow_select.proofs.FilterLemmas.{keeps_row, leaves_row}
-use Rattle.arrow_select.proofs.GrowLemmas.{holds_none, holds_more, refuses_whole, names_uncrowded, named}
+use Rattle.arrow_select.proofs.GrowLemmas.{holds_none, holds_more, refuses_whole, too_many_first, named}
 use Rattle.arrow_select.proofs.filter.append_selected.Goals as goal
 use Rattle.arrow_select.proofs.filter.append_selected.Goals.{then-is_true+in_ok-extend, else-is_true}
 
@@ -19,7 +19,7 @@ returns-in_err-extend-clause-overflow g c overflows fits =
     let held = c.loop-row.invariant.1 in
     let overflow = ap Err (passed_on c.from_residual.result _ _ c.from_residual.ensures.1 overflows) in
     let whole = keeps_row kept _ (any_array_rows array) c.loop-row.row c.loop-row.invariant.2 (c.is_true.ensures ∙ ap Some c.if-is_true.true) (omega (arith, c.loop-row-test.true, c.len-row-end.ensures)) in
-    refuses_whole layouts _ kept held _ _ _ _ (named layouts _ kept held 0 c.loop-row.row 1) (λ fit. names_uncrowded layouts _ kept held array 0 c.loop-row.row 1 refl c.requires.flat c.data_type.ensures.kind (c.in_err-extend.ensures.overflow overflow fit)) (sym whole) fits
+    refuses_whole layouts _ kept held _ _ _ _ (named layouts _ kept held 0 c.loop-row.row 1) (too_many_first layouts _ kept held c.loop-row.row 1 (c.in_err-extend.ensures.overflow overflow)) (sym whole) fits
 
 pub loop-row-preserved : goal.loop-row-preserved
 loop-row-preserved g c =
@@ -30,7 +30,7 @@ loop-row-preserved g c =
     let within : c.loop-row.row < length (any_array_rows array) = omega (arith, c.loop-row-test.true, c.len-row-end.ensures) in
     elim c.if-is_true.branch [
       | then-is_true+in_ok-extend w ↦
-          (kept ++ sliced (any_array_rows array) c.loop-row.row 1, subst (λ h. HasAppended layouts (g.G.Growable.state h) _) (sym w.growable-is) (holds_more layouts _ kept held _ _ _ c.requires.flat (named layouts _ kept held 0 c.loop-row.row 1) w.in_ok-extend.ensures.ok w.in_ok-extend.ensures.fits), keeps_row kept _ (any_array_rows array) c.loop-row.row c.loop-row.invariant.2 (c.is_true.ensures ∙ ap Some w.if-is_true.true) within)
+          (kept ++ sliced (any_array_rows array) c.loop-row.row 1, subst (λ h. HasAppended layouts (g.G.Growable.state h) _) (sym w.growable-is) (holds_more layouts _ kept held _ _ _ (named layouts _ kept held 0 c.loop-row.row 1) w.in_ok-extend.ensures.ok w.in_ok-extend.ensures.fits), keeps_row kept _ (any_array_rows array) c.loop-row.row c.loop-row.invariant.2 (c.is_true.ensures ∙ ap Some w.if-is_true.true) within)
       | else-is_true w ↦
           (kept, subst (λ h. HasAppended layouts (g.G.Growable.state h) kept) (sym w.growable-is) held, leaves_row kept _ (any_array_rows array) c.loop-row.row c.loop-row.invariant.2 (c.is_true.ensures ∙ ap Some w.if-is_true.false) within)
     ]

@@ -4,7 +4,7 @@ use Rattle.arrow_memory.specs.Sliced.{sliced}
 use Rattle.arrow_arrays.specs.Any.{any_array_type, any_array_rows, layout_of}
 use Rattle.arrow_flat_growable.proofs.ResultLemmas.{passed_on}
 use Rattle.arrow_select.specs.Growing.{between}
-use Rattle.arrow_select.proofs.GrowLemmas.{holds_none, holds_more, holds_whole, refuses_last, refuses_whole, names_uncrowded, nulls, named}
+use Rattle.arrow_select.proofs.GrowLemmas.{holds_none, holds_more, holds_whole, refuses_last, refuses_whole, too_many_first, nulls, named}
 use Rattle.arrow_select.proofs.window.append_between.Goals as goal
 
 pub returns-in_err-extend_validity-clause-overflow :
@@ -24,10 +24,10 @@ returns-in_err-extend-clause-overflow g c overflows fits =
     let xs = any_array_rows array in
     let layouts = layout_of array ∷ [] in
     let none = holds_none layouts _ c.requires.bound in
-    let front = holds_more layouts _ [] none _ _ _ c.requires.flat (nulls layouts _ [] none _) c.in_ok-extend_validity.ensures.ok c.in_ok-extend_validity.ensures.fits in
+    let front = holds_more layouts _ [] none _ _ _ (nulls layouts _ [] none _) c.in_ok-extend_validity.ensures.ok c.in_ok-extend_validity.ensures.fits in
     let overflow = ap Err (passed_on c.from_residual-in_err-extend.result _ _ c.from_residual-in_err-extend.ensures.1 overflows) in
     let more = named layouts _ _ front 0 c.args.behind _ ∙ ap (λ n. sliced xs c.args.behind (n - c.args.front - c.args.behind)) c.len.ensures in
-    refuses_whole layouts _ _ front _ _ (replicate c.args.behind (null_slot (any_array_type array))) (between xs c.args.front c.args.behind (any_array_type array)) more (λ fit. names_uncrowded layouts _ _ front array 0 c.args.behind _ refl c.requires.flat c.data_type.ensures.kind (c.in_err-extend.ensures.overflow overflow fit)) refl fits
+    refuses_whole layouts _ _ front _ _ (replicate c.args.behind (null_slot (any_array_type array))) (between xs c.args.front c.args.behind (any_array_type array)) more (too_many_first layouts _ _ front c.args.behind _ (c.in_err-extend.ensures.overflow overflow)) refl fits
 
 pub returns-clause-ok : goal.returns-clause-ok
 returns-clause-ok g c =
@@ -35,10 +35,10 @@ returns-clause-ok g c =
     let xs = any_array_rows array in
     let layouts = layout_of array ∷ [] in
     let none = holds_none layouts _ c.requires.bound in
-    let front = holds_more layouts _ [] none _ _ _ c.requires.flat (nulls layouts _ [] none _) c.in_ok-extend_validity.ensures.ok c.in_ok-extend_validity.ensures.fits in
+    let front = holds_more layouts _ [] none _ _ _ (nulls layouts _ [] none _) c.in_ok-extend_validity.ensures.ok c.in_ok-extend_validity.ensures.fits in
     let more = named layouts _ _ front 0 c.args.behind _ ∙ ap (λ n. sliced xs c.args.behind (n - c.args.front - c.args.behind)) c.len.ensures in
-    let kept = holds_more layouts _ _ front _ _ _ c.requires.flat more c.in_ok-extend.ensures.ok c.in_ok-extend.ensures.fits in
-    holds_whole layouts _ _ kept c.extend_validity-2.result _ _ _ (between xs c.args.front c.args.behind (any_array_type array)) c.requires.flat (nulls layouts _ _ kept _) c.extend_validity-2.ensures.ok c.extend_validity-2.ensures.fits refl
+    let kept = holds_more layouts _ _ front _ _ _ more c.in_ok-extend.ensures.ok c.in_ok-extend.ensures.fits in
+    holds_whole layouts _ _ kept c.extend_validity-2.result _ _ _ (between xs c.args.front c.args.behind (any_array_type array)) (nulls layouts _ _ kept _) c.extend_validity-2.ensures.ok c.extend_validity-2.ensures.fits refl
 
 pub returns-clause-overflow : goal.returns-clause-overflow
 returns-clause-overflow g c overflows fits =
@@ -46,7 +46,7 @@ returns-clause-overflow g c overflows fits =
     let xs = any_array_rows array in
     let layouts = layout_of array ∷ [] in
     let none = holds_none layouts _ c.requires.bound in
-    let front = holds_more layouts _ [] none _ _ _ c.requires.flat (nulls layouts _ [] none _) c.in_ok-extend_validity.ensures.ok c.in_ok-extend_validity.ensures.fits in
+    let front = holds_more layouts _ [] none _ _ _ (nulls layouts _ [] none _) c.in_ok-extend_validity.ensures.ok c.in_ok-extend_validity.ensures.fits in
     let more = named layouts _ _ front 0 c.args.behind _ ∙ ap (λ n. sliced xs c.args.behind (n - c.args.front - c.args.behind)) c.len.ensures in
-    let kept = holds_more layouts _ _ front _ _ _ c.requires.flat more c.in_ok-extend.ensures.ok c.in_ok-extend.ensures.fits in
+    let kept = holds_more layouts _ _ front _ _ _ more c.in_ok-extend.ensures.ok c.in_ok-extend.ensures.fits in
     refuses_last layouts _ _ kept _ _ (between xs c.args.front c.args.behind (any_array_type array)) (nulls layouts _ _ kept _) (c.extend_validity-2.ensures.overflow overflows) refl fits

@@ -1,7 +1,7 @@
 use Rattle.std.proofs.Common.{arith, ◌∙◌, ◌+◌, ◌-◌, ◌++◌, slice_index, ap}
 use Rattle.std.proofs.lemmas.List.{append_assoc}
 use Rattle.arrow_memory.specs.Sliced.{sliced}
-use Rattle.arrow_flat_growable.specs.Bytes.{valid_bytes}
+use Rattle.arrow_flat_growable.specs.GrownRows.{valid_values}
 use Rattle.arrow_flat_growable.proofs.ValidRowLemmas.{run_copied, run_long}
 use Rattle.arrow_flat_growable.proofs.growable.byte_rows.append_valid_bytes.Goals as goal
 
@@ -18,4 +18,4 @@ loop-row-preserved g c =
     let long = run_long nulls count c.loop-row.left c.next_set-nulls.new.self c.next_set-nulls.ensures.bits in
     let begins = before.1 in
     let grown = c.in_ok-append_bytes.ensures.ok in
-    (omega (arith, before.0, long), (begins.0 ++ part, grown ∙ (ap (λ ys. ys ++ part) begins.1 ∙ append_assoc c.args.bytes.now.items begins.0 part)), run_copied others values c.len.ensures.sound c.requires.within nulls count c.loop-row.left c.next_set-nulls.new.self row c.next_set-nulls.ensures.bits (omega (arith, before.0, c.requires.part)) (c.args.bytes.now.items ++ valid_bytes (sliced c.args.validity.now c.args.start c.args.len) others values c.args.start) c.loop-row.bytes.items c.append_bytes.new.bytes.items grown before.2)
+    (omega (arith, before.0, long), (begins.0 ++ part, grown ∙ (ap (λ ys. ys ++ part) begins.1 ∙ append_assoc c.args.bytes.now.items begins.0 part)), run_copied others values c.len.ensures.sound c.requires.within nulls count c.loop-row.left c.next_set-nulls.new.self row c.next_set-nulls.ensures.bits (omega (arith, before.0, c.requires.part)) (c.args.bytes.now.items ++ valid_values (sliced c.args.validity.now c.args.start c.args.len) others values c.args.start) c.loop-row.bytes.items c.append_bytes.new.bytes.items grown before.2)

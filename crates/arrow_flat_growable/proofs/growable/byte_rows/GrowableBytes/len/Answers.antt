@@ -3,8 +3,8 @@ use Rattle.std.proofs.lemmas.Int.{ints}
 use Rattle.arrow_flat.specs.ByteRows.{row_bytes}
 use Rattle.arrow_flat.proofs.PieceLemmas.{length-pieces}
 use Rattle.arrow_memory.specs.Offsets.{last_of}
-use Rattle.arrow_flat_growable.specs.Bytes.{total}
-use Rattle.arrow_flat_growable.proofs.ByteLemmas.{total_grown}
+use Rattle.arrow_flat_growable.specs.GrownRows.{total}
+use Rattle.arrow_flat_growable.proofs.GrownRowLemmas.{total_grown}
 use Rattle.arrow_flat_growable.proofs.growable.byte_rows.GrowableBytes.len.Goals as goal
 
 pub returns-clause-rows : goal.returns-clause-rows

@@ -1,4 +1,4 @@
-use Rattle.std.proofs.Common.{arith, ◌≡◌, ◌+◌, ◌++◌, length, map, Some, Err, Bor, false, ap, sym, subst, ◌∙◌}
+use Rattle.std.proofs.Common.{arith, ◌≡◌, ◌+◌, ◌++◌, length, map, Some, Err, Bor, false, ap, sym, subst, ◌∙◌, inl}
 use Rattle.std.proofs.lemmas.List.{length-map}
 use Rattle.arrow_types.specs.Fits.{Fits}
 use Rattle.arrow_types.specs.Rows.{mask}
@@ -7,29 +7,27 @@ use Rattle.arrow_memory.specs.Sliced.{sliced}
 use Rattle.arrow_memory.proofs.SlicedLemmas.{length-sliced}
 use Rattle.arrow_arrays.specs.Layout.{rows}
 use Rattle.arrow_flat_growable.specs.Flat.{flat_layout}
-use Rattle.arrow_flat_growable.specs.Grown.{FitsWith, NamesRows, named_rows, source_at}
+use Rattle.arrow_flat_growable.specs.Grown.{CannotHold, NamesRows, source_at}
 use Rattle.arrow_flat_growable.proofs.FlatLemmas.{counts_rows, source_is, too_many}
 use Rattle.arrow_flat_growable.proofs.ResultLemmas.{passed_on}
 use Rattle.arrow_flat_growable.proofs.growable.flat.FlatGrowableGrowable.extend.Goals as goal
 
 pub returns-in_default-clause-overflow : goal.returns-in_default-clause-overflow
-returns-in_default-clause-overflow g c same fits =
+returns-in_default-clause-overflow g c same =
     let t = type_of c.self.inside.data_type in
     let before = mask c.self.inside.validity (g.G.GrowableValues.slots c.self.inside.values) in
     let layouts = map (λ r. flat_layout g.G.GrowableValues.type_in g.G.GrowableValues.bits_in g.G.GrowableValues.stored_in r.now) c.self.inside.arrays.items in
     let there = subst (λ h. NamesRows h c.args.index c.args.start c.args.len) (sym c.self.view_is) c.requires in
-    let fit = subst (λ h. FitsWith h (named_rows h c.args.index c.args.start c.args.len)) (sym c.self.view_is) fits in
     let named = sliced (rows (source_at layouts c.args.index)) c.args.start c.args.len in
-    absurd (too_many t before named c.self.inside.len c.args.len fit (counts_rows _ _ _ _ _ _ _ _ _ c.self.invariant c.if-self.false) (length-sliced _ c.args.start c.args.len there.1) (omega (arith, c.in_default.ensures)))
+    subst (λ h. CannotHold h c.args.index c.args.start c.args.len) c.self.view_is (inl (λ fits. too_many t before named c.self.inside.len c.args.len fits (counts_rows _ _ _ _ _ _ _ _ _ c.self.invariant c.if-self.false) (length-sliced _ c.args.start c.args.len there.1) (omega (arith, c.in_default.ensures))))
 
 pub returns-in_err-append-clause-overflow : goal.returns-in_err-append-clause-overflow
-returns-in_err-append-clause-overflow g c overflows fits =
+returns-in_err-append-clause-overflow g c overflows =
     let t = type_of c.self.inside.data_type in
     let before = mask c.self.inside.validity (g.G.GrowableValues.slots c.self.inside.values) in
     let there = subst (λ h. NamesRows h c.args.index c.args.start c.args.len) (sym c.self.view_is) c.requires in
-    let fit = subst (λ h. FitsWith h (named_rows h c.args.index c.args.start c.args.len)) (sym c.self.view_is) fits in
     let source = source_is (λ r. flat_layout g.G.GrowableValues.type_in g.G.GrowableValues.bits_in g.G.GrowableValues.stored_in r.now) c.self.inside.arrays.items c.args.index c.index-array.result.now (omega (arith, there.0, length-map c.self.inside.arrays.items (λ r. flat_layout g.G.GrowableValues.type_in g.G.GrowableValues.bits_in g.G.GrowableValues.stored_in r.now))) c.index-array.ensures in
-    absurd (c.in_err-append.ensures.overflow t c.self.invariant.kind (ap Err (passed_on c.from_residual.result _ _ c.from_residual.ensures.1 overflows)) (subst (λ l. Fits t (before ++ sliced (rows l) c.args.start c.args.len)) source fit))
+    subst (λ h. CannotHold h c.args.index c.args.start c.args.len) c.self.view_is (inl (λ fits. c.in_err-append.ensures.overflow t c.self.invariant.kind (ap Err (passed_on c.from_residual.result _ _ c.from_residual.ensures.1 overflows)) (subst (λ l. Fits t (before ++ sliced (rows l) c.args.start c.args.len)) source fits)))
 
 pub invariant_of-self-2 : goal.invariant_of-self-2
 invariant_of-self-2 g c =
@@ -49,5 +47,5 @@ returns-clause-ok g c =
     rw (← c.self.view_is) (λ i. record { arrow_type = t; sources = Some layouts; rows = grown i; count = count i; failed = false })
 
 pub returns-clause-fits : goal.returns-clause-fits
-returns-clause-fits g c sparse =
+returns-clause-fits g c =
     g.met.G.GrowableValues.fits_rows c.append.new.values _ c.append.new.validity (g.G.GrowableValues.slots c.append.new.values) (c.in_ok-append.ensures.kind _ c.self.invariant.kind) c.in_ok-append.ensures.covers.covered (c.in_ok-append.ensures.fits _ c.self.invariant.kind)

@@ -1,7 +1,7 @@
-use Rattle.std.proofs.Common.{◌∙◌, Some, map, ap, length, subst, sym}
+use Rattle.std.proofs.Common.{◌∙◌, Some, map, ap, length, subst, sym, inl}
 use Rattle.std.proofs.lemmas.List.{length-replicate}
 use Rattle.arrow_types.specs.Slot.{Null}
-use Rattle.arrow_flat_growable.specs.Grown.{FitsWith, NamesRows, appended, named_rows}
+use Rattle.arrow_flat_growable.specs.Grown.{CannotHold, NamesRows, appended}
 use Rattle.arrow_flat_growable.specs.Nulls.{null_layout, with_sources}
 use Rattle.arrow_flat_growable.proofs.NullLemmas.{nulls_among, nulls_over, nulls_within}
 use Rattle.arrow_flat_growable.proofs.ResultLemmas.{on_ok}
@@ -19,8 +19,7 @@ returns-clause-fits c =
     on_ok c.extend_nulls.result c.extend_nulls.ensures.fits (λ counted. nulls_within c.extend_nulls.new.self c.extend_nulls.ensures.after counted)
 
 pub returns-clause-overflow : goal.returns-clause-overflow
-returns-clause-overflow c overflows fits =
+returns-clause-overflow c overflows =
     let there = subst (λ h. NamesRows h c.args._index c.args._start c.args.len) (sym c.self.view_is) c.requires in
-    let fit = subst (λ h. FitsWith h (named_rows h c.args._index c.args._start c.args.len)) (sym c.self.view_is) fits in
     let named = nulls_among (λ r. r.now) c.self.inside.arrays.items c.args._index c.args._start c.args.len there.0 there.1 in
-    absurd (nulls_over c.self.inside.growable _ c.args.len c.extend_nulls.ensures.before (ap length named ∙ length-replicate c.args.len Null) fit ((c.extend_nulls.ensures.overflow.0 overflows).1))
+    subst (λ h. CannotHold h c.args._index c.args._start c.args.len) c.self.view_is (inl (λ fits. nulls_over c.self.inside.growable _ c.args.len c.extend_nulls.ensures.before (ap length named ∙ length-replicate c.args.len Null) fits ((c.extend_nulls.ensures.overflow.0 overflows).1)))

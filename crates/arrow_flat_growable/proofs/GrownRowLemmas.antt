@@ -1,4 +1,4 @@
--- Rows of bytes that come behind others.
+-- Rows that come behind others, in bytes or in the rows of a child.
 use Rattle.std.proofs.Common.{arith, ◌≡◌, ◌+◌, ◌-◌, ◌<◌, ◌≤◌, ℕ, zero, suc, pos, true, List, [], ◌∷◌, ◌++◌, length, map, replicate, take, drop, slice_index, refl, ap, sym, subst, ◌∙◌}
 use Rattle.std.specs.Prelude.{Result, Ok, Err, OnOk, OnErr}
 use Rattle.std.specs.List.{All}
@@ -14,7 +14,7 @@ use Rattle.arrow_memory.proofs.SlicedLemmas.{length-sliced, sliced-sliced}
 use Rattle.arrow_flat.specs.PieceLaws.{pieces-sliced}
 use Rattle.arrow_flat.specs.Pieces.{pieces, pieces_from}
 use Rattle.arrow_flat.proofs.PieceLemmas.{last_of_part, part_of_offsets}
-use Rattle.arrow_flat_growable.specs.Bytes.{AreGrownBytes, filled, total}
+use Rattle.arrow_flat_growable.specs.GrownRows.{AreGrown, filled, total}
 
 -- the last of some offsets
 
@@ -34,13 +34,13 @@ last_same n (suc k) = last_behind n n (replicate k n) ∙ last_same n k
 
 -- rows that come behind others
 
-pub pieces-more : (n : ℕ) (os more xs : List ℕ) → pieces_from n (os ++ more) xs ≡ pieces_from n os xs ++ pieces_from (last_of (n ∷ os)) more xs
+pub pieces-more : {A : Type 0} (n : ℕ) (os more : List ℕ) (xs : List A) → pieces_from n (os ++ more) xs ≡ pieces_from n os xs ++ pieces_from (last_of (n ∷ os)) more xs
 pieces-more n [] more xs = refl
 pieces-more n (m ∷ os) more xs =
     ap (λ rows. sliced xs n (m - n) ∷ rows) (pieces-more m os more xs ∙ ap (λ l. pieces_from m os xs ++ pieces_from l more xs) (sym (last_behind n m os)))
 
--- more bytes change no row before them
-pub pieces-within : (n : ℕ) (os xs ys : List ℕ) → n ≤ length xs → ((j : ℕ) → j < length os → slice_index os j ≤ length xs) → pieces_from n os (xs ++ ys) ≡ pieces_from n os xs
+-- more values change no row before them
+pub pieces-within : {A : Type 0} (n : ℕ) (os : List ℕ) (xs ys : List A) → n ≤ length xs → ((j : ℕ) → j < length os → slice_index os j ≤ length xs) → pieces_from n os (xs ++ ys) ≡ pieces_from n os xs
 pieces-within n [] xs ys low high = refl
 pieces-within n (m ∷ os) xs ys low high =
     let end : m ≤ length xs = high 0 (omega arith) in
@@ -48,26 +48,26 @@ pieces-within n (m ∷ os) xs ys low high =
     ap (take (m - n)) (drop-append-le n xs ys low) ∙ take-append-le (m - n) (drop n xs) ys (omega (arith, end, length-drop n xs)) in
     λ i. here i ∷ pieces-within m os xs ys end (λ j within. high (suc j) (omega (arith, within))) i
 
--- the same rows in a copy of the bytes from one place on
-pieces-moved : (bytes values : List ℕ) (first count n : ℕ) (ns : List ℕ) → first ≤ n → n ≤ first + count → ((j : ℕ) → j < length ns → (first ≤ slice_index ns j) × (slice_index ns j ≤ first + count)) → pieces_from (length bytes + (n - first)) (map (λ k. length bytes + (k - first)) ns) (bytes ++ sliced values first count) ≡ pieces_from n ns values
-pieces-moved bytes values first count n [] low high within = refl
-pieces-moved bytes values first count n (m ∷ ns) low high within =
+-- the same rows in a copy of the values from one place on
+pieces-moved : {A : Type 0} (own values : List A) (first count n : ℕ) (ns : List ℕ) → first ≤ n → n ≤ first + count → ((j : ℕ) → j < length ns → (first ≤ slice_index ns j) × (slice_index ns j ≤ first + count)) → pieces_from (length own + (n - first)) (map (λ k. length own + (k - first)) ns) (own ++ sliced values first count) ≡ pieces_from n ns values
+pieces-moved own values first count n [] low high within = refl
+pieces-moved own values first count n (m ∷ ns) low high within =
     let next = within 0 (omega arith) in
-    let long : length bytes + (m - first) - (length bytes + (n - first)) ≡ m - n = omega (arith, low, next.0) in
+    let long : length own + (m - first) - (length own + (n - first)) ≡ m - n = omega (arith, low, next.0) in
     let back : first + (n - first) ≡ n = omega (arith, low) in
-    let here : sliced (bytes ++ sliced values first count) (length bytes + (n - first)) (length bytes + (m - first) - (length bytes + (n - first))) ≡ sliced values n (m - n) =
-    (λ i. take (long i) (drop-append-add bytes (sliced values first count) (n - first) i)) ∙ (sliced-sliced values first count (n - first) (m - n) (omega (arith, low, high, next.0, next.1)) ∙ ap (λ s. sliced values s (m - n)) back) in
-    λ i. here i ∷ pieces-moved bytes values first count m ns next.0 next.1 (λ j inside. within (suc j) (omega (arith, inside))) i
+    let here : sliced (own ++ sliced values first count) (length own + (n - first)) (length own + (m - first) - (length own + (n - first))) ≡ sliced values n (m - n) =
+    (λ i. take (long i) (drop-append-add own (sliced values first count) (n - first) i)) ∙ (sliced-sliced values first count (n - first) (m - n) (omega (arith, low, high, next.0, next.1)) ∙ ap (λ s. sliced values s (m - n)) back) in
+    λ i. here i ∷ pieces-moved own values first count m ns next.0 next.1 (λ j inside. within (suc j) (omega (arith, inside))) i
 
-pieces-empty : (n k : ℕ) (xs : List ℕ) → pieces_from n (replicate k n) xs ≡ replicate k []
+pieces-empty : {A : Type 0} (n k : ℕ) (xs : List A) → pieces_from n (replicate k n) xs ≡ replicate k []
 pieces-empty n zero xs = refl
 pieces-empty n (suc k) xs =
     let none : n - n ≡ 0 = omega arith in
     λ i. take (none i) (drop n xs) ∷ pieces-empty n k xs i
 
--- the bytes of all rows
+-- how many values all rows have
 
-total-from : (n : ℕ) (os xs : List ℕ) → RisesFrom (pos n) (map pos os) → last_of (n ∷ os) ≤ length xs → total (pieces_from n os xs) + n ≡ last_of (n ∷ os)
+total-from : {A : Type 0} (n : ℕ) (os : List ℕ) (xs : List A) → RisesFrom (pos n) (map pos os) → last_of (n ∷ os) ≤ length xs → total (pieces_from n os xs) + n ≡ last_of (n ∷ os)
 total-from n [] xs rises within =
     let last : last_of (n ∷ []) ≡ n = refl in
     omega (arith, last)
@@ -79,16 +79,16 @@ total-from n (m ∷ os) xs rises within =
     let rest = total-from m os xs rises.1 (omega (arith, within, last)) in
     omega (arith, sum_by-cons length (sliced xs n (m - n)) (pieces_from m os xs), length-sliced xs n (m - n) (omega (arith, within, last, below, up)), rest, last, below, up)
 
-pub total_pieces : (os xs : List ℕ) → IsOffsets os → last_of os ≤ length xs → total (pieces os xs) + slice_index os 0 ≡ last_of os
+pub total_pieces : {A : Type 0} (os : List ℕ) (xs : List A) → IsOffsets os → last_of os ≤ length xs → total (pieces os xs) + slice_index os 0 ≡ last_of os
 total_pieces [] xs held within = absurd (omega (arith, held.some))
 total_pieces (n ∷ os) xs held within = total-from n os xs held.rises.1 within
 
--- rows of no bytes behind others
+-- empty rows behind others
 
-pub empty_rows : (os bytes : List ℕ) (k : ℕ) → IsOffsets os → pieces (os ++ replicate k (last_of os)) bytes ≡ pieces os bytes ++ replicate k []
-empty_rows [] bytes k held = absurd (omega (arith, held.some))
-empty_rows (n ∷ os) bytes k held =
-    pieces-more n os (replicate k (last_of (n ∷ os))) bytes ∙ ap (λ rows. pieces_from n os bytes ++ rows) (pieces-empty (last_of (n ∷ os)) k bytes)
+pub empty_rows : {A : Type 0} (os : List ℕ) (own : List A) (k : ℕ) → IsOffsets os → pieces (os ++ replicate k (last_of os)) own ≡ pieces os own ++ replicate k []
+empty_rows [] own k held = absurd (omega (arith, held.some))
+empty_rows (n ∷ os) own k held =
+    pieces-more n os (replicate k (last_of (n ∷ os))) own ∙ ap (λ rows. pieces_from n os own ++ rows) (pieces-empty (last_of (n ∷ os)) k own)
 
 pub empty_ends : (os : List ℕ) (k : ℕ) → IsOffsets os → last_of (os ++ replicate k (last_of os)) ≡ last_of os
 empty_ends [] k held = absurd (omega (arith, held.some))
@@ -114,7 +114,7 @@ mapped_at f [] i within = absurd (omega (arith, within))
 mapped_at f (x ∷ xs) zero within = refl
 mapped_at f (x ∷ xs) (suc i) within = mapped_at f xs i (omega (arith, within))
 
-module _ (others values : List ℕ) (start len : ℕ) (held : IsOffsets others) (part : start + len < length others) (within : last_of others ≤ length values) where
+module _ {A : Type 0} (others : List ℕ) (values : List A) (start len : ℕ) (held : IsOffsets others) (part : start + len < length others) (within : last_of others ≤ length values) where
   rise : slice_index others start ≤ slice_index others (start + len)
   rise = offsets_rise others start (start + len) held (omega arith) part
 
@@ -130,7 +130,7 @@ module _ (others values : List ℕ) (start len : ℕ) (held : IsOffsets others) 
       let last : length (sliced others start (len + 1)) - 1 ≡ len = omega (arith, long) in
       ap (λ i. slice_index (sliced others start (len + 1)) i) last ∙ part_at len (omega arith)
 
-  -- the bytes of these rows
+  -- how many values these rows have
   pub total_part : total (sliced (pieces others values) start len) ≡ slice_index others (start + len) - slice_index others start
   total_part =
       let none : start + 0 ≡ start = omega arith in
@@ -151,19 +151,19 @@ module _ (others values : List ℕ) (start len : ℕ) (held : IsOffsets others) 
       let high = offsets_rise others (start + 1 + j) (start + len) held (omega (arith, inside, long)) part in
       (omega (arith, read, low), omega (arith, read, high, rise))
 
-  pub part_moved : (os bytes : List ℕ) → IsOffsets os → last_of os ≡ length bytes → pieces (with_rows os others start len) (bytes ++ sliced values (slice_index others start) (slice_index others (start + len) - slice_index others start)) ≡ pieces os bytes ++ sliced (pieces others values) start len
-  part_moved [] bytes sound ends = absurd (omega (arith, sound.some))
-  part_moved (n ∷ os) bytes sound ends =
+  pub part_moved : (os : List ℕ) (own : List A) → IsOffsets os → last_of os ≡ length own → pieces (with_rows os others start len) (own ++ sliced values (slice_index others start) (slice_index others (start + len) - slice_index others start)) ≡ pieces os own ++ sliced (pieces others values) start len
+  part_moved [] own sound ends = absurd (omega (arith, sound.some))
+  part_moved (n ∷ os) own sound ends =
       let first = slice_index others start in
       let count = slice_index others (start + len) - slice_index others start in
       let ns = sliced others (start + 1) len in
-      let all = bytes ++ sliced values first count in
-      let zero_first : length bytes + (first - first) ≡ length bytes = omega arith in
-      let place : last_of (n ∷ os) ≡ length bytes + (first - first) = ends ∙ sym zero_first in
-      let old : pieces_from n os all ≡ pieces_from n os bytes =
-      pieces-within n os bytes (sliced values first count) (omega (arith, ends, at_most_last (n ∷ os) 0 sound (omega arith))) (λ j inside. omega (arith, ends, at_most_last (n ∷ os) (suc j) sound (omega (arith, inside)))) in
+      let all = own ++ sliced values first count in
+      let zero_first : length own + (first - first) ≡ length own = omega arith in
+      let place : last_of (n ∷ os) ≡ length own + (first - first) = ends ∙ sym zero_first in
+      let old : pieces_from n os all ≡ pieces_from n os own =
+      pieces-within n os own (sliced values first count) (omega (arith, ends, at_most_last (n ∷ os) 0 sound (omega arith))) (λ j inside. omega (arith, ends, at_most_last (n ∷ os) (suc j) sound (omega (arith, inside)))) in
       let new : pieces_from (last_of (n ∷ os)) (counted_on (last_of (n ∷ os)) others start len) all ≡ sliced (pieces others values) start len =
-      (λ i. pieces_from (place i) (map (λ k. ends i + (k - first)) ns) all) ∙ (pieces-moved bytes values first count first ns (omega arith) (omega arith) next_at ∙ part_rows) in
+      (λ i. pieces_from (place i) (map (λ k. ends i + (k - first)) ns) all) ∙ (pieces-moved own values first count first ns (omega arith) (omega arith) next_at ∙ part_rows) in
       pieces-more n os (counted_on (last_of (n ∷ os)) others start len) all ∙ (λ i. old i ++ new i)
 
   pub part_ends : (os : List ℕ) → IsOffsets os → last_of (with_rows os others start len) ≡ last_of os + (slice_index others (start + len) - slice_index others start)
@@ -190,55 +190,55 @@ on_either (Err e) f h a b = h b
 all_constant : {A : Type 0} (P : A → Type 0) (n : ℕ) (x : A) → P x → All P (replicate n x)
 all_constant P n x holds = λ k d within. subst P (sym (get_or-replicate n k x d (omega (arith, within, length-replicate n x)))) holds
 
--- rows of bytes that grow
-module _ (Allows : List ℕ → Type 0) (os bytes : List ℕ) (grown : AreGrownBytes Allows (record { offsets = os; bytes = bytes })) (sound : IsOffsets os) where
-  pub total_grown : total (pieces os bytes) ≡ last_of os
+-- rows that grow
+module _ {A : Type 0} (Allows : List A → Type 0) (os : List ℕ) (own : List A) (grown : AreGrown Allows os own) (sound : IsOffsets os) where
+  pub total_grown : total (pieces os own) ≡ last_of os
   total_grown =
-      omega (arith, total_pieces os bytes sound (omega (arith, grown.ends)), grown.begins)
+      omega (arith, total_pieces os own sound (omega (arith, grown.ends)), grown.begins)
 
-  pub same_grown : (new_os new_bytes : List ℕ) → (new_os ≡ os) × (new_bytes ≡ bytes) → AreGrownBytes Allows (record { offsets = new_os; bytes = new_bytes })
-  same_grown new_os new_bytes is =
-      subst {A = List ℕ × List ℕ} (λ p. AreGrownBytes Allows (record { offsets = p.0; bytes = p.1 })) (λ i. (sym is.0 i, sym is.1 i)) grown
+  pub same_grown : (new_os : List ℕ) (new : List A) → (new_os ≡ os) × (new ≡ own) → AreGrown Allows new_os new
+  same_grown new_os new is =
+      subst {A = List ℕ × List A} (λ p. AreGrown Allows p.0 p.1) (λ i. (sym is.0 i, sym is.1 i)) grown
 
-  pub empty_grown : Allows [] → (new_os : List ℕ) (k : ℕ) → new_os ≡ os ++ replicate k (last_of os) → AreGrownBytes Allows (record { offsets = new_os; bytes = bytes })
+  pub empty_grown : Allows [] → (new_os : List ℕ) (k : ℕ) → new_os ≡ os ++ replicate k (last_of os) → AreGrown Allows new_os own
   empty_grown empty new_os k is =
       record {
         begins = ap (λ ns. slice_index ns 0) is ∙ (same_begin os (replicate k (last_of os)) sound ∙ grown.begins);
         ends = ap last_of is ∙ (empty_ends os k sound ∙ grown.ends);
-        rows = subst (All Allows) (sym (ap (λ ns. pieces ns bytes) is ∙ empty_rows os bytes k sound)) (All-append Allows (pieces os bytes) (replicate k []) grown.rows (all_constant Allows k [] empty));
+        rows = subst (All Allows) (sym (ap (λ ns. pieces ns own) is ∙ empty_rows os own k sound)) (All-append Allows (pieces os own) (replicate k []) grown.rows (all_constant Allows k [] empty));
       }
 
-  module _ (others values : List ℕ) (start len : ℕ) (held : IsOffsets others) (part : start + len < length others) (within : last_of others ≤ length values) where
-    pub part_total : total (pieces os bytes ++ sliced (pieces others values) start len) ≡ last_of os + (slice_index others (start + len) - slice_index others start)
+  module _ (others : List ℕ) (values : List A) (start len : ℕ) (held : IsOffsets others) (part : start + len < length others) (within : last_of others ≤ length values) where
+    pub part_total : total (pieces os own ++ sliced (pieces others values) start len) ≡ last_of os + (slice_index others (start + len) - slice_index others start)
     part_total =
-        omega (arith, sum_by-append length (pieces os bytes) (sliced (pieces others values) start len), total_grown, total_part others values start len held part within)
+        omega (arith, sum_by-append length (pieces os own) (sliced (pieces others values) start len), total_grown, total_part others values start len held part within)
 
-    pub part_grown : All Allows (pieces others values) → (new_os new_bytes : List ℕ) → (new_os ≡ with_rows os others start len) × (new_bytes ≡ bytes ++ sliced values (slice_index others start) (slice_index others (start + len) - slice_index others start)) → AreGrownBytes Allows (record { offsets = new_os; bytes = new_bytes })
-    part_grown allowed new_os new_bytes is =
+    pub part_grown : All Allows (pieces others values) → (new_os : List ℕ) (new : List A) → (new_os ≡ with_rows os others start len) × (new ≡ own ++ sliced values (slice_index others start) (slice_index others (start + len) - slice_index others start)) → AreGrown Allows new_os new
+    part_grown allowed new_os new is =
         let first = slice_index others start in
         let count = slice_index others (start + len) - first in
         let high = at_most_last others (start + len) held part in
         let low = offsets_rise others start (start + len) held (omega arith) part in
         let long : length (sliced values first count) ≡ count = length-sliced values first count (omega (arith, high, low, within)) in
         let last : last_of new_os ≡ last_of os + count = ap last_of is.0 ∙ part_ends others values start len held part within os sound in
-        let size : length new_bytes ≡ length bytes + count = ap length is.1 ∙ (length-append bytes (sliced values first count) ∙ ap (λ n. length bytes + n) long) in
-        let moved = part_moved others values start len held part within os bytes sound grown.ends in
+        let size : length new ≡ length own + count = ap length is.1 ∙ (length-append own (sliced values first count) ∙ ap (λ n. length own + n) long) in
+        let moved = part_moved others values start len held part within os own sound grown.ends in
         record {
           begins = ap (λ ns. slice_index ns 0) is.0 ∙ (same_begin os (counted_on (last_of os) others start len) sound ∙ grown.begins);
           ends = last ∙ (ap (λ n. n + count) grown.ends ∙ sym size);
-          rows = subst (All Allows) (sym ((λ i. pieces (is.0 i) (is.1 i)) ∙ moved)) (All-append Allows (pieces os bytes) (sliced (pieces others values) start len) grown.rows (All-take Allows len _ (All-drop Allows start _ allowed)));
+          rows = subst (All Allows) (sym ((λ i. pieces (is.0 i) (is.1 i)) ∙ moved)) (All-append Allows (pieces os own) (sliced (pieces others values) start len) grown.rows (All-take Allows len _ (All-drop Allows start _ allowed)));
         }
 
 -- rows under their bits
 
-filled-set : (n : ℕ) (rows : List (List ℕ)) → length rows ≡ n → filled (replicate n true) rows ≡ rows
+filled-set : {A : Type 0} (n : ℕ) (rows : List (List A)) → length rows ≡ n → filled (replicate n true) rows ≡ rows
 filled-set zero [] same = refl
 filled-set zero (row ∷ rows) same = absurd (omega (arith, same))
 filled-set (suc n) [] same = absurd (omega (arith, same))
 filled-set (suc n) (row ∷ rows) same = ap (λ ys. row ∷ ys) (filled-set n rows (omega (arith, same)))
 
 -- rows that are all valid
-pub all_set : (rows : List (List ℕ)) (start len : ℕ) → start + len ≤ length rows → filled (replicate len true) (sliced rows start len) ≡ sliced rows start len
+pub all_set : {A : Type 0} (rows : List (List A)) (start len : ℕ) → start + len ≤ length rows → filled (replicate len true) (sliced rows start len) ≡ sliced rows start len
 all_set rows start len within = filled-set len (sliced rows start len) (length-sliced rows start len within)
 
 pub sliced-cut : {A : Type 0} (xs : List A) (start place end : ℕ) → start ≤ place → place ≤ end → sliced xs start (place - start) ++ sliced xs place (end - place) ≡ sliced xs start (end - start)
