@@ -3,7 +3,7 @@
 ghost use Rattle.arrow_growable.specs.AnyGrowable.{grown_of, primitive_grown_of};
 
 use crate::growable::{
-    BoundNulls, Growable, GrowableBinary, GrowableBoolean, GrowableFixedSizeBinary,
+    BoundNulls, Growable, GrowableBinary, GrowableBoolean, GrowableFixedSizeBinary, GrowableList,
     GrowablePrimitive, GrowableUtf8,
 };
 use arrow_arrays::array::AnyArray;
@@ -27,6 +27,7 @@ pub enum AnyGrowablePrimitive<'a> {
 }
 
 /// An array under construction, of any type.
+#[cycle(growables)]
 pub enum AnyGrowable<'a> {
     Null(BoundNulls<'a>),
     Boolean(GrowableBoolean<'a>),
@@ -36,6 +37,7 @@ pub enum AnyGrowable<'a> {
     Binary(GrowableBinary<'a, i32>),
     LargeBinary(GrowableBinary<'a, i64>),
     FixedSizeBinary(GrowableFixedSizeBinary<'a>),
+    List(GrowableList<'a>),
 }
 
 /// What an expression says of the growable, whatever its element type.
@@ -70,6 +72,7 @@ macro_rules! of_any {
             AnyGrowable::Binary($growable) => $result,
             AnyGrowable::LargeBinary($growable) => $result,
             AnyGrowable::FixedSizeBinary($growable) => $result,
+            AnyGrowable::List($growable) => $result,
         }
     };
 }
@@ -82,6 +85,7 @@ impl Drop for AnyGrowablePrimitive<'_> {
 }
 
 impl Drop for AnyGrowable<'_> {
+    #[cycle(growables)]
     fn drop(self) {
         of_any!(self, _growable => {})
     }
@@ -110,6 +114,7 @@ impl<'a> Growable<'a> for AnyGrowablePrimitive<'a> {
 impl<'a> Growable<'a> for AnyGrowable<'a> {
     ghost state = { grown_of };
 
+    #[cycle(extend)]
     fn extend(&mut self, index: usize, start: usize, len: usize) -> Result<(), Error> {
         of_any!(self, growable => growable.extend(index, start, len))
     }
@@ -122,6 +127,7 @@ impl<'a> Growable<'a> for AnyGrowable<'a> {
         of_any!(self, growable => growable.len())
     }
 
+    #[cycle(as_box)]
     fn as_box(&mut self) -> Result<AnyArray, Error> {
         of_any!(self, growable => growable.as_box())
     }

@@ -3,12 +3,12 @@
 ghost use Rattle.std.specs.Prelude.{◌≡◌, map, Some, IfOk, IsTrue};
 ghost use Rattle.arrow_arrays.specs.Any.{any_array_type, layout_of};
 ghost use Rattle.arrow_growable.specs.AnyGrowable.{grown_of};
-ghost use Rattle.arrow_select.specs.Arrays.{IsFlat};
+ghost use Rattle.arrow_growable.specs.Growable.{IsGrowable};
 
-use crate::lent::{from_row, is_flat};
+use crate::lent::from_row;
 use arrow_arrays::array::{AnyArray, new_null_array};
-use arrow_arrays_fixture::arrays::{FLATS, Shape, array_of};
-use arrow_growable::growable::{AnyGrowable, Growable, make_growable};
+use arrow_arrays_fixture::arrays::{FLATS, ListKind, Shape, array_of};
+use arrow_growable::growable::{AnyGrowable, Growable, is_growable, make_growable};
 use arrow_types::datatypes::{DataType, IntervalUnit};
 use arrow_types::error::Error;
 use arrow_types_fixture::check;
@@ -58,6 +58,13 @@ enum Kind<'a> {
     Nulls(&'a DataType),
 }
 
+/// Lists that can grow.
+const LISTS: [Shape; 3] = [
+    Shape::Lists(ListKind::Small),
+    Shape::Lists(ListKind::Large),
+    Shape::Lists(ListKind::Named),
+];
+
 /// A data type of each element type.
 const ELEMENTS: [DataType; 12] = [
     DataType::Int8,
@@ -88,12 +95,12 @@ fn array_with(
     }
 }
 
-/// Whether two arrays are of one type and without children.
+/// Whether two arrays are of one type, whose arrays can grow.
 fn are_alike(left: &AnyArray, right: &AnyArray) -> bool
-    ensures flat { IsTrue result → IsFlat left.now }
+    ensures growable { IsTrue result → IsGrowable (any_array_type left.now) }
     ensures one_type { IsTrue result → any_array_type left.now ≡ any_array_type right.now }
 {
-    is_flat(left) && *left.data_type() == *right.data_type()
+    is_growable(left.data_type()) && *left.data_type() == *right.data_type()
 }
 
 /// A growable over two arrays of one type.
@@ -248,7 +255,7 @@ pub fn check_shapes(rt: &(impl Abort + Alloc<A = Global>)) -> Result<(), Error> 
         parts: [Part::Rows(0, 0, 193), Part::Nulls(0), Part::Nulls(0)],
         want: [&letters[7..], b"h"],
     };
-    for shape in &FLATS {
+    for shape in FLATS.iter().chain(&LISTS) {
         check_case(rt, Kind::Rows(*shape), ROWS, true)?;
         check_case(rt, Kind::Rows(*shape), ROWS, false)?;
         check_case(rt, Kind::Rows(*shape), long, false)?;

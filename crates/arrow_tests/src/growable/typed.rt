@@ -6,14 +6,14 @@ ghost use Rattle.arrow_flat.specs.ByteRows.{byte_slots};
 ghost use Rattle.arrow_flat.specs.Parts.{rows_by};
 
 use crate::lent::{check_same, from_row};
-use arrow_arrays::array::{AnyArray, AnyOffset};
-use arrow_arrays_fixture::arrays::{Shape, array_of};
+use arrow_arrays::array::{AnyArray, AnyOffset, ListArray};
+use arrow_arrays_fixture::arrays::{ListKind, Shape, array_of};
 use arrow_flat::array::{
     AnyElement, AnyPrimitive, ByteKind, ByteRows, FlatArray, NullArray, PrimitiveArray,
 };
 use arrow_growable::growable::{
     FlatGrowable, Growable, GrowableBits, GrowableBytes, GrowableFixedRows, GrowableKind,
-    GrowableNull, GrowableValues,
+    GrowableList, GrowableNull, GrowableValues, is_growable,
 };
 use arrow_types::datatypes::DataType;
 use arrow_types::error::Error;
@@ -176,4 +176,33 @@ pub fn check_null_arrays(rt: &(impl Abort + Alloc<A = Global>)) -> Result<(), Er
     growable.extend_validity(3)?;
     check!(rt; growable.into_array()? == NullArray::try_new(DataType::Null, 3)?);
     Ok(())
+}
+
+/// The rows of an array of lists, twice.
+fn grow_twice(
+    rt: &(impl Abort + Alloc<A = Global>),
+    array: &ListArray,
+) -> Result<ListArray, Error> {
+    assert!(rt; is_growable(array.data_type()));
+    let mut growable = GrowableList::new(rt.alloc(), vec![in rt.alloc(); array]?, false, 0)?;
+    growable.extend(0, 0, array.len())?;
+    growable.extend(0, 0, array.len())?;
+    growable.into_array()
+}
+
+/// A slice of lists that begins with a null, joined with itself.
+pub fn check_lists(rt: &(impl Abort + Alloc<A = Global>)) -> Result<(), Error> {
+    let shape = Shape::Lists(ListKind::Small);
+    match from_row(rt, array_of(rt.alloc(), shape, b"bCd")?, 1) {
+        AnyArray::List(array) => {
+            let grown = grow_twice(rt, &array)?;
+            check_same(
+                rt,
+                &AnyArray::List(grown),
+                &array_of(rt.alloc(), shape, b"CdCd")?,
+            );
+            Ok(())
+        }
+        _ => Err(Error::Failed),
+    }
 }

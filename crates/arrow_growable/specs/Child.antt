@@ -1,0 +1,53 @@
+-- A child that grows with the array that holds it: which rows of it that array names, and why it refuses them.
+use Rattle.std.specs.Prelude.{ℕ, ◌≡◌, ◌+◌, ◌<◌, ◌≤◌, ◌⊎◌, Bool, true, false, Option, Some, None, List, [], ◌∷◌, length, take}
+use Rattle.arrow_types.specs.Slot.{Slot}
+use Rattle.arrow_arrays.specs.Crowded.{CrowdedRow}
+use Rattle.arrow_arrays.specs.Layout.{Layout, rows}
+use Rattle.arrow_flat_growable.specs.Grown.{Grown, FitsItself, FitsWith, appended, source_at}
+
+-- the rows of bound array i
+abbrev pub rows_in : Option (List Layout) → ℕ → List Slot
+rows_in None i = []
+rows_in (Some layouts) i = rows (source_at layouts i)
+
+abbrev pub bound_rows : Grown → ℕ → List Slot
+bound_rows g i = rows_in g.sources i
+
+-- array i is bound, and has so many rows at least
+pub record BindsRows (g : Grown) (i n : ℕ) : Type 0 where
+  pub layouts : List Layout
+  pub sources : g.sources ≡ Some layouts
+  pub bound : i < length layouts
+  pub within : n ≤ length (rows (source_at layouts i))
+
+-- it has not failed, and its rows fit
+pub record IsWell (g : Grown) : Type 0 where
+  pub well : g.failed ≡ false
+  pub fits : FitsItself g
+
+-- the same type and the same bound arrays
+pub record SameBound (old new : Grown) : Type 0 where
+  pub same_type : new.arrow_type ≡ old.arrow_type
+  pub same_sources : new.sources ≡ old.sources
+
+-- with these rows behind, which fit
+pub record GrownBy (old new : Grown) (more : List Slot) : Type 0 where
+  pub grown : new ≡ appended old more
+  pub fits : FitsItself new
+
+-- row j of a child lies in a row whose bit is set, of those from row i on, one for each bit: row i begins at a place, and ends where the next one begins
+abbrev pub LiesIn : List Bool → (ℕ → ℕ) → ℕ → ℕ → Type 0
+LiesIn [] place i j = ⊥
+LiesIn (bit ∷ bits) place i j = ((bit ≡ true) × (place i ≤ j) × (j < place (i + 1))) ⊎ LiesIn bits place (i + 1) j
+
+-- a row of the child that is named is crowded behind the arrays before its own
+abbrev pub CrowdsIn : Option (List Layout) → ℕ → (ℕ → Type 0) → Type 0
+CrowdsIn None i Names = ⊥
+CrowdsIn (Some layouts) i Names = (0 < i) × ((j : ℕ) × Names j × CrowdedRow (take i layouts) (source_at layouts i) j)
+
+abbrev pub CrowdsChild : Grown → ℕ → (ℕ → Type 0) → Type 0
+CrowdsChild g = CrowdsIn g.sources
+
+-- why a child refuses rows: with them its rows do not fit, or one that is named is crowded
+pub record CannotGrow (g : Grown) (i : ℕ) (Names : ℕ → Type 0) (more : List Slot) : Type 0 where
+  pub why : (FitsWith g more → ⊥) ⊎ CrowdsChild g i Names
