@@ -138,7 +138,7 @@ stacked-sliced xs rs offset len =
 abbrev pub cut : ℕ → ℕ → List (List Slot) → List (List Slot)
 cut offset len columns = map (λ c. sliced c offset len) columns
 
-across-sliced : (columns : List (List Slot)) (n offset len : ℕ) → offset + len ≤ n → across len (cut offset len columns) ≡ sliced (across n columns) offset len
+pub across-sliced : (columns : List (List Slot)) (n offset len : ℕ) → offset + len ≤ n → across len (cut offset len columns) ≡ sliced (across n columns) offset len
 across-sliced [] n offset len within =
     sym (ap (take len) (drop-replicate offset n no_slots) ∙ take-replicate len (n - offset) no_slots (omega (arith, within)))
 across-sliced (c ∷ cs) n offset len within =

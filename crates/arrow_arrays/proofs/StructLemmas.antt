@@ -28,7 +28,7 @@ parts_of-to_layouts [] offset len = refl
 parts_of-to_layouts (l ∷ ls) offset len = ap (λ cs. more_layouts (slice_of l offset len) cs) (parts_of-to_layouts ls offset len)
 
 -- as many rows as each column has
-length-stacked : (xs : List Slot) (rs : List Slots) (n : ℕ) → length xs ≡ n → length rs ≡ n → length (stacked xs rs) ≡ n
+pub length-stacked : (xs : List Slot) (rs : List Slots) (n : ℕ) → length xs ≡ n → length rs ≡ n → length (stacked xs rs) ≡ n
 length-stacked [] rs n here there = here
 length-stacked (x ∷ xs) [] n here there = absurd (omega (arith, here, there))
 length-stacked (x ∷ xs) (r ∷ rs) zero here there = absurd (omega (arith, here))

@@ -22,7 +22,7 @@ abbrev parts : ℕ → ℕ → List ℕ → FixedParts
 parts size count bytes = record { size = size; count = count; bytes = bytes }
 
 -- rows behind others
-chunks-append : (count more size : ℕ) (xs ys : List ℕ) → count * size ≡ length xs → chunks (count + more) size (xs ++ ys) ≡ chunks count size xs ++ chunks more size ys
+pub chunks-append : {A : Type 0} (count more size : ℕ) (xs ys : List A) → count * size ≡ length xs → chunks (count + more) size (xs ++ ys) ≡ chunks count size xs ++ chunks more size ys
 chunks-append zero more size [] ys whole =
     let same : zero + more ≡ more = omega arith in
     rw same refl

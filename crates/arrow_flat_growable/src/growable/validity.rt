@@ -39,11 +39,7 @@ impl GrowableValidity {
     ///
     /// # Errors
     /// `OutOfMemory` where memory is refused, as for a capacity that is too great.
-    pub fn new(
-        alloc: Global,
-        is_kept: bool,
-        capacity: usize,
-    ) -> Result<GrowableValidity, Error>
+    pub fn new(alloc: Global, is_kept: bool, capacity: usize) -> Result<GrowableValidity, Error>
         ensures ok { IfOk result (λ validity. validity ≡ []) }
         ensures err { IsOkUnless result Error.OutOfMemory }
     {
