@@ -1,52 +1,49 @@
 -- Types whose arrays can grow, and the children of lists of such a type.
-use Rattle.std.proofs.Common.{arith, ◌≡◌, ◌<◌, ℕ, suc, List, [], ◌∷◌, length, map, refl, ap, sym, ◌∙◌, rules, Box, Global}
+use Rattle.std.proofs.Common.{arith, ◌≡◌, ◌<◌, ℕ, suc, List, [], ◌∷◌, length, map, refl, ap, sym, ◌∙◌, rules, Bool, Box, Global}
 use Rattle.std.specs.List.{All}
 use Rattle.std.proofs.lemmas.List.{get_or-map, length-map}
 use Rattle.arrow_types.specs.declared.datatypes.physical_type.PhysicalType.{PhysicalType}
 use Rattle.arrow_types.specs.declared.datatypes.physical_type.PhysicalType.TheVariants as physical
 use Rattle.arrow_types.specs.declared.types.PrimitiveType.{PrimitiveType}
-use Rattle.arrow_types.specs.ArrowType.{ArrowType, ArrowField, ListForm, PlainType, plain, list, struct, union, dictionary, extension, field, type_in, null, boolean, integer, float16, float32, float64, timestamp, date32, date64, time32, time64, duration, interval, binary, large_binary, utf8, large_utf8, fixed_size_binary, decimal, decimal256, small, large, fixed_size, mapped}
+use Rattle.arrow_types.specs.ArrowType.{ArrowType, ArrowField, ListForm, PlainType, plain, list, struct, union, dictionary, extension, field, type_in, mapped, small, large, fixed_size, null, boolean, integer, float16, float32, float64, timestamp, date32, date64, time32, time64, duration, interval, binary, large_binary, utf8, large_utf8, fixed_size_binary, decimal, decimal256}
 use Rattle.arrow_types.specs.Physical.{physical_type_of, plain_physical_type}
 use Rattle.arrow_types.specs.TypeOf.{type_of, field_of}
 use Rattle.arrow_types.specs.declared.datatypes.Field.{Field}
-use Rattle.arrow_types.specs.declared.datatypes.DataType.{List as ListOf, LargeList, the_lemmas}
-use Rattle.arrow_arrays.specs.Any.{kind_in, list_kind}
+use Rattle.arrow_types.specs.declared.datatypes.DataType.{List as ListOf, LargeList, Map, the_lemmas}
+use Rattle.arrow_arrays.specs.Any.{kind_in, list_kind, map_kind}
 use Rattle.arrow_arrays.specs.Layout.{type_of_layout}
 use Rattle.arrow_arrays.specs.ListParts.{ListParts, list_layout}
 use Rattle.arrow_arrays.specs.TypeDepth.{type_depth}
 use Rattle.arrow_arrays.specs.TypeParts.{item_type}
 use Rattle.arrow_flat_growable.specs.Grown.{AreOfOneType, first_type}
 use Rattle.arrow_growable.specs.Growable.{IsGrowable}
+use Rattle.arrow_growable.specs.Lists.{IsListType}
 
-no_list : (p : PlainType) → kind_in (plain_physical_type p) ≡ list_kind → ⊥
-no_list null is = cc
-no_list boolean is = cc
-no_list float16 is = cc
-no_list float32 is = cc
-no_list float64 is = cc
-no_list date32 is = cc
-no_list date64 is = cc
-no_list binary is = cc
-no_list large_binary is = cc
-no_list utf8 is = cc
-no_list large_utf8 is = cc
-no_list (integer k) is = cc
-no_list (timestamp unit timezone) is = cc
-no_list (time32 unit) is = cc
-no_list (time64 unit) is = cc
-no_list (duration unit) is = cc
-no_list (interval unit) is = cc
-no_list (fixed_size_binary size) is = cc
-no_list (decimal precision scale) is = cc
-no_list (decimal256 precision scale) is = cc
+-- a type without children is none of lists
+pub no_plain : (p : PlainType) → IsListType (plain_physical_type p) → ⊥
+no_plain null is = is
+no_plain _ is = is
+
+-- the kinds of arrays that are lists
+pub kind_of_lists : (p : PhysicalType) → kind_in p ≡ list_kind → IsListType p
+kind_of_lists physical.List is = tt
+kind_of_lists physical.LargeList is = tt
+kind_of_lists physical.Map is = tt
+kind_of_lists _ is = cc
+
+pub kind_of_maps : (p : PhysicalType) → kind_in p ≡ map_kind → IsListType p
+kind_of_maps physical.List is = tt
+kind_of_maps physical.LargeList is = tt
+kind_of_maps physical.Map is = tt
+kind_of_maps _ is = cc
 
 -- items of lists that can grow can grow, and are less deep
-pub items_grow : (t : ArrowType) → IsGrowable t → kind_in (physical_type_of t) ≡ list_kind → IsGrowable (item_type t) × (type_depth (item_type t) < type_depth t)
-items_grow (plain p) grows is = absurd (no_list p is)
+pub items_grow : (t : ArrowType) → IsGrowable t → IsListType (physical_type_of t) → IsGrowable (item_type t) × (type_depth (item_type t) < type_depth t)
+items_grow (plain p) grows is = absurd (no_plain p is)
 items_grow (list small (field name t nullable)) grows is = (grows, omega arith)
 items_grow (list large (field name t nullable)) grows is = (grows, omega arith)
 items_grow (list (fixed_size s) f) grows is = absurd grows
-items_grow (list (mapped sorted) f) grows is = absurd grows
+items_grow (list (mapped sorted) (field name t nullable)) grows is = (grows, omega arith)
 items_grow (struct fs) grows is = absurd grows
 items_grow (union mode ids fs) grows is = absurd grows
 items_grow (dictionary keys ordered t) grows is = absurd grows
@@ -55,6 +52,9 @@ items_grow (extension name metadata t) grows is = items_grow t grows is
 -- the type that a list's data type stands for
 pub type_of-List : (f : Box Field Global) → type_of (ListOf f) ≡ list small (field_of f.value)
 type_of-List f = search (rules, the_lemmas)
+
+pub type_of-Map : (f : Box Field Global) (sorted : Bool) → type_of (Map f sorted) ≡ list (mapped sorted) (field_of f.value)
+type_of-Map f sorted = search (rules, the_lemmas)
 
 pub type_of-LargeList : (f : Box Field Global) → type_of (LargeList f) ≡ list large (field_of f.value)
 type_of-LargeList f = search (rules, the_lemmas)
@@ -86,7 +86,6 @@ module _ {A : Type 0} (f : A → ListParts) where
 -- the physical types of arrays that can grow
 abbrev pub MayGrow : PhysicalType → Type 0
 MayGrow physical.FixedSizeList = ⊥
-MayGrow physical.Map = ⊥
 MayGrow physical.Struct = ⊥
 MayGrow physical.Union = ⊥
 MayGrow (physical.Dictionary keys) = ⊥
@@ -101,26 +100,26 @@ may_grow (plain p) grows = plain_may_grow p
 may_grow (list small f) grows = tt
 may_grow (list large f) grows = tt
 may_grow (list (fixed_size s) f) grows = grows
-may_grow (list (mapped sorted) f) grows = grows
+may_grow (list (mapped sorted) f) grows = tt
 may_grow (struct fs) grows = grows
 may_grow (union mode ids fs) grows = grows
 may_grow (dictionary keys ordered t) grows = grows
 may_grow (extension name metadata t) grows = may_grow t grows
 
 -- there are no others
-pub grows_no_other : (p : PhysicalType) → MayGrow p → (p ≡ physical.Null → ⊥) → (p ≡ physical.Boolean → ⊥) → ((x : PrimitiveType) → p ≡ physical.Primitive x → ⊥) → (p ≡ physical.Binary → ⊥) → (p ≡ physical.FixedSizeBinary → ⊥) → (p ≡ physical.LargeBinary → ⊥) → (p ≡ physical.Utf8 → ⊥) → (p ≡ physical.LargeUtf8 → ⊥) → (p ≡ physical.List → ⊥) → (p ≡ physical.LargeList → ⊥) → ⊥
-grows_no_other physical.Null may n b x y f z u v l w = n refl
-grows_no_other physical.Boolean may n b x y f z u v l w = b refl
-grows_no_other (physical.Primitive e) may n b x y f z u v l w = x e refl
-grows_no_other physical.Binary may n b x y f z u v l w = y refl
-grows_no_other physical.FixedSizeBinary may n b x y f z u v l w = f refl
-grows_no_other physical.LargeBinary may n b x y f z u v l w = z refl
-grows_no_other physical.Utf8 may n b x y f z u v l w = u refl
-grows_no_other physical.LargeUtf8 may n b x y f z u v l w = v refl
-grows_no_other physical.List may n b x y f z u v l w = l refl
-grows_no_other physical.LargeList may n b x y f z u v l w = w refl
-grows_no_other physical.FixedSizeList may n b x y f z u v l w = may
-grows_no_other physical.Map may n b x y f z u v l w = may
-grows_no_other physical.Struct may n b x y f z u v l w = may
-grows_no_other physical.Union may n b x y f z u v l w = may
-grows_no_other (physical.Dictionary keys) may n b x y f z u v l w = may
+pub grows_no_other : (p : PhysicalType) → MayGrow p → (p ≡ physical.Null → ⊥) → (p ≡ physical.Boolean → ⊥) → ((x : PrimitiveType) → p ≡ physical.Primitive x → ⊥) → (p ≡ physical.Binary → ⊥) → (p ≡ physical.FixedSizeBinary → ⊥) → (p ≡ physical.LargeBinary → ⊥) → (p ≡ physical.Utf8 → ⊥) → (p ≡ physical.LargeUtf8 → ⊥) → (p ≡ physical.List → ⊥) → (p ≡ physical.LargeList → ⊥) → (p ≡ physical.Map → ⊥) → ⊥
+grows_no_other physical.Null may n b x y f z u v l w m = n refl
+grows_no_other physical.Boolean may n b x y f z u v l w m = b refl
+grows_no_other (physical.Primitive e) may n b x y f z u v l w m = x e refl
+grows_no_other physical.Binary may n b x y f z u v l w m = y refl
+grows_no_other physical.FixedSizeBinary may n b x y f z u v l w m = f refl
+grows_no_other physical.LargeBinary may n b x y f z u v l w m = z refl
+grows_no_other physical.Utf8 may n b x y f z u v l w m = u refl
+grows_no_other physical.LargeUtf8 may n b x y f z u v l w m = v refl
+grows_no_other physical.List may n b x y f z u v l w m = l refl
+grows_no_other physical.LargeList may n b x y f z u v l w m = w refl
+grows_no_other physical.FixedSizeList may n b x y f z u v l w m = may
+grows_no_other physical.Map may n b x y f z u v l w m = m refl
+grows_no_other physical.Struct may n b x y f z u v l w m = may
+grows_no_other physical.Union may n b x y f z u v l w m = may
+grows_no_other (physical.Dictionary keys) may n b x y f z u v l w m = may

@@ -3,7 +3,7 @@ use Rattle.std.proofs.Common.{arith, ◌≡◌, ◌+◌, ◌-◌, ◌<◌, ◌�
 use Rattle.std.specs.Prelude.{slice_index_or}
 use Rattle.std.specs.List.{All, take-map}
 use Rattle.std.proofs.lemmas.Int.{ints}
-use Rattle.std.proofs.lemmas.List.{length-append, length-map, length-replicate, map-append, take_all, get_or-take, get_or-drop}
+use Rattle.std.proofs.lemmas.List.{length-append, length-map, length-replicate, map-append, take_all, get_or-take, get_or-drop, get_or_default}
 use Rattle.std.proofs.lemmas.List.Sums.{sum_by-cons}
 use Rattle.arrow_types.specs.declared.datatypes.physical_type.PhysicalType.{PhysicalType}
 use Rattle.arrow_types.specs.ArrowType.{ArrowType, PlainType, plain, list, struct, union, dictionary, extension, field, null, small, large, fixed_size, mapped}
@@ -28,17 +28,21 @@ use Rattle.arrow_arrays.specs.Crowded.{CrowdedRow, child_of}
 use Rattle.arrow_arrays.specs.Layout.{Layout, items_row, list_items, rows, type_of_layout}
 use Rattle.arrow_arrays.specs.ListParts.{ListParts, list_layout, list_rows}
 use Rattle.arrow_arrays.specs.TypeParts.{item_type}
-use Rattle.arrow_flat_growable.specs.Grown.{Grown, AreCrowded, AreThere, CannotHold, empty_over, source_at}
+use Rattle.arrow_flat_growable.specs.Grown.{Grown, AreCrowded, AreThere, CannotHold, empty_over, first_type, source_at}
 use Rattle.arrow_flat_growable.specs.GrownRows.{AreGrown, filled, total, valid_values}
 use Rattle.arrow_flat_growable.specs.MaskLaws.{mask-append, mask-filled, mask-part, mask-unset, length-bits_of_slice, length-filled}
 use Rattle.arrow_flat_growable.specs.Validity.{bits_of_slice}
 use Rattle.arrow_flat_growable.proofs.FlatLemmas.{source_is}
 use Rattle.arrow_flat_growable.proofs.GrownRowLemmas.{empty_grown, empty_rows, last_behind, sliced-cut, total_pieces}
 use Rattle.arrow_flat_growable.proofs.ValidRowLemmas.{valid_grown, valid_last, valid_moved}
+use Rattle.arrow_growable.specs.Bound.{bound_children, bound_layouts, bound_parts, part_at}
+use Rattle.arrow_growable.specs.Part.{IsPart, no_part}
+use Rattle.arrow_growable.specs.declared.growable.bound.BoundNested.{BoundNested}
+use Rattle.arrow_growable.proofs.GrowableLemmas.{no_plain}
 use Rattle.arrow_growable.specs.Child.{BindsRows, CannotGrow, CrowdsIn, GrownBy, IsWell, LiesIn, bound_rows, rows_in}
 use Rattle.arrow_growable.specs.GrowableOffsets.{grown_lists, grown_offsets}
 use Rattle.arrow_growable.specs.declared.growable.offsets.GrowableOffsets.{GrowableOffsets}
-use Rattle.arrow_growable.specs.declared.growable.offsets.GrowableOffsets.TheVariants.{Small, Large}
+use Rattle.arrow_growable.specs.declared.growable.offsets.GrowableOffsets.TheVariants.{Small, Large, Map}
 use Rattle.arrow_growable.specs.Lists.{AnyItems, FitsLists, HoldsLists, IsGrownList, IsListType, SparesItems, greatest_in, lists_rows}
 
 -- all items of lists
@@ -98,10 +102,6 @@ module _ (bits more : List Bool) (lists others : List (List Slot)) (same : lengt
 
 -- which rows fit, by their lists
 
-no_plain : (p : PlainType) → IsListType (plain_physical_type p) → ⊥
-no_plain null is = is
-no_plain _ is = is
-
 lists_in_rows : (bits : List Bool) (lists : List (List Slot)) → SparesItems bits lists → length (all_items (mask bits (map items_row lists))) ≡ total lists
 lists_in_rows bits lists spares = ap length spares ∙ length-joined lists
 
@@ -137,6 +137,7 @@ lists_fit_by (extension name metadata t) bits lists is spares counted fits = lis
 pub is_list_type : (offsets : GrowableOffsets) → IsListType (grown_lists offsets)
 is_list_type (Small offsets) = tt
 is_list_type (Large offsets) = tt
+is_list_type (Map offsets) = tt
 
 -- of a type whose arrays are lists
 module _ (t : ArrowType) (layout : PhysicalType) (is : IsListType layout) (kind : physical_type_of t ≡ layout) where
@@ -447,23 +448,32 @@ pub list_fits : (layout : PhysicalType) (os : List ℕ) (inner : Grown) (bits : 
 list_fits layout os inner bits len layouts children t is parts held few counted =
     holds_fits os inner bits len held (parts.holds refl) layout t is parts.kind.1 parts.child few counted
 
+-- the type of the first array that is bound
+first_of : (ps : List ListParts) → 0 < length (map list_layout ps) → (get_or ps 0 no_part).arrow_type ≡ first_type (map list_layout ps)
+first_of [] some = absurd (omega (arith, some))
+first_of (p ∷ ps) some = refl
+
+pub first_part : (arrays : BoundNested) → 0 < length (bound_layouts arrays) → (part_at arrays 0).arrow_type ≡ first_type (bound_layouts arrays)
+first_part arrays some = first_of (bound_parts arrays) some
+
 -- rows that are there, of an array that is bound
-pub names_lists : {A : Type 0} (f : A → ListParts) (arrays : List A) (x : A) (offsets : GrowableOffsets) (inner : Grown) (bits : List Bool) (len : ℕ) (t : ArrowType) (failed : Bool) (index start n count : ℕ) → IsGrownList (grown_lists offsets) (grown_offsets offsets) inner bits len (map (λ a. list_layout (f a)) arrays) (map (λ a. (f a).child) arrays) t failed → failed ≡ false → IsOffsets (grown_offsets offsets) → AreThere (Some (map (λ a. list_layout (f a)) arrays)) index start n → x ≡ get_or arrays index x → count ≡ length (list_rows (f x)) → count + 1 ≡ length (f x).offsets → IsOffsets (f x).offsets → last_of (f x).offsets ≤ length (rows (f x).child) → FitsRows (f x).validity (length (f x).offsets - 1) → NamesLists (grown_lists offsets) (grown_offsets offsets) inner bits len (map (λ a. list_layout (f a)) arrays) (map (λ a. (f a).child) arrays) t (f x) index start n
-names_lists f arrays x offsets inner bits len t failed index start n count parts well held there read as_rows as_offsets others within fits =
-    let layouts = map (λ a. list_layout (f a)) arrays in
-    let children = map (λ a. (f a).child) arrays in
-    let bound : index < length arrays = omega (arith, there.0, length-map arrays (λ a. list_layout (f a))) in
-    let source = source_is (λ a. list_layout (f a)) arrays index x bound read in
+pub names_bound : (arrays : BoundNested) (offsets : GrowableOffsets) (inner : Grown) (bits : List Bool) (len : ℕ) (t : ArrowType) (failed : Bool) (index start n : ℕ) → IsGrownList (grown_lists offsets) (grown_offsets offsets) inner bits len (bound_layouts arrays) (bound_children arrays) t failed → failed ≡ false → IsOffsets (grown_offsets offsets) → AreThere (Some (bound_layouts arrays)) index start n → IsPart (part_at arrays index) → NamesLists (grown_lists offsets) (grown_offsets offsets) inner bits len (bound_layouts arrays) (bound_children arrays) t (part_at arrays index) index start n
+names_bound arrays offsets inner bits len t failed index start n parts well held there part =
+    let ps = bound_parts arrays in
+    let p = part_at arrays index in
+    let bound : index < length ps = omega (arith, there.0, length-map ps list_layout) in
+    let read : p ≡ get_or ps index p = get_or_default ps index no_part p bound in
+    let source = source_is list_layout ps index p bound read in
     record {
       is_list = is_list_type offsets;
-      parts = subst (IsGrownList (grown_lists offsets) (grown_offsets offsets) inner bits len layouts children t) well parts;
+      parts = subst (IsGrownList (grown_lists offsets) (grown_offsets offsets) inner bits len (bound_layouts arrays) (bound_children arrays) t) well parts;
       held = held;
-      others = others;
-      within = within;
-      fits = fits;
-      inside = omega (arith, there.1, ap (λ l. length (rows l)) source, as_rows, as_offsets);
-      same = children_of f arrays;
-      bound = omega (arith, bound, length-map arrays (λ a. (f a).child));
+      others = part.sound;
+      within = part.within;
+      fits = part.fits;
+      inside = omega (arith, there.1, ap (λ l. length (rows l)) source, part.counted);
+      same = children_of (λ q. q) ps;
+      bound = omega (arith, bound, length-map ps (λ q. q.child));
       source = source;
-      child = source_is (λ a. (f a).child) arrays index x bound read;
+      child = source_is (λ q. q.child) ps index p bound read;
     }

@@ -1,5 +1,5 @@
 -- Arrays of any type that are bound as arrays of one kind.
-use Rattle.std.proofs.Common.{arith, ◌≡◌, ◌+◌, ◌≤◌, ◌<◌, ℕ, suc, List, [], ◌∷◌, ◌++◌, length, map, take, get_or, ap, sym, subst, ◌∙◌}
+use Rattle.std.proofs.Common.{arith, ◌≡◌, ◌+◌, ◌≤◌, ◌<◌, ℕ, suc, List, [], ◌∷◌, ◌++◌, length, map, take, get_or, refl, ap, sym, subst, ◌∙◌}
 use Rattle.std.proofs.Math.Seq.{take-suc}
 use Rattle.std.proofs.lemmas.List.{take_all, length-map, map-append}
 use Rattle.arrow_types.specs.ArrowType.{plain, null}
@@ -26,3 +26,8 @@ bind_all f h kept arrays i whole done = done ∙ take_all i (map h arrays) (omeg
 pub type_at : {B : Type 0} (h : B → Layout) (arrays : List B) (b : B) (i : ℕ) → i < length arrays → b ≡ get_or arrays i b → AreOfOneType (map h arrays) → type_of_layout (h b) ≡ first_type (map h arrays)
 type_at h arrays b i bound read same =
     subst (λ l. type_of_layout l ≡ first_type (map h arrays)) (source_is h arrays i b bound read) (same i _ (omega (arith, bound, length-map arrays h)))
+
+-- a map of a map
+pub map_twice : {A B C : Type 0} (f : B → C) (g : A → B) (xs : List A) → map f (map g xs) ≡ map (λ x. f (g x)) xs
+map_twice f g [] = refl
+map_twice f g (x ∷ xs) = ap (λ ys. f (g x) ∷ ys) (map_twice f g xs)

@@ -9,10 +9,10 @@ use Rattle.arrow_arrays.specs.TypeParts.{item_type}
 use Rattle.arrow_growable.specs.AnyGrowable.{grown_of}
 use Rattle.arrow_growable.specs.GrowableOffsets.{grown_lists}
 use Rattle.arrow_growable.specs.declared.growable.any.AnyGrowable.{AnyGrowable}
-use Rattle.arrow_growable.specs.declared.growable.any.AnyGrowable.TheVariants.{Null, Boolean, Primitive, Utf8, LargeUtf8, Binary, LargeBinary, FixedSizeBinary, List as ListOf}
+use Rattle.arrow_growable.specs.declared.growable.any.AnyGrowable.TheVariants.{Null, Boolean, Primitive, Utf8, LargeUtf8, Binary, LargeBinary, FixedSizeBinary, Nested}
 use Rattle.arrow_growable.specs.declared.growable.offsets.GrowableOffsets.{GrowableOffsets}
-use Rattle.arrow_growable.specs.declared.growable.offsets.GrowableOffsets.TheVariants.{Small, Large}
-use Rattle.arrow_growable.specs.declared.growable.list.GrowableList.TheDeep.{deep-AnyGrowable}
+use Rattle.arrow_growable.specs.declared.growable.offsets.GrowableOffsets.TheVariants.{Small, Large, Map}
+use Rattle.arrow_growable.specs.declared.growable.nested.GrowableNested.TheDeep.{deep-AnyGrowable}
 
 pub deep_le-depth : (g : AnyGrowable) → deep-AnyGrowable g ≤ type_depth ((grown_of g).arrow_type) + 1
 deep_le-depth (Null g) = omega arith
@@ -23,11 +23,12 @@ deep_le-depth (LargeUtf8 g) = omega arith
 deep_le-depth (Binary g) = omega arith
 deep_le-depth (LargeBinary g) = omega arith
 deep_le-depth (FixedSizeBinary g) = omega arith
-deep_le-depth (ListOf g) = omega arith
+deep_le-depth (Nested g) = omega arith
 
 lists_shaped : (offsets : GrowableOffsets) → shape_of (grown_lists offsets) ≡ list_shape
 lists_shaped (Small offsets) = refl
 lists_shaped (Large offsets) = refl
+lists_shaped (Map offsets) = refl
 
 -- the items of a list are less deep
 pub items_less_deep : (t : ArrowType) (offsets : GrowableOffsets) → IsCarriedAs (grown_lists offsets) t → type_depth (item_type t) < type_depth t

@@ -1,6 +1,9 @@
 pub mod AnyGrowable
+pub mod Bound
 pub mod Child
 pub mod Falls
 pub mod Growable
 pub mod GrowableOffsets
 pub mod Lists
+pub mod Part
+pub mod Spans

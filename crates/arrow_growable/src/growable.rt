@@ -1,10 +1,13 @@
 //! Growables of arrays of any type, and, handed on, those of each type.
 
 mod any;
+mod bound;
 mod items;
-mod list;
 mod make;
+mod nested;
 mod offsets;
+mod spans;
+mod typed;
 
 pub use any::{AnyGrowable, AnyGrowablePrimitive};
 pub use arrow_flat_growable::growable::{
@@ -12,5 +15,7 @@ pub use arrow_flat_growable::growable::{
     GrowableBytes, GrowableFixedRows, GrowableFixedSizeBinary, GrowableKind, GrowableNull,
     GrowablePrimitive, GrowableUtf8, GrowableValidity, GrowableValues,
 };
-pub use list::GrowableList;
+pub use bound::NestedArray;
 pub use make::{is_growable, make_growable};
+pub use nested::GrowableNested;
+pub use typed::{GrowableList, GrowableMap, GrowableOf};

@@ -3,7 +3,7 @@
 ghost use Rattle.arrow_growable.specs.AnyGrowable.{grown_of, primitive_grown_of};
 
 use crate::growable::{
-    BoundNulls, Growable, GrowableBinary, GrowableBoolean, GrowableFixedSizeBinary, GrowableList,
+    BoundNulls, Growable, GrowableBinary, GrowableBoolean, GrowableFixedSizeBinary, GrowableNested,
     GrowablePrimitive, GrowableUtf8,
 };
 use arrow_arrays::array::AnyArray;
@@ -37,7 +37,7 @@ pub enum AnyGrowable<'a> {
     Binary(GrowableBinary<'a, i32>),
     LargeBinary(GrowableBinary<'a, i64>),
     FixedSizeBinary(GrowableFixedSizeBinary<'a>),
-    List(GrowableList<'a>),
+    Nested(GrowableNested<'a>),
 }
 
 /// What an expression says of the growable, whatever its element type.
@@ -72,7 +72,7 @@ macro_rules! of_any {
             AnyGrowable::Binary($growable) => $result,
             AnyGrowable::LargeBinary($growable) => $result,
             AnyGrowable::FixedSizeBinary($growable) => $result,
-            AnyGrowable::List($growable) => $result,
+            AnyGrowable::Nested($growable) => $result,
         }
     };
 }

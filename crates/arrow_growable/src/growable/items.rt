@@ -5,36 +5,35 @@ ghost use Rattle.arrow_types.specs.declared.error.Error.{Error};
 ghost use Rattle.arrow_memory.specs.Grown.{IsGrowthError};
 ghost use Rattle.arrow_memory.specs.Offsets.{last_of};
 ghost use Rattle.arrow_memory.specs.Sliced.{sliced};
-ghost use Rattle.arrow_arrays.specs.AnyOffsetsBuffer.{offsets_of};
 ghost use Rattle.arrow_flat_growable.specs.GrownRows.{valid_values};
 ghost use Rattle.arrow_flat_growable.specs.Validity.{bits_of_slice};
 ghost use Rattle.arrow_growable.specs.AnyGrowable.{grown_of};
 ghost use Rattle.arrow_growable.specs.Child.{BindsRows, CannotGrow, GrownBy, IsWell, LiesIn, SameBound, bound_rows};
+ghost use Rattle.arrow_growable.specs.Spans.{span_offsets};
 
 use crate::growable::Growable;
 use crate::growable::any::AnyGrowable;
-use arrow_arrays::array::AnyOffsetsBuffer;
+use crate::growable::spans::Spans;
 use arrow_memory::bitmap::Bitmap;
 use arrow_types::error::Error;
 
-/// Appends the items of `len` rows of bound array `index` from row `start` on, under offsets of either
-/// width, without those of null rows.
+/// Appends the items of `len` rows of bound array `index` from row `start` on, under their offsets, without those of null rows.
 #[cycle(extend)]
 pub(crate) fn append_items(
     values: &mut AnyGrowable,
-    rows: &AnyOffsetsBuffer,
+    rows: &Spans,
     validity: Option<&Bitmap>,
     index: usize,
     start: usize,
     len: usize,
 ) -> Result<(), Error>
-    requires part { start + len < length (offsets_of rows.now) }
+    requires part { start + len < length (span_offsets rows.now) }
     requires covered { IfSome validity (λ bits. start + len ≤ length bits.now) }
-    requires bound { BindsRows (grown_of values.old) index (last_of (offsets_of rows.now)) }
+    requires bound { BindsRows (grown_of values.old) index (last_of (span_offsets rows.now)) }
     requires well { IsWell (grown_of values.old) }
-    ensures ok { OnOk result (GrownBy (grown_of values.old) (grown_of values.new) (valid_values (bits_of_slice (option_copied validity.entry) start len) (offsets_of rows.now) (bound_rows (grown_of values.old) index) start)) }
+    ensures ok { OnOk result (GrownBy (grown_of values.old) (grown_of values.new) (valid_values (bits_of_slice (option_copied validity.entry) start len) (span_offsets rows.now) (bound_rows (grown_of values.old) index) start)) }
     ensures kept { SameBound (grown_of values.old) (grown_of values.new) }
-    ensures overflow { result ≡ Err Error.Overflow → CannotGrow (grown_of values.old) index (LiesIn (bits_of_slice (option_copied validity.entry) start len) (slice_index (offsets_of rows.now)) start) (valid_values (bits_of_slice (option_copied validity.entry) start len) (offsets_of rows.now) (bound_rows (grown_of values.old) index) start) }
+    ensures overflow { result ≡ Err Error.Overflow → CannotGrow (grown_of values.old) index (LiesIn (bits_of_slice (option_copied validity.entry) start len) (slice_index (span_offsets rows.now)) start) (valid_values (bits_of_slice (option_copied validity.entry) start len) (span_offsets rows.now) (bound_rows (grown_of values.old) index) start) }
     ensures others { IfErr result IsGrowthError }
 {
     // Offsets rise.
@@ -49,19 +48,19 @@ pub(crate) fn append_items(
 #[cycle(extend)]
 fn append_runs(
     values: &mut AnyGrowable,
-    rows: &AnyOffsetsBuffer,
+    rows: &Spans,
     validity: &Bitmap,
     index: usize,
     start: usize,
     len: usize,
 ) -> Result<(), Error>
-    requires part { start + len < length (offsets_of rows.now) }
+    requires part { start + len < length (span_offsets rows.now) }
     requires covered { start + len ≤ length validity.now }
-    requires bound { BindsRows (grown_of values.old) index (last_of (offsets_of rows.now)) }
+    requires bound { BindsRows (grown_of values.old) index (last_of (span_offsets rows.now)) }
     requires well { IsWell (grown_of values.old) }
-    ensures ok { OnOk result (GrownBy (grown_of values.old) (grown_of values.new) (valid_values (sliced validity.now start len) (offsets_of rows.now) (bound_rows (grown_of values.old) index) start)) }
+    ensures ok { OnOk result (GrownBy (grown_of values.old) (grown_of values.new) (valid_values (sliced validity.now start len) (span_offsets rows.now) (bound_rows (grown_of values.old) index) start)) }
     ensures kept { SameBound (grown_of values.old) (grown_of values.new) }
-    ensures overflow { result ≡ Err Error.Overflow → CannotGrow (grown_of values.old) index (LiesIn (sliced validity.now start len) (slice_index (offsets_of rows.now)) start) (valid_values (sliced validity.now start len) (offsets_of rows.now) (bound_rows (grown_of values.old) index) start) }
+    ensures overflow { result ≡ Err Error.Overflow → CannotGrow (grown_of values.old) index (LiesIn (sliced validity.now start len) (slice_index (span_offsets rows.now)) start) (valid_values (sliced validity.now start len) (span_offsets rows.now) (bound_rows (grown_of values.old) index) start) }
     ensures others { IfErr result IsGrowthError }
 {
     prove!(start < rows.len());
@@ -80,33 +79,19 @@ fn append_runs(
 #[cycle(extend)]
 fn append_run(
     values: &mut AnyGrowable,
-    rows: &AnyOffsetsBuffer,
+    rows: &Spans,
     index: usize,
     start: usize,
     len: usize,
 ) -> Result<(), Error>
-    requires part { start + len < length (offsets_of rows.now) }
-    requires bound { BindsRows (grown_of values.old) index (last_of (offsets_of rows.now)) }
+    requires part { start + len < length (span_offsets rows.now) }
+    requires bound { BindsRows (grown_of values.old) index (last_of (span_offsets rows.now)) }
     requires well { IsWell (grown_of values.old) }
-    ensures ok { OnOk result (GrownBy (grown_of values.old) (grown_of values.new) (sliced (bound_rows (grown_of values.old) index) (slice_index (offsets_of rows.now) start) (slice_index (offsets_of rows.now) (start + len) - slice_index (offsets_of rows.now) start))) }
+    ensures ok { OnOk result (GrownBy (grown_of values.old) (grown_of values.new) (sliced (bound_rows (grown_of values.old) index) (slice_index (span_offsets rows.now) start) (slice_index (span_offsets rows.now) (start + len) - slice_index (span_offsets rows.now) start))) }
     ensures kept { SameBound (grown_of values.old) (grown_of values.new) }
-    ensures overflow { result ≡ Err Error.Overflow → CannotGrow (grown_of values.old) index (λ j. (slice_index (offsets_of rows.now) start ≤ j) × (j < slice_index (offsets_of rows.now) (start + len))) (sliced (bound_rows (grown_of values.old) index) (slice_index (offsets_of rows.now) start) (slice_index (offsets_of rows.now) (start + len) - slice_index (offsets_of rows.now) start)) }
+    ensures overflow { result ≡ Err Error.Overflow → CannotGrow (grown_of values.old) index (λ j. (slice_index (span_offsets rows.now) start ≤ j) × (j < slice_index (span_offsets rows.now) (start + len))) (sliced (bound_rows (grown_of values.old) index) (slice_index (span_offsets rows.now) start) (slice_index (span_offsets rows.now) (start + len) - slice_index (span_offsets rows.now) start)) }
     ensures others { IfErr result IsGrowthError }
 {
-    let (first, end) = range(rows, start, len);
+    let (first, end) = rows.range(start, len);
     values.extend(index, first, end - first)
-}
-
-/// Where the first of `len` rows from row `start` on begins, and the last of them ends.
-fn range(rows: &AnyOffsetsBuffer, start: usize, len: usize) -> (usize, usize)
-    requires { start + len < length (offsets_of rows.now) }
-    ensures start { result.0 ≡ slice_index (offsets_of rows.now) start }
-    ensures end { result.1 ≡ slice_index (offsets_of rows.now) (start + len) }
-    ensures rises { result.0 ≤ result.1 }
-    ensures within { result.1 ≤ last_of (offsets_of rows.now) }
-{
-    match rows {
-        AnyOffsetsBuffer::Small(rows) => rows.range(start, len),
-        AnyOffsetsBuffer::Large(rows) => rows.range(start, len),
-    }
 }

@@ -5,17 +5,17 @@ ghost use Rattle.arrow_types.specs.declared.error.Error.{Error};
 ghost use Rattle.arrow_types.specs.declared.datatypes.physical_type.PhysicalType.TheVariants as physical;
 ghost use Rattle.arrow_types.specs.Physical.{physical_type_of};
 ghost use Rattle.arrow_types.specs.TypeOf.{type_of};
-ghost use Rattle.arrow_arrays.specs.Any.{kind_in, kind_of, layout_of, list_kind, null_kind};
-ghost use Rattle.arrow_arrays.specs.ListParts.{list_layout};
+ghost use Rattle.arrow_arrays.specs.Any.{kind_in, kind_of, layout_of, null_kind};
 ghost use Rattle.arrow_growable.specs.AnyGrowable.{grown_of, primitive_grown_of};
 ghost use Rattle.arrow_growable.specs.Growable.{IsGrowable};
 ghost use Rattle.arrow_flat_growable.specs.Grown.{AreOfOneType, bound_to, first_type};
 ghost use Rattle.arrow_flat_growable.specs.Nulls.{null_layout};
 
 use crate::growable::{
-    AnyGrowable, AnyGrowablePrimitive, BoundNulls, FlatGrowable, GrowableList, GrowableValues,
+    AnyGrowable, AnyGrowablePrimitive, BoundNulls, FlatGrowable, GrowableNested, GrowableValues,
 };
-use arrow_arrays::array::{AnyArray, ListArray};
+use crate::growable::bound::{BoundNested, bind};
+use arrow_arrays::array::AnyArray;
 use arrow_flat::array::NullArray;
 use arrow_types::datatypes::{DataType, PhysicalType};
 use arrow_types::error::Error;
@@ -70,22 +70,27 @@ pub fn make_growable<'a>(
             Ok(AnyGrowable::FixedSizeBinary(bound(alloc, arrays, use_validity, capacity)?))
         }
         PhysicalType::List | PhysicalType::LargeList => {
-            Ok(AnyGrowable::List(bound_lists(alloc, arrays, use_validity, capacity)?))
+            let lists = BoundNested::Lists(bind(alloc, arrays)?);
+            Ok(AnyGrowable::Nested(GrowableNested::new(alloc, lists, use_validity, capacity)?))
+        }
+        PhysicalType::Map => {
+            let maps = BoundNested::Maps(bind(alloc, arrays)?);
+            Ok(AnyGrowable::Nested(GrowableNested::new(alloc, maps, use_validity, capacity)?))
         }
         _ => unreachable!(),
     }
 }
 
-/// Whether arrays of a data type can grow, as [`make_growable`] asks: a type without children, or lists, at
-/// any depth, of such a type.
+/// Whether arrays of a data type can grow, as [`make_growable`] asks: a type without children, or lists or maps,
+/// at any depth, of such a type.
 pub fn is_growable(data_type: &DataType) -> bool
     ensures { IsTrue result ↔ IsGrowable (type_of data_type.now) }
 {
     match data_type {
         DataType::List(field) | DataType::LargeList(field) => is_growable(field.data_type()),
+        DataType::Map(field, _sorted) => is_growable(field.data_type()),
         DataType::Extension(_, inner, _) => is_growable(inner),
         DataType::FixedSizeList(_, _)
-        | DataType::Map(_, _)
         | DataType::Struct(_)
         | DataType::Union(_, _, _)
         | DataType::Dictionary(_, _, _) => false,
@@ -196,41 +201,6 @@ fn bound_primitives<'a>(
         PrimitiveType::MonthDayNano => {
             Ok(AnyGrowablePrimitive::MonthDayNano(bound(alloc, arrays, use_validity, capacity)?))
         }
-        _ => unreachable!(),
-    }
-}
-
-/// A growable over arrays of lists.
-#[cycle(make)]
-fn bound_lists<'a>(
-    alloc: Global,
-    arrays: &[&'a AnyArray],
-    use_validity: bool,
-    capacity: usize,
-) -> Result<GrowableList<'a>, Error>
-    requires some { 0 < length arrays.now }
-    requires one_type { AreOfOneType (map (λ a. layout_of a.now) arrays.now) }
-    requires kind { kind_in (physical_type_of (first_type (map (λ a. layout_of a.now) arrays.now))) ≡ list_kind }
-    requires growable { IsGrowable (first_type (map (λ a. layout_of a.now) arrays.now)) }
-    ensures ok { IfOk result (λ growable. growable ≡ bound_to (map (λ a. layout_of a.now) arrays.now)) }
-    ensures err { IsOkUnless result Error.OutOfMemory }
-{
-    let mut lists: Vec<&'a ListArray> = Vec::with_capacity(alloc, arrays.len())?;
-    for array in arrays {
-        // The kind of each array follows from its data type.
-        let _ = array.data_type();
-        lists.push(as_list(*array))?;
-    }
-    GrowableList::new(alloc, lists, use_validity, capacity)
-}
-
-/// An array of any type as one of lists.
-fn as_list(array: &AnyArray) -> &ListArray
-    requires { kind_of array.now ≡ list_kind }
-    ensures { list_layout result.now ≡ layout_of array.now }
-{
-    match array {
-        AnyArray::List(array) => array,
         _ => unreachable!(),
     }
 }

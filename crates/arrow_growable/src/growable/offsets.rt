@@ -4,43 +4,45 @@ ghost use Rattle.std.specs.Prelude.{◌≡◌, ◌+◌, ◌<◌, ◌≤◌, [], 
 ghost use Rattle.arrow_types.specs.declared.error.Error.{Error};
 ghost use Rattle.arrow_memory.specs.Grown.{IsGrowthError};
 ghost use Rattle.arrow_memory.specs.Offsets.{IsOffsets, last_of, valid_items, with_valid_rows};
-ghost use Rattle.arrow_arrays.specs.AnyOffsetsBuffer.{offsets_of, lists_of};
 ghost use Rattle.arrow_flat_growable.specs.Validity.{bits_of_slice};
 ghost use Rattle.arrow_growable.specs.GrowableOffsets.{grown_offsets, grown_lists};
 ghost use Rattle.arrow_growable.specs.Lists.{greatest_in};
+ghost use Rattle.arrow_growable.specs.Spans.{span_offsets, span_lists};
 
-use arrow_arrays::array::AnyOffsetsBuffer;
+use crate::growable::spans::Spans;
 use arrow_memory::bitmap::Bitmap;
 use arrow_memory::offset::{Offsets, OffsetsBuffer};
 use arrow_types::error::Error;
 use arrow_types::types::{Index, Offset};
 use std::alloc::Global;
 
-/// The offsets of lists under construction: of 32 bits, or of 64 bits in large lists.
+/// The offsets of lists or maps under construction: of 32 bits, or of 64 bits in large lists.
 #[derive(Drop)]
 pub(crate) enum GrowableOffsets {
     Small(Offsets<i32>),
     Large(Offsets<i64>),
+    Map(Offsets<i32>),
 }
 
 impl GrowableOffsets {
     /// The offset 0 alone, of the width of others, with room for so many rows.
     pub(crate) fn new(
         alloc: Global,
-        others: &AnyOffsetsBuffer,
+        others: &Spans,
         capacity: usize,
     ) -> Result<GrowableOffsets, Error>
         ensures ok { IfOk result (λ offsets. grown_offsets offsets ≡ 0 ∷ []) }
-        ensures width { IfOk result (λ offsets. grown_lists offsets ≡ lists_of others.now) }
+        ensures width { IfOk result (λ offsets. grown_lists offsets ≡ span_lists others.now) }
         ensures err { IsOkUnless result Error.OutOfMemory }
     {
         match others {
-            AnyOffsetsBuffer::Small(_) => {
+            Spans::Small(_) => {
                 Ok(GrowableOffsets::Small(Offsets::with_capacity(alloc, capacity)?))
             }
-            AnyOffsetsBuffer::Large(_) => {
+            Spans::Large(_) => {
                 Ok(GrowableOffsets::Large(Offsets::with_capacity(alloc, capacity)?))
             }
+            Spans::Map(_) => Ok(GrowableOffsets::Map(Offsets::with_capacity(alloc, capacity)?)),
         }
     }
 
@@ -57,6 +59,7 @@ impl GrowableOffsets {
             GrowableOffsets::Large(_) => {
                 Ok(GrowableOffsets::Large(Offsets::with_capacity(alloc, 0)?))
             }
+            GrowableOffsets::Map(_) => Ok(GrowableOffsets::Map(Offsets::with_capacity(alloc, 0)?)),
         }
     }
 
@@ -75,31 +78,38 @@ impl GrowableOffsets {
                 let _ = offsets.last().to_usize();
                 offsets.len()
             }
+            GrowableOffsets::Map(offsets) => {
+                let _ = offsets.last().to_usize();
+                offsets.len()
+            }
         }
     }
 
     /// Appends `len` rows of others of this width, from row `start` on: those that are null without items.
     pub(crate) fn extend(
         &mut self,
-        others: &AnyOffsetsBuffer,
+        others: &Spans,
         validity: Option<&Bitmap>,
         start: usize,
         len: usize,
     ) -> Result<(), Error>
-        requires width { lists_of others.now ≡ grown_lists self.old }
-        requires part { start + len < length (offsets_of others.now) }
+        requires width { span_lists others.now ≡ grown_lists self.old }
+        requires part { start + len < length (span_offsets others.now) }
         requires covered { IfSome validity (λ bits. start + len ≤ length bits.now) }
-        ensures ok { OnOk result (grown_offsets self.new ≡ with_valid_rows (grown_offsets self.old) (bits_of_slice (option_copied validity.entry) start len) (offsets_of others.now) start) }
+        ensures ok { OnOk result (grown_offsets self.new ≡ with_valid_rows (grown_offsets self.old) (bits_of_slice (option_copied validity.entry) start len) (span_offsets others.now) start) }
         ensures width { grown_lists self.new ≡ grown_lists self.old }
-        ensures overflow { result ≡ Err Error.Overflow → greatest_in (grown_lists self.old) < last_of (grown_offsets self.old) + valid_items (bits_of_slice (option_copied validity.entry) start len) (offsets_of others.now) start }
+        ensures overflow { result ≡ Err Error.Overflow → greatest_in (grown_lists self.old) < last_of (grown_offsets self.old) + valid_items (bits_of_slice (option_copied validity.entry) start len) (span_offsets others.now) start }
         ensures others { IfErr result IsGrowthError }
     {
         match (self, others) {
-            (GrowableOffsets::Small(offsets), AnyOffsetsBuffer::Small(others)) => {
-                extend(offsets, others, validity, start, len)
+            (GrowableOffsets::Small(offsets), Spans::Small(others)) => {
+                extend(offsets, *others, validity, start, len)
             }
-            (GrowableOffsets::Large(offsets), AnyOffsetsBuffer::Large(others)) => {
-                extend(offsets, others, validity, start, len)
+            (GrowableOffsets::Large(offsets), Spans::Large(others)) => {
+                extend(offsets, *others, validity, start, len)
+            }
+            (GrowableOffsets::Map(offsets), Spans::Map(others)) => {
+                extend(offsets, *others, validity, start, len)
             }
             _ => unreachable!(),
         }
@@ -114,18 +124,7 @@ impl GrowableOffsets {
         match self {
             GrowableOffsets::Small(offsets) => offsets.extend_constant(additional),
             GrowableOffsets::Large(offsets) => offsets.extend_constant(additional),
-        }
-    }
-
-    /// The offsets, shared from now on.
-    pub(crate) fn into_buffer(self) -> Result<AnyOffsetsBuffer, Error>
-        ensures ok { IfOk result (λ buffer. offsets_of buffer ≡ grown_offsets self) }
-        ensures width { IfOk result (λ buffer. lists_of buffer ≡ grown_lists self) }
-        ensures err { IsOkUnless result Error.OutOfMemory }
-    {
-        match self {
-            GrowableOffsets::Small(offsets) => Ok(AnyOffsetsBuffer::Small(offsets.into_buffer()?)),
-            GrowableOffsets::Large(offsets) => Ok(AnyOffsetsBuffer::Large(offsets.into_buffer()?)),
+            GrowableOffsets::Map(offsets) => offsets.extend_constant(additional),
         }
     }
 }

@@ -1,7 +1,7 @@
 use Rattle.std.proofs.Common.{◌≡◌, ◌+◌, ◌-◌, ◌*◌, length}
 use Rattle.arrow_memory.specs.Sliced.{sliced}
-use Rattle.arrow_arrays.specs.AnyOffsetsBuffer.{offsets_of}
 use Rattle.arrow_arrays.specs.TypeDepth.{type_depth}
+use Rattle.arrow_growable.specs.Spans.{span_offsets}
 use Rattle.arrow_growable.specs.AnyGrowable.{grown_of}
 use Rattle.arrow_growable.proofs.ChildLemmas.{GrowsTo}
 use Rattle.arrow_growable.proofs.growable.+extend.Given as goal
@@ -20,13 +20,13 @@ decreases-items::append_run l = 5 * type_depth ((grown_of l.values.now).arrow_ty
 abbrev pub decreases-any::AnyGrowableGrowable::extend : goal.decreases-any::AnyGrowableGrowable::extend
 decreases-any::AnyGrowableGrowable::extend l = 5 * type_depth ((grown_of l.self.now).arrow_type) + 1
 
-abbrev pub decreases-list::GrowableListGrowable::extend : goal.decreases-list::GrowableListGrowable::extend
-decreases-list::GrowableListGrowable::extend l = 5 * type_depth l.self.now.arrow_type
+abbrev pub decreases-nested::GrowableNestedGrowable::extend : goal.decreases-nested::GrowableNestedGrowable::extend
+decreases-nested::GrowableNestedGrowable::extend l = 5 * type_depth l.self.now.arrow_type
 
 -- the rows so far are held, and what the runs that are left name comes behind them
 abbrev pub invariant-items::append_runs-loop-row : goal.invariant-items::append_runs-loop-row
 invariant-items::append_runs-loop-row l =
-    (l.row + length l.left ≡ l.end) × GrowsTo (grown_of l.initial.values) (grown_of l.values) l.index (offsets_of l.rows) (sliced l.validity l.start l.len) l.left l.start l.row
+    (l.row + length l.left ≡ l.end) × GrowsTo (grown_of l.initial.values) (grown_of l.values) l.index (span_offsets l.rows) (sliced l.validity l.start l.len) l.left l.start l.row
 
 abbrev pub decreases-items::append_runs-loop-row : goal.decreases-items::append_runs-loop-row
 decreases-items::append_runs-loop-row l = l.end - l.row

@@ -3,14 +3,14 @@ use Rattle.std.proofs.lemmas.List.{length-replicate}
 use Rattle.arrow_types.specs.Slot.{null_slot}
 use Rattle.arrow_types.specs.TypeOf.{type_of}
 use Rattle.arrow_memory.specs.Offsets.{last_of}
-use Rattle.arrow_arrays.specs.ListParts.{list_layout}
 use Rattle.arrow_flat_growable.specs.Grown.{FitsWith, null_rows_of}
 use Rattle.arrow_flat_growable.proofs.FlatLemmas.{too_many}
 use Rattle.arrow_growable.specs.AnyGrowable.{grown_of}
+use Rattle.arrow_growable.specs.Bound.{bound_children, bound_layouts}
 use Rattle.arrow_growable.specs.GrowableOffsets.{grown_offsets, grown_lists}
 use Rattle.arrow_growable.specs.Lists.{IsGrownList, greatest_in, lists_rows}
 use Rattle.arrow_growable.proofs.ListLemmas.{is_list_type, list_counts, list_fits, nulls_parts, nulls_rows}
-use Rattle.arrow_growable.proofs.growable.list.GrowableListGrowable.extend_validity.Goals as goal
+use Rattle.arrow_growable.proofs.growable.nested.GrowableNestedGrowable.extend_validity.Goals as goal
 
 pub returns-in_default-clause-overflow : goal.returns-in_default-clause-overflow
 returns-in_default-clause-overflow c same fits =
@@ -23,8 +23,8 @@ pub invariant_of-self-2 : goal.invariant_of-self-2
 invariant_of-self-2 c =
     let inside = c.self.inside in
     let t = type_of inside.data_type in
-    let layouts = map (λ r. list_layout r.now) inside.arrays.items in
-    let children = map (λ r. r.now.child) inside.arrays.items in
+    let layouts = bound_layouts inside.arrays in
+    let children = bound_children inside.arrays in
     let layout = grown_lists inside.offsets in
     let os = grown_offsets inside.offsets in
     let inner = grown_of inside.values.value in
@@ -36,8 +36,8 @@ pub returns-clause-ok : goal.returns-clause-ok
 returns-clause-ok c =
     let inside = c.self.inside in
     let t = type_of inside.data_type in
-    let layouts = map (λ r. list_layout r.now) inside.arrays.items in
-    let children = map (λ r. r.now.child) inside.arrays.items in
+    let layouts = bound_layouts inside.arrays in
+    let children = bound_children inside.arrays in
     let layout = grown_lists inside.offsets in
     let os = grown_offsets inside.offsets in
     let inner = grown_of inside.values.value in
@@ -52,8 +52,8 @@ returns-clause-fits c =
     let few = subst (λ l. last_of (grown_offsets c.extend_nulls-2.new.self) ≤ greatest_in l) c.in_ok-extend_nulls-2.ensures.width c.len-offsets.ensures.fits in
     let inside = c.self.inside in
     let t = type_of inside.data_type in
-    let layouts = map (λ r. list_layout r.now) inside.arrays.items in
-    let children = map (λ r. r.now.child) inside.arrays.items in
+    let layouts = bound_layouts inside.arrays in
+    let children = bound_children inside.arrays in
     let layout = grown_lists inside.offsets in
     let os = grown_offsets inside.offsets in
     let inner = grown_of inside.values.value in

@@ -1,36 +1,45 @@
-//! Lists under construction.
+//! Arrays with children under construction.
 
-ghost use Rattle.std.specs.Prelude.{◌≡◌, ◌+◌, ◌<◌, ◌≤◌, ◌↔◌, true, Err, length, map, All, IfOk, IfErr, OnOk, IsOkUnless};
+ghost use Rattle.std.specs.Prelude.{◌≡◌, ◌+◌, ◌-◌, ◌<◌, ◌≤◌, Some, length, IfOk, IsOkUnless};
 ghost use Rattle.arrow_types.specs.declared.error.Error.{Error};
 ghost use Rattle.arrow_types.specs.TypeOf.{type_of};
 ghost use Rattle.arrow_memory.specs.Offsets.{last_of};
 ghost use Rattle.arrow_flat.specs.Faults.{IsCarriedAs};
-ghost use Rattle.arrow_arrays.specs.Any.{any_array_rows, any_array_type, layout_of};
-ghost use Rattle.arrow_arrays.specs.Layout.{type_of_layout};
-ghost use Rattle.arrow_arrays.specs.ListParts.{list_layout, list_rows};
+ghost use Rattle.arrow_types.specs.Rows.{masked};
+ghost use Rattle.arrow_types.specs.declared.datatypes.physical_type.PhysicalType.TheVariants as physical;
+ghost use Rattle.arrow_flat.specs.Parts.{FitsRows};
+ghost use Rattle.arrow_arrays.specs.Any.{any_array_rows, any_array_type};
+ghost use Rattle.arrow_arrays.specs.AnyOffsetsBuffer.{lists_of, offsets_of};
+ghost use Rattle.arrow_arrays.specs.Layout.{list_items};
 ghost use Rattle.arrow_arrays.specs.TypeParts.{item_type};
-ghost use Rattle.arrow_flat_growable.specs.Grown.{AreOfOneType, IsFailedOrMemory, bound_to, first_type};
+ghost use Rattle.arrow_flat_growable.specs.Grown.{AreOfOneType, bound_to, empty_over, first_type};
 ghost use Rattle.arrow_growable.specs.AnyGrowable.{grown_of};
+ghost use Rattle.arrow_growable.specs.Bound.{bound_children, bound_layouts};
 ghost use Rattle.arrow_growable.specs.Growable.{IsGrowable};
 ghost use Rattle.arrow_growable.specs.GrowableOffsets.{grown_offsets, grown_lists};
 ghost use Rattle.arrow_growable.specs.Lists.{lists_rows};
 
 use crate::growable::any::AnyGrowable;
+use crate::growable::bound::BoundNested;
 use crate::growable::items::append_items;
 use crate::growable::offsets::GrowableOffsets;
+use crate::growable::spans::Spans;
 use crate::growable::{Growable, GrowableValidity, make_growable};
-use arrow_arrays::array::{AnyArray, ListArray};
+use arrow_arrays::array::{AnyArray, AnyOffsetsBuffer, ListArray, MapArray};
+use arrow_memory::bitmap::Bitmap;
+use arrow_memory::offset::OffsetsBuffer;
 use arrow_types::datatypes::DataType;
 use arrow_types::error::Error;
 use std::alloc::Global;
 use std::marker::Model;
 use std::mem;
 
-/// An array of lists under construction, under offsets of either width.
+/// An array with children under construction, of any type that has them: of lists under offsets of either
+/// width, or of maps.
 #[cycle(growables)]
-pub struct GrowableList<'a> {
+pub struct GrowableNested<'a> {
     alloc: Global,
-    arrays: Vec<&'a ListArray>,
+    arrays: BoundNested<'a>,
     data_type: DataType,
     offsets: GrowableOffsets,
     values: Box<AnyGrowable<'a>>,
@@ -40,10 +49,10 @@ pub struct GrowableList<'a> {
 }
 
 // by hand, so that a drop is a call, and is not written out wherever a value is dropped
-impl Drop for GrowableList<'_> {
+impl Drop for GrowableNested<'_> {
     #[cycle(growables)]
     fn drop(self) {
-        let GrowableList {
+        let GrowableNested {
             alloc: _,
             arrays: _,
             data_type: _,
@@ -56,12 +65,12 @@ impl Drop for GrowableList<'_> {
     }
 }
 
-impl<'a> Model for GrowableList<'a> {
-    ghost use Rattle.std.specs.Prelude.{Some, map};
+impl<'a> Model for GrowableNested<'a> {
+    ghost use Rattle.std.specs.Prelude.{Some};
     ghost use Rattle.arrow_types.specs.TypeOf.{type_of};
-    ghost use Rattle.arrow_arrays.specs.ListParts.{list_layout};
     ghost use Rattle.arrow_arrays.specs.TypeDepth.{type_depth};
     ghost use Rattle.arrow_flat_growable.specs.Grown.{Grown, grown_code};
+    ghost use Rattle.arrow_growable.specs.Bound.{bound_children, bound_layouts};
     ghost use Rattle.arrow_growable.specs.GrowableOffsets.{grown_offsets, grown_lists};
     ghost use Rattle.arrow_growable.specs.Lists.{IsGrownList, lists_rows};
 
@@ -71,9 +80,9 @@ impl<'a> Model for GrowableList<'a> {
 
     ghost use Rattle.arrow_growable.specs.AnyGrowable.{grown_of};
 
-    ghost view = { λ a. record { arrow_type = type_of a.data_type; sources = Some (map (λ r. list_layout r.now) a.arrays.items); rows = lists_rows a.validity (grown_offsets a.offsets) (grown_of a.values.value).rows; count = a.len; failed = a.has_failed } };
+    ghost view = { λ a. record { arrow_type = type_of a.data_type; sources = Some (bound_layouts a.arrays); rows = lists_rows a.validity (grown_offsets a.offsets) (grown_of a.values.value).rows; count = a.len; failed = a.has_failed } };
 
-    ghost invariant = { λ a. IsGrownList (grown_lists a.offsets) (grown_offsets a.offsets) (grown_of a.values.value) a.validity a.len (map (λ r. list_layout r.now) a.arrays.items) (map (λ r. r.now.child) a.arrays.items) (type_of a.data_type) a.has_failed };
+    ghost invariant = { λ a. IsGrownList (grown_lists a.offsets) (grown_offsets a.offsets) (grown_of a.values.value) a.validity a.len (bound_layouts a.arrays) (bound_children a.arrays) (type_of a.data_type) a.has_failed };
 
     ghost size = { λ g. type_depth g.arrow_type };
 
@@ -82,7 +91,7 @@ impl<'a> Model for GrowableList<'a> {
     ghost size_decreases = { λ a h. list_falls a.values.value (type_of a.data_type) a.offsets h.kind h.child };
 }
 
-impl<'a> GrowableList<'a> {
+impl<'a> GrowableNested<'a> {
     /// A growable without rows, to which rows of these arrays, of one data type, can be appended, with
     /// room for `capacity` rows. With `use_validity` it keeps a validity from the first row on, and else
     /// once a row may be null; no row depends on that.
@@ -93,26 +102,25 @@ impl<'a> GrowableList<'a> {
     ///
     /// # Errors
     /// `OutOfMemory` where memory is refused, as for a capacity that is too great.
-    ///
-    /// Source: arrow2's `GrowableList::new`.
     #[cycle(make)]
-    pub fn new(
+    pub(crate) fn new(
         alloc: Global,
-        arrays: Vec<&'a ListArray>,
+        arrays: BoundNested<'a>,
         use_validity: bool,
         capacity: usize,
-    ) -> Result<GrowableList<'a>, Error>
-        requires some { 0 < length arrays.items }
-        requires one_type { AreOfOneType (map (λ r. list_layout r.now) arrays.items) }
-        requires growable { IsGrowable (first_type (map (λ r. list_layout r.now) arrays.items)) }
-        ensures ok { IfOk result (λ growable. growable ≡ bound_to (map (λ r. list_layout r.now) arrays.entry.items)) }
+    ) -> Result<GrowableNested<'a>, Error>
+        requires some { 0 < length (bound_layouts arrays) }
+        requires one_type { AreOfOneType (bound_layouts arrays) }
+        requires growable { IsGrowable (first_type (bound_layouts arrays)) }
+        ensures ok { IfOk result (λ growable. growable ≡ bound_to (bound_layouts arrays.entry)) }
         ensures err { IsOkUnless result Error.OutOfMemory }
     {
-        // The kind of arrays follows from their data type: the items of a list are less deep.
-        let _ = arrays[0].data_type();
-        let children = children_of(alloc, &arrays)?;
-        let values = Box::new(alloc, make_growable(alloc, &children, use_validity, 0)?)?;
-        GrowableList::over(alloc, arrays, values, use_validity, capacity)
+        // The type is carried: the items are less deep.
+        let _ = arrays.data_type();
+        let children = arrays.children(alloc)?;
+        let growable = make_growable(alloc, &children, use_validity, 0)?;
+        let values = Box::new(alloc, growable)?;
+        GrowableNested::over(alloc, arrays, values, use_validity, capacity)
     }
 
     /// A growable without rows, to which rows of these arrays, of one data type, can be appended, with
@@ -122,24 +130,21 @@ impl<'a> GrowableList<'a> {
     /// `OutOfMemory` where memory is refused.
     fn over(
         alloc: Global,
-        arrays: Vec<&'a ListArray>,
+        arrays: BoundNested<'a>,
         values: Box<AnyGrowable<'a>>,
         use_validity: bool,
         capacity: usize,
-    ) -> Result<GrowableList<'a>, Error>
-        requires some { 0 < length arrays.items }
-        requires one_type { AreOfOneType (map (λ r. list_layout r.now) arrays.items) }
-        requires child { grown_of values.value ≡ bound_to (map (λ r. r.now.child) arrays.items) }
-        ensures ok { IfOk result (λ growable. growable ≡ bound_to (map (λ r. list_layout r.now) arrays.entry.items)) }
+    ) -> Result<GrowableNested<'a>, Error>
+        requires some { 0 < length (bound_layouts arrays) }
+        requires one_type { AreOfOneType (bound_layouts arrays) }
+        requires child { grown_of values.value ≡ empty_over (item_type (first_type (bound_layouts arrays))) (Some (bound_children arrays)) }
+        ensures ok { IfOk result (λ growable. growable ≡ bound_to (bound_layouts arrays.entry)) }
         ensures err { IsOkUnless result Error.OutOfMemory }
     {
-        let first: &'a ListArray = arrays[0];
-        // The items' type is that of the child.
-        let _ = first.values();
-        let data_type = first.data_type().clone()?;
-        let offsets = GrowableOffsets::new(alloc, first.offsets(), capacity)?;
+        let data_type = arrays.data_type().clone()?;
+        let offsets = GrowableOffsets::new(alloc, &arrays.spans(0), capacity)?;
         let validity = GrowableValidity::new(alloc, use_validity, capacity)?;
-        Ok(GrowableList {
+        Ok(GrowableNested {
             alloc,
             arrays,
             data_type,
@@ -152,36 +157,7 @@ impl<'a> GrowableList<'a> {
     }
 }
 
-impl GrowableList<'_> {
-    /// An array of all rows.
-    ///
-    /// # Errors
-    /// `Failed` where an earlier call refused; `OutOfMemory` where memory is refused.
-    pub fn into_array(self) -> Result<ListArray, Error>
-        ensures ok { IfOk result (λ array. (array.arrow_type ≡ self.entry.arrow_type) × (list_rows array ≡ self.entry.rows)) }
-        ensures failed { (result ≡ Err Error.Failed) ↔ (self.entry.failed ≡ true) }
-        ensures others { IfErr result IsFailedOrMemory }
-    {
-        if self.has_failed {
-            return Err(Error::Failed);
-        }
-        let GrowableList {
-            alloc,
-            arrays: _,
-            data_type,
-            offsets,
-            values,
-            validity,
-            len: _,
-            has_failed: _,
-        } = self;
-        let mut values = values;
-        let child = values.as_box()?;
-        finish(data_type, offsets, Box::new(alloc, child)?, validity)
-    }
-}
-
-impl<'a> Growable<'a> for GrowableList<'a> {
+impl<'a> Growable<'a> for GrowableNested<'a> {
     ghost state = { λ g. g };
 
     #[cycle(extend)]
@@ -189,26 +165,17 @@ impl<'a> Growable<'a> for GrowableList<'a> {
         if self.has_failed {
             return Err(Error::Failed);
         }
-        let array: &'a ListArray = self.arrays[index];
-        // The rows are one fewer than the offsets.
-        let _rows = array.len();
+        let rows: Spans<'a> = self.arrays.spans(index);
+        let validity: Option<&'a Bitmap> = self.arrays.validity(index);
         self.has_failed = true;
         let Some(total) = self.len.checked_add(len) else {
             return Err(Error::Overflow);
         };
         // Offsets rise, before and behind what is appended, and the last is at most the greatest.
         let _old = self.offsets.len();
-        self.validity.extend_from(array.validity(), start, len)?;
-        self.offsets
-            .extend(array.offsets(), array.validity(), start, len)?;
-        append_items(
-            &mut self.values,
-            array.offsets(),
-            array.validity(),
-            index,
-            start,
-            len,
-        )?;
+        self.validity.extend_from(validity, start, len)?;
+        self.offsets.extend(&rows, validity, start, len)?;
+        append_items(&mut self.values, &rows, validity, index, start, len)?;
         let _offsets = self.offsets.len();
         self.len = total;
         self.has_failed = false;
@@ -253,42 +220,77 @@ impl<'a> Growable<'a> for GrowableList<'a> {
         let array = finish(data_type, offsets, values, validity)?;
         self.len = 0;
         self.has_failed = false;
-        Ok(AnyArray::List(array))
+        Ok(array)
     }
 }
 
-/// The children of arrays of lists.
-fn children_of<'a>(alloc: Global, arrays: &[&'a ListArray]) -> Result<Vec<&'a AnyArray>, Error>
-    ensures ok { IfOk result (λ children. map (λ c. layout_of c.now) children.items ≡ map (λ r. r.now.child) arrays.now) }
-    ensures items { OnOk result (All (λ r. type_of_layout r.now.child ≡ item_type r.now.arrow_type) arrays.now) }
-    ensures err { IsOkUnless result Error.OutOfMemory }
-{
-    let mut children: Vec<&'a AnyArray> = Vec::with_capacity(alloc, arrays.len())?;
-    for array in arrays {
-        let array: &'a ListArray = *array;
-        children.push(array.values())?;
-    }
-    Ok(children)
-}
-
-/// An array of lists, null where a bit is not set.
+/// An array under these offsets, null where a bit is not set.
 fn finish(
     data_type: DataType,
     offsets: GrowableOffsets,
     values: Box<AnyArray>,
     validity: GrowableValidity,
-) -> Result<ListArray, Error>
+) -> Result<AnyArray, Error>
     requires kind { IsCarriedAs (grown_lists offsets) (type_of data_type) }
     requires child { any_array_type values.value ≡ item_type (type_of data_type) }
     requires covered { length validity + 1 ≡ length (grown_offsets offsets) }
     requires within { last_of (grown_offsets offsets) ≤ length (any_array_rows values.value) }
-    ensures ok { IfOk result (λ array. (array.arrow_type ≡ type_of data_type) × (list_rows array ≡ lists_rows validity (grown_offsets offsets) (any_array_rows values.value))) }
+    ensures ok { IfOk result (λ array. (any_array_type array ≡ type_of data_type) × (any_array_rows array ≡ lists_rows validity (grown_offsets offsets) (any_array_rows values.value))) }
     ensures err { IsOkUnless result Error.OutOfMemory }
 {
-    let offsets = offsets.into_buffer()?;
     let validity = validity.into_validity()?;
+    match offsets {
+        GrowableOffsets::Small(offsets) => {
+            let offsets = AnyOffsetsBuffer::Small(offsets.into_buffer()?);
+            Ok(list_array(data_type, offsets, values, validity))
+        }
+        GrowableOffsets::Large(offsets) => {
+            let offsets = AnyOffsetsBuffer::Large(offsets.into_buffer()?);
+            Ok(list_array(data_type, offsets, values, validity))
+        }
+        GrowableOffsets::Map(offsets) => {
+            let offsets = offsets.into_buffer()?;
+            Ok(map_array(data_type, offsets, values, validity))
+        }
+    }
+}
+
+/// An array of lists.
+fn list_array(
+    data_type: DataType,
+    offsets: AnyOffsetsBuffer,
+    values: Box<AnyArray>,
+    validity: Option<Bitmap>,
+) -> AnyArray
+    requires kind { IsCarriedAs (lists_of offsets) (type_of data_type) }
+    requires child { any_array_type values.value ≡ item_type (type_of data_type) }
+    requires fits { FitsRows validity (length (offsets_of offsets) - 1) }
+    requires within { last_of (offsets_of offsets) ≤ length (any_array_rows values.value) }
+    ensures same_type { any_array_type result ≡ type_of data_type }
+    ensures rows { any_array_rows result ≡ masked validity (list_items (offsets_of offsets) (any_array_rows values.value)) }
+{
     let Ok(array) = ListArray::try_new(data_type, offsets, values, validity) else {
         unreachable!();
     };
-    Ok(array)
+    AnyArray::List(array)
+}
+
+/// An array of maps.
+fn map_array(
+    data_type: DataType,
+    offsets: OffsetsBuffer<i32>,
+    values: Box<AnyArray>,
+    validity: Option<Bitmap>,
+) -> AnyArray
+    requires kind { IsCarriedAs physical.Map (type_of data_type) }
+    requires child { any_array_type values.value ≡ item_type (type_of data_type) }
+    requires fits { FitsRows validity (length offsets - 1) }
+    requires within { last_of offsets ≤ length (any_array_rows values.value) }
+    ensures same_type { any_array_type result ≡ type_of data_type }
+    ensures rows { any_array_rows result ≡ masked validity (list_items offsets (any_array_rows values.value)) }
+{
+    let Ok(array) = MapArray::try_new(data_type, offsets, values, validity) else {
+        unreachable!();
+    };
+    AnyArray::Map(array)
 }

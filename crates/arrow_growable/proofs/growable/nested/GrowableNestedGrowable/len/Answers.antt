@@ -1,5 +1,5 @@
 use Rattle.arrow_growable.proofs.ListLemmas.{list_counts}
-use Rattle.arrow_growable.proofs.growable.list.GrowableListGrowable.len.Goals as goal
+use Rattle.arrow_growable.proofs.growable.nested.GrowableNestedGrowable.len.Goals as goal
 
 pub returns-clause-rows : goal.returns-clause-rows
 returns-clause-rows c =
