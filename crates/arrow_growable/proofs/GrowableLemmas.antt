@@ -5,7 +5,7 @@ use Rattle.std.proofs.lemmas.List.{get_or-map, length-map}
 use Rattle.arrow_types.specs.declared.datatypes.physical_type.PhysicalType.{PhysicalType}
 use Rattle.arrow_types.specs.declared.datatypes.physical_type.PhysicalType.TheVariants as physical
 use Rattle.arrow_types.specs.declared.types.PrimitiveType.{PrimitiveType}
-use Rattle.arrow_types.specs.ArrowType.{ArrowType, ArrowField, ListForm, PlainType, plain, list, struct, union, dictionary, extension, field, type_in, mapped, small, large, fixed_size, null, boolean, integer, float16, float32, float64, timestamp, date32, date64, time32, time64, duration, interval, binary, large_binary, utf8, large_utf8, fixed_size_binary, decimal, decimal256}
+use Rattle.arrow_types.specs.ArrowType.{ArrowType, ArrowField, ListForm, PlainType, plain, list, struct, union, dictionary, extension, field, type_in, mapped, small, large, fixed_size, null}
 use Rattle.arrow_types.specs.Physical.{physical_type_of, plain_physical_type}
 use Rattle.arrow_types.specs.TypeOf.{type_of, field_of}
 use Rattle.arrow_types.specs.declared.datatypes.Field.{Field}

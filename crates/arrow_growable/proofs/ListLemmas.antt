@@ -6,9 +6,9 @@ use Rattle.std.proofs.lemmas.Int.{ints}
 use Rattle.std.proofs.lemmas.List.{length-append, length-map, length-replicate, map-append, take_all, get_or-take, get_or-drop, get_or_default}
 use Rattle.std.proofs.lemmas.List.Sums.{sum_by-cons}
 use Rattle.arrow_types.specs.declared.datatypes.physical_type.PhysicalType.{PhysicalType}
-use Rattle.arrow_types.specs.ArrowType.{ArrowType, PlainType, plain, list, struct, union, dictionary, extension, field, null, small, large, fixed_size, mapped}
+use Rattle.arrow_types.specs.ArrowType.{ArrowType, plain, list, struct, union, dictionary, extension, field, small, large, fixed_size, mapped}
 use Rattle.arrow_types.specs.Fits.{Fits, all_items}
-use Rattle.arrow_types.specs.Physical.{physical_type_of, plain_physical_type}
+use Rattle.arrow_types.specs.Physical.{physical_type_of}
 use Rattle.arrow_types.specs.Rows.{joined, mask, valid_at}
 use Rattle.arrow_types.specs.Slot.{Slot, Null, null_slot}
 use Rattle.arrow_types.proofs.FitsLemmas.{Fits-nil, all_items-append}

@@ -1,12 +1,7 @@
 -- The arrays that are bound to a growable with children, as contracts see them: all of one kind.
-use Rattle.std.specs.Prelude.{ℕ, ◌≡◌, ◌+◌, ◌-◌, ◌≤◌, List, [], None, length, map, slice_index_or}
-use Rattle.arrow_types.specs.ArrowType.{plain, null}
-use Rattle.arrow_types.specs.declared.datatypes.physical_type.PhysicalType.{PhysicalType}
-use Rattle.arrow_types.specs.declared.datatypes.physical_type.PhysicalType.TheVariants as physical
-use Rattle.arrow_memory.specs.Offsets.{IsOffsets, last_of}
-use Rattle.arrow_flat.specs.Parts.{FitsRows}
-use Rattle.arrow_arrays.specs.Layout.{Layout, flat, rows}
-use Rattle.arrow_arrays.specs.ListParts.{ListParts, list_layout, list_rows}
+use Rattle.std.specs.Prelude.{ℕ, List, map, slice_index_or}
+use Rattle.arrow_arrays.specs.Layout.{Layout}
+use Rattle.arrow_arrays.specs.ListParts.{ListParts, list_layout}
 use Rattle.arrow_growable.specs.Part.{no_part}
 use Rattle.arrow_growable.specs.declared.growable.bound.BoundNested.{BoundNested}
 use Rattle.arrow_growable.specs.declared.growable.bound.BoundNested.TheVariants.{Lists, Maps}

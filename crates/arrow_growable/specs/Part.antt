@@ -1,5 +1,5 @@
 -- The parts of an array of lists or maps that is bound to a growable.
-use Rattle.std.specs.Prelude.{ℕ, ◌≡◌, ◌+◌, ◌-◌, ◌≤◌, [], None, length}
+use Rattle.std.specs.Prelude.{◌≡◌, ◌+◌, ◌-◌, ◌≤◌, [], None, length}
 use Rattle.arrow_types.specs.ArrowType.{plain, null}
 use Rattle.arrow_memory.specs.Offsets.{IsOffsets, last_of}
 use Rattle.arrow_flat.specs.Parts.{FitsRows}

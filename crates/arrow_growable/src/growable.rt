@@ -18,4 +18,4 @@ pub use arrow_flat_growable::growable::{
 pub use bound::NestedArray;
 pub use make::{is_growable, make_growable};
 pub use nested::GrowableNested;
-pub use typed::{GrowableList, GrowableMap, GrowableOf};
+pub use typed::{GrowableList, GrowableOf};

@@ -5,13 +5,11 @@ use Rattle.std.specs.List.{All}
 use Rattle.std.proofs.lemmas.List.{append-nil, get_or-map, length-map, take-append-drop}
 use Rattle.std.proofs.lemmas.Option.{slice_get_read, slice_get-map, get_or_from_slice_get}
 use Rattle.arrow_types.specs.ArrowType.{ArrowType}
-use Rattle.arrow_types.specs.Physical.{physical_type_of}
 use Rattle.arrow_types.specs.Rows.{joined}
 use Rattle.arrow_types.specs.Slot.{Slot}
 use Rattle.arrow_types.proofs.RowsLemmas.{drop_at_read, take_at_read}
 use Rattle.arrow_types.proofs.SelectLemmas.{joined-append}
 use Rattle.arrow_arrays.specs.Layout.{Layout, type_of_layout}
-use Rattle.arrow_arrays.specs.TypeParts.{IsFlatType}
 use Rattle.arrow_flat_growable.specs.Grown.{AreOfOneType, first_type}
 
 pub slice_get-map_read : {A B : Type 0} (f : A → B) (xs : List A) (i : ℕ) (x : A) → i < length xs → x ≡ get_or xs i x → slice_get (map f xs) i ≡ Some (f x)
@@ -31,10 +29,10 @@ pub joined_around : (xss : List (List Slot)) (i : ℕ) (xs : List Slot) → slic
 joined_around xss i xs read =
     ap joined (sym (take-append-drop i xss)) ∙ (joined-append (take i xss) (drop i xss) ∙ (ap (λ yss. joined (take i xss) ++ joined yss) (drop_at_read xss i xs read) ∙ sym (append_assoc (joined (take i xss)) xs (joined (drop (i + 1) xss)))))
 
--- the first of arrays without children is without
-pub first_flat : {A : Type 0} (f : A → Layout) (arrays : List A) → 0 < length arrays → All (λ x. IsFlatType (physical_type_of (type_of_layout (f x)))) arrays → IsFlatType (physical_type_of (first_type (map f arrays)))
-first_flat f [] some flat = absurd (omega (arith, some))
-first_flat f (x ∷ arrays) some flat = flat 0 x (omega arith)
+-- what holds of the type of each holds of the first type
+pub first_has : {A : Type 0} (f : A → Layout) (P : ArrowType → Type 0) (arrays : List A) → 0 < length arrays → All (λ x. P (type_of_layout (f x))) arrays → P (first_type (map f arrays))
+first_has f P [] some held = absurd (omega (arith, some))
+first_has f P (x ∷ arrays) some held = held 0 x (omega arith)
 
 -- the types of all are one where each is the same
 pub of_one_type : {A : Type 0} (f : A → Layout) (arrays : List A) (t : ArrowType) → All (λ u. u ≡ t) (map (λ x. type_of_layout (f x)) arrays) → AreOfOneType (map f arrays)

@@ -1,5 +1,5 @@
 pub mod ArrayLemmas
 pub mod FilterLemmas
-pub mod FlatLemmas
 pub mod GrowLemmas
+pub mod KeyLemmas
 pub mod ShiftLemmas

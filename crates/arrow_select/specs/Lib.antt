@@ -1,4 +1,5 @@
 pub mod Arrays
 pub mod Examples
 pub mod Growing
+pub mod Keys
 pub mod Refusals

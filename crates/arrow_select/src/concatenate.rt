@@ -7,11 +7,12 @@ ghost use Rattle.arrow_types.specs.Fits.{Fits};
 ghost use Rattle.arrow_types.specs.Rows.{joined};
 ghost use Rattle.arrow_arrays.specs.Any.{any_array_type, any_array_rows, layouts_in};
 ghost use Rattle.arrow_flat_growable.specs.Grown.{bound_to, first_type};
-ghost use Rattle.arrow_select.specs.Arrays.{IsFlat, HasOther, HasTwo, rows_in, types_in};
+ghost use Rattle.arrow_select.specs.Arrays.{CanGrow, HasOther, HasTwo, rows_in, types_in};
 ghost use Rattle.arrow_select.specs.Growing.{HasAppended};
 ghost use Rattle.arrow_memory.specs.Grown.{IsGrowthError};
 ghost use Rattle.arrow_select.specs.Refusals.{IsConcatenateRefusal};
 
+use crate::keys::show_no_keys;
 use arrow_arrays::array::AnyArray;
 use arrow_growable::growable::{Growable, make_growable};
 use arrow_types::error::{ArgumentFault, Error};
@@ -20,8 +21,7 @@ use std::alloc::Global;
 /// The rows of all arrays, one array behind the other, in an array of their data type.
 ///
 /// # Requires
-/// Each data type is one without children: by its physical type Null, Boolean, Primitive, Utf8,
-/// LargeUtf8, Binary, LargeBinary or FixedSizeBinary.
+/// Arrays of each data type can grow ([`arrow_growable::growable::is_growable`]).
 ///
 /// # Errors
 /// `ConcatenateEmpty` of no array, `ConcatenateTypes` where two data types differ; then `Overflow` where
@@ -29,7 +29,7 @@ use std::alloc::Global;
 ///
 /// Source: arrow2's `concatenate`.
 pub fn concatenate(alloc: Global, arrays: &[&AnyArray]) -> Result<AnyArray, Error>
-    requires flat { All (λ array. IsFlat array.now) arrays.now }
+    requires growable { All (λ array. CanGrow array.now) arrays.now }
     ensures none { (result ≡ Err (Error.InvalidArgumentError ArgumentFault.ConcatenateEmpty)) ↔ (arrays.now ≡ []) }
     ensures types { (result ≡ Err (Error.InvalidArgumentError ArgumentFault.ConcatenateTypes)) ↔ HasTwo (types_in arrays.now) }
     ensures array_type { IfOk result (λ all. All (λ t. t ≡ any_array_type all) (types_in arrays.now)) }
@@ -53,7 +53,7 @@ fn all_rows<'a, G: Growable<'a> + Drop>(
     growable: G,
     arrays: &[&AnyArray],
 ) -> Result<AnyArray, Error>
-    requires flat { All (λ array. IsFlat array.now) arrays.now }
+    requires growable { All (λ array. CanGrow array.now) arrays.now }
     requires bound { G.state growable ≡ bound_to (layouts_in arrays.now) }
     ensures array_type { IfOk result (λ all. any_array_type all ≡ first_type (layouts_in arrays.now)) }
     ensures rows { IfOk result (λ all. any_array_rows all ≡ joined (rows_in arrays.now)) }
@@ -96,15 +96,15 @@ fn count_rows(arrays: &[&AnyArray]) -> usize {
 
 /// Appends all rows of each array that is bound.
 fn append_all<'a, G: Growable<'a>>(growable: &mut G, arrays: &[&AnyArray]) -> Result<(), Error>
-    requires flat { All (λ array. IsFlat array.now) arrays.now }
+    requires growable { All (λ array. CanGrow array.now) arrays.now }
     requires bound { G.state growable.old ≡ bound_to (layouts_in arrays.now) }
     ensures ok { OnOk result (HasAppended (layouts_in arrays.now) (G.state growable.new) (joined (rows_in arrays.now))) }
     ensures overflow { result ≡ Err Error.Overflow → Fits (first_type (layouts_in arrays.now)) (joined (rows_in arrays.now)) → ⊥ }
     ensures others { IfErr result IsGrowthError }
 {
     for (index, array) in arrays.iter().enumerate() {
-        // The kind of an array follows from its data type: one without children has no crowded row.
-        let _ = array.data_type();
+        // No row is crowded where there is no dictionary.
+        show_no_keys(array);
         growable.extend(index, 0, array.len())?;
     }
     Ok(())

@@ -4,4 +4,5 @@
 
 pub mod concatenate;
 pub mod filter;
+mod keys;
 pub mod window;

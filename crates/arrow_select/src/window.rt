@@ -7,7 +7,7 @@ ghost use Rattle.arrow_types.specs.Fits.{Fits};
 ghost use Rattle.arrow_types.specs.Rows.{shifted};
 ghost use Rattle.arrow_arrays.specs.Any.{any_array_type, any_array_rows, layout_of};
 ghost use Rattle.arrow_flat_growable.specs.Grown.{bound_to};
-ghost use Rattle.arrow_select.specs.Arrays.{IsFlat};
+ghost use Rattle.arrow_select.specs.Arrays.{CanGrow};
 ghost use Rattle.arrow_select.specs.Growing.{HasAppended, between};
 ghost use Rattle.arrow_memory.specs.Grown.{IsGrowthError};
 ghost use Rattle.arrow_select.specs.Refusals.{IsShiftRefusal, PassesLength};
@@ -22,8 +22,7 @@ use std::alloc::Global;
 /// slots.
 ///
 /// # Requires
-/// The data type is one without children: by its physical type Null, Boolean, Primitive, Utf8,
-/// LargeUtf8, Binary, LargeBinary or FixedSizeBinary.
+/// Arrays of the data type can grow ([`arrow_growable::growable::is_growable`]).
 ///
 /// # Errors
 /// `ShiftOffset` where the offset is the least number or passes the count of rows, either way; then
@@ -31,7 +30,7 @@ use std::alloc::Global;
 ///
 /// Source: arrow2's `shift`.
 pub fn shift(alloc: Global, array: &AnyArray, offset: i64) -> Result<AnyArray, Error>
-    requires flat { IsFlat array.now }
+    requires growable { CanGrow array.now }
     ensures passes { (result ≡ Err (Error.InvalidArgumentError ArgumentFault.ShiftOffset)) ↔ PassesLength offset (length (any_array_rows array.now)) }
     ensures array_type { IfOk result (λ moved. any_array_type moved ≡ any_array_type array.now) }
     ensures rows { IfOk result (λ moved. any_array_rows moved ≡ shifted (any_array_rows array.now) offset (any_array_type array.now)) }

@@ -1,7 +1,7 @@
 //! The example of the front page.
 
 ghost use Rattle.std.specs.Prelude.{IfOk};
-ghost use Rattle.arrow_select.specs.Arrays.{IsFlat};
+ghost use Rattle.arrow_select.specs.Arrays.{CanGrow};
 
 use arrow_arrays::array::AnyArray;
 use arrow_flat::array::{AnyPrimitive, BooleanArray, PrimitiveArray};
@@ -17,17 +17,17 @@ use std::process::Abort;
 
 /// Numbers, as an array of any type.
 fn numbers(alloc: Global, values: Vec<i32>) -> Result<AnyArray, Error>
-    ensures { IfOk result IsFlat }
+    ensures { IfOk result CanGrow }
 {
     let values = Buffer::from_vec(alloc, values)?;
     let array = PrimitiveArray::try_new(DataType::Int32, values, None)?;
     Ok(AnyArray::Primitive(AnyPrimitive::Int32(array)))
 }
 
-/// The rows at which the mask is true, of an array without children.
+/// The rows at which the mask is true, of an array that can grow.
 fn kept(alloc: Global, array: &AnyArray, mask: &[bool]) -> Result<AnyArray, Error>
-    requires { IsFlat array.now }
-    ensures { IfOk result IsFlat }
+    requires { CanGrow array.now }
+    ensures { IfOk result CanGrow }
 {
     let mask = Bitmap::from_bools(alloc, mask)?;
     let mask = BooleanArray::try_new(DataType::Boolean, mask, None)?;

@@ -1,4 +1,4 @@
-//! What is tested of the kernels, over arrays of each type without children.
+//! What is tested of the kernels, over arrays of each type that can grow.
 
 mod concatenate;
 mod filter;

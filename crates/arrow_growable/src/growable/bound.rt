@@ -22,7 +22,8 @@ use arrow_types::datatypes::DataType;
 use arrow_types::error::Error;
 use std::alloc::Global;
 
-/// Arrays of one kind that have a child: of lists, or of maps.
+/// Arrays of one kind that have a child: of lists, or of maps. No other type can be one, since what some
+/// methods answer has no public name.
 pub trait NestedArray: Drop {
     // what a contract sees of one
     ghost parts_in: { Self → ListParts };

@@ -1,4 +1,4 @@
-//! The items of lists under construction: a child that grows by the rows that lists name.
+//! The items of lists and maps under construction: a child that grows by the rows that they name.
 
 ghost use Rattle.std.specs.Prelude.{◌≡◌, ◌+◌, ◌-◌, ◌<◌, ◌≤◌, Err, length, slice_index, IfErr, IfSome, OnOk, option_copied};
 ghost use Rattle.arrow_types.specs.declared.error.Error.{Error};
@@ -17,7 +17,7 @@ use crate::growable::spans::Spans;
 use arrow_memory::bitmap::Bitmap;
 use arrow_types::error::Error;
 
-/// Appends the items of `len` rows of bound array `index` from row `start` on, under their offsets, without those of null rows.
+/// Appends the items of `len` rows of bound array `index` from row `start` on, without those of null rows.
 #[cycle(extend)]
 pub(crate) fn append_items(
     values: &mut AnyGrowable,

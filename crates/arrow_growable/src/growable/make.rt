@@ -11,10 +11,10 @@ ghost use Rattle.arrow_growable.specs.Growable.{IsGrowable};
 ghost use Rattle.arrow_flat_growable.specs.Grown.{AreOfOneType, bound_to, first_type};
 ghost use Rattle.arrow_flat_growable.specs.Nulls.{null_layout};
 
+use crate::growable::bound::{BoundNested, bind};
 use crate::growable::{
     AnyGrowable, AnyGrowablePrimitive, BoundNulls, FlatGrowable, GrowableNested, GrowableValues,
 };
-use crate::growable::bound::{BoundNested, bind};
 use arrow_arrays::array::AnyArray;
 use arrow_flat::array::NullArray;
 use arrow_types::datatypes::{DataType, PhysicalType};

@@ -34,8 +34,8 @@ use std::alloc::Global;
 use std::marker::Model;
 use std::mem;
 
-/// An array with children under construction, of any type that has them: of lists under offsets of either
-/// width, or of maps.
+/// An array with children under construction, whichever kind its arrays are: lists, under offsets of either
+/// width, or maps.
 #[cycle(growables)]
 pub struct GrowableNested<'a> {
     alloc: Global,

@@ -6,19 +6,16 @@ ghost use Rattle.arrow_arrays.specs.ListParts.{list_layout, list_rows};
 ghost use Rattle.arrow_flat_growable.specs.Grown.{AreOfOneType, IsFailedOrMemory, bound_to, first_type};
 ghost use Rattle.arrow_growable.specs.Growable.{IsGrowable};
 
+use crate::growable::Growable;
 use crate::growable::bound::NestedArray;
 use crate::growable::nested::GrowableNested;
-use crate::growable::Growable;
-use arrow_arrays::array::{AnyArray, ListArray, MapArray};
+use arrow_arrays::array::{AnyArray, ListArray};
 use arrow_types::error::Error;
 use std::alloc::Global;
 use std::marker::{Model, PhantomData};
 
 /// An array of lists under construction, under offsets of either width.
 pub type GrowableList<'a> = GrowableOf<'a, ListArray>;
-
-/// An array of maps under construction.
-pub type GrowableMap<'a> = GrowableOf<'a, MapArray>;
 
 /// An array with children under construction, over arrays of one kind.
 #[derive(Drop)]

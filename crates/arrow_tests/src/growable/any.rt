@@ -5,9 +5,9 @@ ghost use Rattle.arrow_arrays.specs.Any.{any_array_type, layout_of};
 ghost use Rattle.arrow_growable.specs.AnyGrowable.{grown_of};
 ghost use Rattle.arrow_growable.specs.Growable.{IsGrowable};
 
-use crate::lent::from_row;
+use crate::lent::{LISTS, from_row};
 use arrow_arrays::array::{AnyArray, new_null_array};
-use arrow_arrays_fixture::arrays::{FLATS, ListKind, Shape, array_of};
+use arrow_arrays_fixture::arrays::{FLATS, Shape, array_of};
 use arrow_growable::growable::{AnyGrowable, Growable, is_growable, make_growable};
 use arrow_types::datatypes::{DataType, IntervalUnit};
 use arrow_types::error::Error;
@@ -57,13 +57,6 @@ enum Kind<'a> {
     /// Nulls of a data type, as many as there are letters.
     Nulls(&'a DataType),
 }
-
-/// Lists that can grow.
-const LISTS: [Shape; 3] = [
-    Shape::Lists(ListKind::Small),
-    Shape::Lists(ListKind::Large),
-    Shape::Lists(ListKind::Named),
-];
 
 /// A data type of each element type.
 const ELEMENTS: [DataType; 12] = [

@@ -1,13 +1,16 @@
 //! The rows of two arrays, one array behind the other.
 
-use crate::lent::{from_row, is_flat};
+use crate::lent::{LISTS, from_row};
 use crate::select::check_answer;
 use arrow_arrays::array::AnyArray;
-use arrow_arrays_fixture::arrays::{FLATS, Shape, array_of};
+use arrow_arrays_fixture::arrays::{FLATS, ListKind, Shape, array_of, lists_of};
 use arrow_flat::array::NullArray;
+use arrow_growable::growable::is_growable;
+use arrow_memory::bitmap::Bitmap;
 use arrow_select::concatenate::concatenate;
 use arrow_types::datatypes::DataType;
 use arrow_types::error::{ArgumentFault, Error};
+use arrow_types_fixture::check;
 use std::alloc::Global;
 use std::process::Abort;
 
@@ -27,7 +30,7 @@ fn check_two(
     shape: Shape,
     want: Result<&[u8], Error>,
 ) -> Result<(), Error> {
-    assert!(rt; is_flat(left) && is_flat(right));
+    assert!(rt; is_growable(left.data_type()) && is_growable(right.data_type()));
     check_answer(rt, concatenate(rt.alloc(), &[left, right]), shape, want)
 }
 
@@ -45,8 +48,32 @@ fn check_rows(
     check_two(rt, &left, &right, shape, want)
 }
 
+/// Twice one row over as many items as lists can have.
+fn join_wide(
+    rt: &(impl Abort + Alloc<A = Global>),
+    validity: Option<Bitmap>,
+) -> Result<AnyArray, Error> {
+    const MOST: usize = 2_147_483_647;
+    let items = AnyArray::Null(NullArray::try_new(DataType::Null, MOST)?);
+    let array = lists_of(rt.alloc(), ListKind::Small, &[0, MOST], items, validity)?;
+    assert!(rt; is_growable(array.data_type()));
+    concatenate(rt.alloc(), &[&array, &array])
+}
+
+/// Items that two rows can't have: none of theirs is named where they are null.
+fn check_wide(rt: &(impl Abort + Alloc<A = Global>)) -> Result<(), Error> {
+    match join_wide(rt, None) {
+        Err(Error::OutOfMemory) => return Err(Error::OutOfMemory),
+        answer => check!(rt; answer.err() == Some(Error::Overflow)),
+    }
+    let null = Bitmap::from_bools(rt.alloc(), &[false])?;
+    let both = join_wide(rt, Some(null))?;
+    check!(rt; both.len() == 2 && both.null_count() == 2);
+    Ok(())
+}
+
 pub fn check_concatenate(rt: &(impl Abort + Alloc<A = Global>)) -> Result<(), Error> {
-    for shape in &FLATS {
+    for shape in FLATS.iter().chain(&LISTS) {
         for (start, letters, want) in &CASES {
             check_rows(rt, [*shape, *shape], *letters, *start, Ok(*want))?;
         }
@@ -60,5 +87,6 @@ pub fn check_concatenate(rt: &(impl Abort + Alloc<A = Global>)) -> Result<(), Er
     // More rows than can be counted.
     let most = AnyArray::Null(NullArray::try_new(DataType::Null, usize::MAX)?);
     let one = AnyArray::Null(NullArray::try_new(DataType::Null, 1)?);
-    check_two(rt, &most, &one, Shape::Null, Err(Error::Overflow))
+    check_two(rt, &most, &one, Shape::Null, Err(Error::Overflow))?;
+    check_wide(rt)
 }

@@ -1,11 +1,12 @@
 //! The rows at which a predicate is true.
 
-use crate::lent::{from_row, is_flat};
+use crate::lent::{LISTS, from_row};
 use crate::select::check_answer;
 use arrow_arrays::array::AnyArray;
 use arrow_arrays_fixture::arrays::{FLATS, Shape, array_of};
 use arrow_flat::array::BooleanArray;
 use arrow_flat_fixture::arrays::truths;
+use arrow_growable::growable::is_growable;
 use arrow_select::filter::filter;
 use arrow_types::error::Error;
 use std::alloc::Global;
@@ -49,13 +50,13 @@ fn check_kept(
     shape: Shape,
     want: &[u8],
 ) -> Result<(), Error> {
-    assert!(rt; is_flat(array));
+    assert!(rt; is_growable(array.data_type()));
     assert!(rt; predicate.len() == array.len());
     check_answer(rt, filter(rt.alloc(), array, predicate), shape, Ok(want))
 }
 
 pub fn check_filter(rt: &(impl Abort + Alloc<A = Global>)) -> Result<(), Error> {
-    for shape in &FLATS {
+    for shape in FLATS.iter().chain(&LISTS) {
         for case in &CASES {
             check_rows(rt, *shape, *case)?;
         }

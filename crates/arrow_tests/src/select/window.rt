@@ -1,10 +1,11 @@
 //! Rows that are moved along an array.
 
-use crate::lent::{from_row, is_flat};
+use crate::lent::{LISTS, from_row};
 use crate::select::check_answer;
 use arrow_arrays::array::AnyArray;
 use arrow_arrays_fixture::arrays::{FLATS, Shape, array_of};
 use arrow_flat::array::NullArray;
+use arrow_growable::growable::is_growable;
 use arrow_select::window::shift;
 use arrow_types::datatypes::DataType;
 use arrow_types::error::{ArgumentFault, Error};
@@ -33,7 +34,7 @@ fn shift_rows(
     array: &AnyArray,
     offset: i64,
 ) -> Result<AnyArray, Error> {
-    assert!(rt; is_flat(array));
+    assert!(rt; is_growable(array.data_type()));
     shift(rt.alloc(), array, offset)
 }
 
@@ -47,7 +48,7 @@ fn check_rows(rt: &(impl Abort + Alloc<A = Global>), shape: Shape) -> Result<(),
 }
 
 pub fn check_shift(rt: &(impl Abort + Alloc<A = Global>)) -> Result<(), Error> {
-    for shape in &FLATS {
+    for shape in FLATS.iter().chain(&LISTS) {
         check_rows(rt, *shape)?;
     }
     // As many rows as can be counted.

@@ -1,4 +1,4 @@
-use Rattle.std.proofs.Common.{◌≡◌, map, Some, ap, sym, subst, ◌∙◌}
+use Rattle.std.proofs.Common.{◌≡◌, Some, ap, sym, subst, ◌∙◌}
 use Rattle.arrow_types.specs.TypeOf.{type_of}
 use Rattle.arrow_flat.specs.Faults.{IsCarriedAs}
 use Rattle.arrow_arrays.specs.TypeParts.{item_type}

@@ -1,4 +1,4 @@
-use Rattle.std.proofs.Common.{rules, arith, ◌≡◌, ◌+◌, ◌<◌, ◌≤◌, ◌++◌, ℕ, Bool, false, List, Option, length, map, slice_index, Some, None, Err, Bor, inl, ap, sym, subst, ◌∙◌}
+use Rattle.std.proofs.Common.{rules, arith, ◌≡◌, ◌+◌, ◌<◌, ◌≤◌, ◌++◌, ℕ, Bool, false, List, Option, length, slice_index, Some, None, Err, inl, ap, sym, subst, ◌∙◌}
 use Rattle.std.specs.Prelude.{IfSome}
 use Rattle.arrow_types.specs.declared.datatypes.physical_type.PhysicalType.{PhysicalType}
 use Rattle.arrow_types.specs.ArrowType.{ArrowType}
@@ -7,7 +7,6 @@ use Rattle.arrow_memory.specs.Offsets.{last_of, valid_items, with_valid_rows}
 use Rattle.arrow_memory.specs.Sliced.{sliced}
 use Rattle.arrow_memory.proofs.SlicedLemmas.{length-sliced}
 use Rattle.arrow_arrays.specs.Layout.{Layout, rows}
-use Rattle.arrow_arrays.specs.ListParts.{list_layout}
 use Rattle.arrow_arrays.specs.TypeDepth.{type_depth}
 use Rattle.arrow_flat_growable.specs.Grown.{Grown, CannotHold, NamesRows, source_at}
 use Rattle.arrow_flat_growable.specs.GrownRows.{valid_values}
@@ -16,7 +15,7 @@ use Rattle.arrow_flat_growable.proofs.FlatLemmas.{too_many}
 use Rattle.arrow_flat_growable.proofs.ResultLemmas.{on_ok, passed_on}
 use Rattle.arrow_flat_growable.proofs.ValidRowLemmas.{run_long}
 use Rattle.arrow_growable.specs.AnyGrowable.{grown_of}
-use Rattle.arrow_growable.specs.Bound.{bound_children, bound_layouts, bound_parts, part_at}
+use Rattle.arrow_growable.specs.Bound.{bound_children, bound_layouts, part_at}
 use Rattle.arrow_growable.specs.Child.{BindsRows, CannotGrow, GrownBy, LiesIn, bound_rows}
 use Rattle.arrow_growable.specs.Falls.{items_less_deep}
 use Rattle.arrow_growable.specs.GrowableOffsets.{grown_offsets, grown_lists}

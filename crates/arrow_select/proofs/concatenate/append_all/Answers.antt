@@ -2,10 +2,10 @@ use Rattle.std.proofs.Common.{subst, Bor, Err, ap, sym, ◌∙◌}
 use Rattle.arrow_arrays.specs.Any.{any_array_rows, layout_of, layouts_in}
 use Rattle.arrow_flat_growable.proofs.FlatLemmas.{source_is}
 use Rattle.arrow_flat_growable.proofs.ResultLemmas.{passed_on}
-use Rattle.arrow_select.specs.Arrays.{IsFlat, rows_in}
+use Rattle.arrow_select.specs.Arrays.{rows_in}
 use Rattle.arrow_select.specs.Growing.{HasAppended}
 use Rattle.arrow_select.proofs.ArrayLemmas.{joined_next, joined_around, slice_get-map_read}
-use Rattle.arrow_select.proofs.FlatLemmas.{none_crowded}
+use Rattle.arrow_select.proofs.KeyLemmas.{none_crowded}
 use Rattle.arrow_select.proofs.GrowLemmas.{holds_none, holds_more, refuses_whole, too_many_named, named, whole_source}
 use Rattle.arrow_select.proofs.concatenate.append_all.Goals as goal
 
@@ -19,11 +19,10 @@ returns-in_err-extend-clause-overflow g c overflows fits =
     let i = c.loop-index.index in
     let array = c.index-arrays-index.result.now in
     let source = source_is (λ (a : Bor _). layout_of a.now) arrays i c.index-arrays-index.result c.loop-index-test.true c.index-arrays-index.is in
-    let flat = subst (λ (a : Bor _). IsFlat a.now) (sym c.index-arrays-index.is) (c.requires.flat i c.index-arrays-index.result c.loop-index-test.true) in
     let read = slice_get-map_read (λ (a : Bor _). any_array_rows a.now) arrays i c.index-arrays-index.result c.loop-index-test.true c.index-arrays-index.is in
     let overflow = ap Err (passed_on c.from_residual.result _ _ c.from_residual.ensures.1 overflows) in
     let more = named layouts _ _ c.loop-index.invariant i 0 c.len.result ∙ whole_source layouts i array source c.len.result c.len.ensures in
-    refuses_whole layouts _ _ c.loop-index.invariant _ _ _ _ more (too_many_named layouts _ _ c.loop-index.invariant i 0 c.len.result (none_crowded layouts array i 0 c.len.result source flat c.data_type.ensures.kind) (c.in_err-extend.ensures.overflow overflow)) (joined_around (rows_in arrays) i _ read) fits
+    refuses_whole layouts _ _ c.loop-index.invariant _ _ _ _ more (too_many_named layouts _ _ c.loop-index.invariant i 0 c.len.result (none_crowded layouts (layout_of array) i 0 c.len.result source c.show_no_keys.ensures) (c.in_err-extend.ensures.overflow overflow)) (joined_around (rows_in arrays) i _ read) fits
 
 pub loop-index-preserved : goal.loop-index-preserved
 loop-index-preserved g c =

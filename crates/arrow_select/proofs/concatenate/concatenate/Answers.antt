@@ -3,11 +3,10 @@ use Rattle.std.proofs.lemmas.List.{length-map}
 use Rattle.std.proofs.lemmas.Result.{IfOk-weaker}
 use Rattle.arrow_types.specs.Fits.{Fits}
 use Rattle.arrow_types.specs.Rows.{joined}
-use Rattle.arrow_arrays.specs.Any.{any_array_type, layout_of, layouts_in}
-use Rattle.arrow_flat_growable.specs.Grown.{first_type}
+use Rattle.arrow_arrays.specs.Any.{any_array_type, layout_of}
+use Rattle.arrow_growable.specs.Growable.{IsGrowable}
 use Rattle.arrow_select.specs.Arrays.{rows_in}
-use Rattle.arrow_select.proofs.ArrayLemmas.{first_flat, slice_get-map_read, Contains-read, of_one_type, all_as_first}
-use Rattle.arrow_select.proofs.FlatLemmas.{flat_grows}
+use Rattle.arrow_select.proofs.ArrayLemmas.{first_has, slice_get-map_read, Contains-read, of_one_type, all_as_first}
 use Rattle.arrow_select.proofs.concatenate.concatenate.Goals as goal
 
 pub returns-then-not-have_one_type-clause-types : goal.returns-then-not-have_one_type-clause-types
@@ -26,7 +25,7 @@ make_growable-requires-clause-one_type c =
 
 pub make_growable-requires-clause-growable : goal.make_growable-requires-clause-growable
 make_growable-requires-clause-growable c =
-    flat_grows (first_type (layouts_in c.args.arrays.now)) (first_flat (λ (a : Bor _). layout_of a.now) c.args.arrays.now c.in-Some.ensures.item.3.0 c.requires.flat)
+    first_has (λ (a : Bor _). layout_of a.now) IsGrowable c.args.arrays.now c.in-Some.ensures.item.3.0 c.requires.growable
 
 pub returns-clause-array_type : goal.returns-clause-array_type
 returns-clause-array_type c =

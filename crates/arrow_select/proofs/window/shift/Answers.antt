@@ -1,20 +1,14 @@
-use Rattle.std.proofs.Common.{rules, ◌≡◌, ◌-◌, Err, w64, unsigned_abs, ap, sym, subst, ◌∙◌}
+use Rattle.std.proofs.Common.{rules, ◌≡◌, ◌-◌, w64, unsigned_abs, ap, sym, subst, ◌∙◌}
 use Rattle.std.proofs.lemmas.Int.{to_z-of_z}
 use Rattle.std.proofs.lemmas.Result.{IfOk-weaker}
 use mir.Val.{SFits}
 use Rattle.arrow_types.specs.Fits.{Fits}
 use Rattle.arrow_types.specs.Rows.{shifted}
 use Rattle.arrow_arrays.specs.Any.{any_array_type, any_array_rows}
-use Rattle.arrow_flat_growable.specs.Grown.{Grown}
-use Rattle.arrow_flat_growable.proofs.ResultLemmas.{passed_on}
 use Rattle.arrow_select.specs.Growing.{between}
-use Rattle.arrow_select.proofs.FlatLemmas.{flat_grows}
 use Rattle.arrow_select.proofs.ShiftLemmas.{shifted_back, shifted_forth}
 use Rattle.arrow_select.proofs.window.shift.Goals as goal
 use Rattle.arrow_select.proofs.window.shift.Goals.{then-offset-gt0, else-offset-gt0}
-
-pub make_growable-requires-clause-growable : goal.make_growable-requires-clause-growable
-make_growable-requires-clause-growable c = flat_grows (any_array_type c.args.array.now) c.requires.flat
 
 pub returns-clause-overflow : goal.returns-clause-overflow
 returns-clause-overflow c overflows fits =

@@ -1,5 +1,4 @@
-use Rattle.std.proofs.Common.{arith, ◌≡◌, Bor, IfOk, length, map, ap, sym, subst, ◌∙◌}
-use Rattle.std.proofs.lemmas.List.{length-map}
+use Rattle.std.proofs.Common.{arith, Bor, map, ap, sym, ◌∙◌}
 use Rattle.arrow_types.specs.Physical.{physical_type_of}
 use Rattle.arrow_arrays.specs.Any.{kind_in, layout_of}
 use Rattle.arrow_arrays.specs.ListParts.{list_layout}

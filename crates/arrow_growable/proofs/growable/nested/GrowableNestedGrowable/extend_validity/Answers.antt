@@ -1,4 +1,4 @@
-use Rattle.std.proofs.Common.{arith, ◌≡◌, ◌+◌, ◌≤◌, false, length, map, replicate, Some, subst, sym}
+use Rattle.std.proofs.Common.{arith, ◌≡◌, ◌+◌, ◌≤◌, false, length, replicate, Some, subst, sym}
 use Rattle.std.proofs.lemmas.List.{length-replicate}
 use Rattle.arrow_types.specs.Slot.{null_slot}
 use Rattle.arrow_types.specs.TypeOf.{type_of}

@@ -1,0 +1,17 @@
+-- Arrays that hold no dictionary, at any depth: no key of theirs can be crowded.
+use Rattle.arrow_arrays.specs.Layout.{Layout, Layouts, flat, listed, fixed, fielded, sparse, dense, keyed, no_layouts, more_layouts}
+
+abbrev mutual
+  pub HasNoKeys : Layout → Type 0
+  HasNoKeys (flat t xs) = Unit {0}
+  HasNoKeys (listed t v offsets c) = HasNoKeys c
+  HasNoKeys (fixed t v s c) = HasNoKeys c
+  HasNoKeys (fielded t v cs) = HaveNoKeys cs
+  HasNoKeys (sparse t ids start cs) = HaveNoKeys cs
+  HasNoKeys (dense t ids child_rows cs) = HaveNoKeys cs
+  HasNoKeys (keyed t keys c) = ⊥
+
+  -- each of them
+  pub HaveNoKeys : Layouts → Type 0
+  HaveNoKeys no_layouts = Unit {0}
+  HaveNoKeys (more_layouts l ls) = HasNoKeys l × HaveNoKeys ls

@@ -1,0 +1,29 @@
+//! Arrays that hold no dictionary.
+
+ghost use Rattle.arrow_arrays.specs.Any.{layout_of};
+ghost use Rattle.arrow_select.specs.Arrays.{CanGrow};
+ghost use Rattle.arrow_select.specs.Keys.{HasNoKeys};
+
+use arrow_arrays::array::AnyArray;
+
+/// Shows that an array whose type can grow holds no dictionary, by a walk down to the array without
+/// children: what kind of array each child is follows from its data type.
+pub(crate) fn show_no_keys(array: &AnyArray)
+    requires { CanGrow array.now }
+    ensures { HasNoKeys (layout_of array.now) }
+{
+    let _ = array.data_type();
+    match array {
+        AnyArray::List(lists) => {
+            // The data type is that of lists.
+            let _ = lists.data_type();
+            show_no_keys(lists.values());
+        }
+        AnyArray::Map(maps) => {
+            // The data type is that of maps.
+            let _ = maps.data_type();
+            show_no_keys(maps.field());
+        }
+        _ => {}
+    }
+}
