@@ -106,20 +106,17 @@ may_grow (union mode ids fs) grows = grows
 may_grow (dictionary keys ordered t) grows = grows
 may_grow (extension name metadata t) grows = may_grow t grows
 
--- there are no others
-pub grows_no_other : (p : PhysicalType) → MayGrow p → (p ≡ physical.Null → ⊥) → (p ≡ physical.Boolean → ⊥) → ((x : PrimitiveType) → p ≡ physical.Primitive x → ⊥) → (p ≡ physical.Binary → ⊥) → (p ≡ physical.FixedSizeBinary → ⊥) → (p ≡ physical.LargeBinary → ⊥) → (p ≡ physical.Utf8 → ⊥) → (p ≡ physical.LargeUtf8 → ⊥) → (p ≡ physical.List → ⊥) → (p ≡ physical.LargeList → ⊥) → (p ≡ physical.Map → ⊥) → ⊥
-grows_no_other physical.Null may n b x y f z u v l w m = n refl
-grows_no_other physical.Boolean may n b x y f z u v l w m = b refl
-grows_no_other (physical.Primitive e) may n b x y f z u v l w m = x e refl
-grows_no_other physical.Binary may n b x y f z u v l w m = y refl
-grows_no_other physical.FixedSizeBinary may n b x y f z u v l w m = f refl
-grows_no_other physical.LargeBinary may n b x y f z u v l w m = z refl
-grows_no_other physical.Utf8 may n b x y f z u v l w m = u refl
-grows_no_other physical.LargeUtf8 may n b x y f z u v l w m = v refl
-grows_no_other physical.List may n b x y f z u v l w m = l refl
-grows_no_other physical.LargeList may n b x y f z u v l w m = w refl
-grows_no_other physical.FixedSizeList may n b x y f z u v l w m = may
-grows_no_other physical.Map may n b x y f z u v l w m = m refl
-grows_no_other physical.Struct may n b x y f z u v l w m = may
-grows_no_other physical.Union may n b x y f z u v l w m = may
-grows_no_other (physical.Dictionary keys) may n b x y f z u v l w m = may
+-- those that are none of these are lists
+pub others_are_lists : (p : PhysicalType) → MayGrow p → (p ≡ physical.Null → ⊥) → (p ≡ physical.Boolean → ⊥) → ((x : PrimitiveType) → p ≡ physical.Primitive x → ⊥) → (p ≡ physical.Binary → ⊥) → (p ≡ physical.FixedSizeBinary → ⊥) → (p ≡ physical.LargeBinary → ⊥) → (p ≡ physical.Utf8 → ⊥) → (p ≡ physical.LargeUtf8 → ⊥) → IsListType p
+others_are_lists physical.Null may n b x y f z u v = n refl
+others_are_lists physical.Boolean may n b x y f z u v = b refl
+others_are_lists (physical.Primitive e) may n b x y f z u v = x e refl
+others_are_lists physical.Binary may n b x y f z u v = y refl
+others_are_lists physical.FixedSizeBinary may n b x y f z u v = f refl
+others_are_lists physical.LargeBinary may n b x y f z u v = z refl
+others_are_lists physical.Utf8 may n b x y f z u v = u refl
+others_are_lists physical.LargeUtf8 may n b x y f z u v = v refl
+others_are_lists physical.List may n b x y f z u v = tt
+others_are_lists physical.LargeList may n b x y f z u v = tt
+others_are_lists physical.Map may n b x y f z u v = tt
+others_are_lists _ may n b x y f z u v = may

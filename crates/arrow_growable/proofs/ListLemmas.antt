@@ -9,7 +9,7 @@ use Rattle.arrow_types.specs.declared.datatypes.physical_type.PhysicalType.{Phys
 use Rattle.arrow_types.specs.ArrowType.{ArrowType, plain, list, struct, union, dictionary, extension, field, small, large, fixed_size, mapped}
 use Rattle.arrow_types.specs.Fits.{Fits, all_items}
 use Rattle.arrow_types.specs.Physical.{physical_type_of}
-use Rattle.arrow_types.specs.Rows.{joined, mask, valid_at}
+use Rattle.arrow_types.specs.Rows.{joined, mask, masked, valid_at}
 use Rattle.arrow_types.specs.Slot.{Slot, Null, null_slot}
 use Rattle.arrow_types.proofs.FitsLemmas.{Fits-nil, all_items-append}
 use Rattle.arrow_types.proofs.RowsLemmas.{length-mask}
@@ -301,6 +301,11 @@ module _ (os : List ℕ) (inner : Grown) (bits : List Bool) (len : ℕ) (held : 
         child = holds.child;
         spares = subst (SparesItems (bits ++ replicate n false)) (sym null_lists) (spares_more bits (replicate n false) (pieces os inner.rows) none many holds.spares (length-replicate n false ∙ sym (length-replicate n [])));
       }
+
+-- an array that is made has the rows: under a validity that gives what the bits give
+pub rows_made : (os ns : List ℕ) (xs : List Slot) (bits : List Bool) (v : Option (List Bool)) → ns ≡ os → length bits + 1 ≡ length os → ((ys : List Slot) → length ys ≡ length bits → masked v ys ≡ mask bits ys) → masked v (list_items ns xs) ≡ lists_rows bits os xs
+rows_made os ns xs bits v same covered gives =
+    ap (λ ms. masked v (list_items ms xs)) same ∙ gives (list_items os xs) (omega (arith, length-map (pieces os xs) items_row, length-pieces os xs, covered))
 
 -- one without rows
 pub list_empty : (layout : PhysicalType) (os : List ℕ) (inner : Grown) (bits : List Bool) (layouts children : List Layout) (t : ArrowType) → IsCarriedAs layout t → All (λ l. type_of_layout l ≡ t) layouts → inner ≡ empty_over (item_type t) (Some children) → os ≡ 0 ∷ [] → bits ≡ [] → IsGrownList layout os inner bits 0 layouts children t false

@@ -18,7 +18,7 @@ ghost use Rattle.arrow_growable.specs.Spans.{span_offsets, span_lists};
 use crate::growable::spans::Spans;
 use arrow_arrays::array::{AnyArray, ListArray, MapArray};
 use arrow_memory::bitmap::Bitmap;
-use arrow_types::datatypes::DataType;
+use arrow_types::datatypes::{DataType, PhysicalType};
 use arrow_types::error::Error;
 use std::alloc::Global;
 
@@ -169,6 +169,27 @@ pub enum BoundNested<'a> {
 }
 
 impl<'a> BoundNested<'a> {
+    /// Arrays of any type with children, which is one of those whose arrays can grow.
+    ///
+    /// # Errors
+    /// `OutOfMemory` where memory is refused.
+    pub(crate) fn of_any(alloc: Global, arrays: &[&'a AnyArray]) -> Result<BoundNested<'a>, Error>
+        requires some { 0 < length arrays.now }
+        requires one_type { AreOfOneType (map (λ a. layout_of a.now) arrays.now) }
+        requires lists { IsListType (physical_type_of (first_type (map (λ a. layout_of a.now) arrays.now))) }
+        ensures ok { IfOk result (λ bound. bound_layouts bound ≡ map (λ a. layout_of a.now) arrays.now) }
+        ensures err { IsOkUnless result Error.OutOfMemory }
+    {
+        let first: &'a AnyArray = arrays[0];
+        match first.data_type().to_physical_type() {
+            PhysicalType::List | PhysicalType::LargeList => {
+                Ok(BoundNested::Lists(bind(alloc, arrays)?))
+            }
+            PhysicalType::Map => Ok(BoundNested::Maps(bind(alloc, arrays)?)),
+            _ => unreachable!(),
+        }
+    }
+
     /// The data type of the first.
     pub(crate) fn data_type(&self) -> &'a DataType
         requires { 0 < length (bound_parts self.now) }
@@ -256,10 +277,7 @@ fn children_of<'a, A: NestedArray>(
 }
 
 /// Arrays of any type as arrays of one kind.
-pub(crate) fn bind<'a, A: NestedArray>(
-    alloc: Global,
-    arrays: &[&'a AnyArray],
-) -> Result<Vec<&'a A>, Error>
+fn bind<'a, A: NestedArray>(alloc: Global, arrays: &[&'a AnyArray]) -> Result<Vec<&'a A>, Error>
     requires one_type { AreOfOneType (map (λ a. layout_of a.now) arrays.now) }
     requires kind { kind_in (physical_type_of (first_type (map (λ a. layout_of a.now) arrays.now))) ≡ A.kind }
     ensures ok { IfOk result (λ bound. map list_layout (map (λ r. A.parts_in r.now) bound.items) ≡ map (λ a. layout_of a.now) arrays.now) }

@@ -11,7 +11,7 @@ ghost use Rattle.arrow_growable.specs.Growable.{IsGrowable};
 ghost use Rattle.arrow_flat_growable.specs.Grown.{AreOfOneType, bound_to, first_type};
 ghost use Rattle.arrow_flat_growable.specs.Nulls.{null_layout};
 
-use crate::growable::bound::{BoundNested, bind};
+use crate::growable::bound::BoundNested;
 use crate::growable::{
     AnyGrowable, AnyGrowablePrimitive, BoundNulls, FlatGrowable, GrowableNested, GrowableValues,
 };
@@ -69,15 +69,10 @@ pub fn make_growable<'a>(
         PhysicalType::FixedSizeBinary => {
             Ok(AnyGrowable::FixedSizeBinary(bound(alloc, arrays, use_validity, capacity)?))
         }
-        PhysicalType::List | PhysicalType::LargeList => {
-            let lists = BoundNested::Lists(bind(alloc, arrays)?);
-            Ok(AnyGrowable::Nested(GrowableNested::new(alloc, lists, use_validity, capacity)?))
+        _ => {
+            let nested = BoundNested::of_any(alloc, arrays)?;
+            Ok(AnyGrowable::Nested(GrowableNested::new(alloc, nested, use_validity, capacity)?))
         }
-        PhysicalType::Map => {
-            let maps = BoundNested::Maps(bind(alloc, arrays)?);
-            Ok(AnyGrowable::Nested(GrowableNested::new(alloc, maps, use_validity, capacity)?))
-        }
-        _ => unreachable!(),
     }
 }
 

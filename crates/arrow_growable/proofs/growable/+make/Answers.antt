@@ -9,7 +9,8 @@ use Rattle.arrow_flat_growable.proofs.FlatLemmas.{first_is}
 use Rattle.arrow_growable.specs.AnyGrowable.{grown_of}
 use Rattle.arrow_growable.specs.Bound.{bound_children, bound_layouts, bound_parts}
 use Rattle.arrow_growable.specs.Growable.{IsGrowable}
-use Rattle.arrow_growable.proofs.GrowableLemmas.{MayGrow, children_of_one_type, first_child, grows_no_other, items_grow, may_grow}
+use Rattle.arrow_growable.specs.Lists.{IsListType}
+use Rattle.arrow_growable.proofs.GrowableLemmas.{MayGrow, children_of_one_type, first_child, items_grow, may_grow, others_are_lists}
 use Rattle.arrow_growable.proofs.growable.+make.Goals as goal
 
 pub nested::GrowableNested::new-make_growable-requires :
@@ -30,9 +31,11 @@ nested::GrowableNested::new-over-requires-clause-child t c =
     let boxed : c.in_ok-values.values.value ≡ c.in_ok-growable.growable = search rules in
     ap grown_of boxed ∙ (c.in_ok-growable.ensures.ok ∙ (λ i. empty_over (child i) (Some (children i))))
 
-pub make::make_growable-unreachable-requires : goal.make::make_growable-unreachable-requires
-make::make_growable-unreachable-requires t c =
+pub make::make_growable-of_any-requires-clause-lists :
+    goal.make::make_growable-of_any-requires-clause-lists
+make::make_growable-of_any-requires-clause-lists t c =
     let first = first_is (λ (a : Bor _). layout_of a.now) c.args.arrays.now c.index-arrays-0.result c.requires.some c.index-arrays-0.is in
     let kind = c.to_physical_type.ensures ∙ ap physical_type_of (c.data_type.ensures.same ∙ sym first) in
+    let may = subst MayGrow (sym kind) (may_grow (first_type (map (λ (a : Bor _). layout_of a.now) c.args.arrays.now)) c.requires.growable) in
     let d = c.in_default in
-    grows_no_other c.to_physical_type.result (subst MayGrow (sym kind) (may_grow (first_type (map (λ (a : Bor _). layout_of a.now) c.args.arrays.now)) c.requires.growable)) d.not-Null d.not-Boolean d.not-Primitive d.not-Binary d.not-FixedSizeBinary d.not-LargeBinary d.not-Utf8 d.not-LargeUtf8 d.not-List d.not-LargeList d.not-Map
+    subst IsListType kind (others_are_lists c.to_physical_type.result may d.not-Null d.not-Boolean d.not-Primitive d.not-Binary d.not-FixedSizeBinary d.not-LargeBinary d.not-Utf8 d.not-LargeUtf8)
