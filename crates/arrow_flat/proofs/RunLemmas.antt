@@ -13,7 +13,7 @@ use Rattle.arrow_types.specs.Slot.{Slot, Null}
 use Rattle.arrow_memory.specs.Sliced.{sliced}
 use Rattle.arrow_memory.proofs.OffsetLemmas.{map_sliced}
 use Rattle.arrow_memory.proofs.SlicedLemmas.{length-sliced, sliced-sliced, same_joined}
-use Rattle.arrow_flat.specs.Parts.{FitsRows, IsValue, bits_by}
+use Rattle.arrow_flat.specs.Parts.{FitsRows, IsValue, bits_of_slice}
 use Rattle.arrow_flat.proofs.PartsLemmas.{marks-masked, masked-sliced}
 
 -- bits that are all set
@@ -53,42 +53,42 @@ mask_of_nulls [] (suc n) long = absurd (omega (arith, long))
 mask_of_nulls (x ∷ xs) (suc n) long = ap (λ ys. Null ∷ ys) (mask_of_nulls xs n (omega (arith, long)))
 
 -- a part of the bits of a range
-part_of_bits : (v : Option (List Bool)) (a len i n : ℕ) → i + n ≤ len → sliced (bits_by v a len) i n ≡ bits_by v (a + i) n
+part_of_bits : (v : Option (List Bool)) (a len i n : ℕ) → i + n ≤ len → sliced (bits_of_slice v a len) i n ≡ bits_of_slice v (a + i) n
 part_of_bits None a len i n within =
     ap (take n) (drop-replicate i len true) ∙ take-replicate n (len - i) true (omega (arith, within))
 part_of_bits (Some bits) a len i n within = sliced-sliced bits a len i n within
 
 -- and of its rows
-part_of_range : (v : Option (List Bool)) (xs : List Slot) (a b len i n : ℕ) → i + n ≤ len → sliced (mask (bits_by v a len) (sliced xs b len)) i n ≡ mask (bits_by v (a + i) n) (sliced xs (b + i) n)
+part_of_range : (v : Option (List Bool)) (xs : List Slot) (a b len i n : ℕ) → i + n ≤ len → sliced (mask (bits_of_slice v a len) (sliced xs b len)) i n ≡ mask (bits_of_slice v (a + i) n) (sliced xs (b + i) n)
 part_of_range v xs a b len i n within =
-    sym (masked-sliced (Some (bits_by v a len)) (sliced xs b len) i n) ∙ (λ t. mask (part_of_bits v a len i n within t) (sliced-sliced xs b len i n within t))
+    sym (masked-sliced (Some (bits_of_slice v a len)) (sliced xs b len) i n) ∙ (λ t. mask (part_of_bits v a len i n within t) (sliced-sliced xs b len i n within t))
 
 -- what is stored in two ranges, under the bits of the first
 module _ (v : Option (List Bool)) (xs ys : List Slot) (a b len : ℕ) (here : a + len ≤ length xs) (there : b + len ≤ length ys) where
   abbrev left : List Slot
-  left = mask (bits_by v a len) (sliced xs a len)
+  left = mask (bits_of_slice v a len) (sliced xs a len)
 
   abbrev right : List Slot
-  right = mask (bits_by v a len) (sliced ys b len)
+  right = mask (bits_of_slice v a len) (sliced ys b len)
 
-  more : (i n : ℕ) → i + n ≤ len → take i left ≡ take i right → mask (bits_by v (a + i) n) (sliced xs (a + i) n) ≡ mask (bits_by v (a + i) n) (sliced ys (b + i) n) → take (i + n) left ≡ take (i + n) right
+  more : (i n : ℕ) → i + n ≤ len → take i left ≡ take i right → mask (bits_of_slice v (a + i) n) (sliced xs (a + i) n) ≡ mask (bits_of_slice v (a + i) n) (sliced ys (b + i) n) → take (i + n) left ≡ take (i + n) right
   more i n within before same =
       let next : sliced left i n ≡ sliced right i n = part_of_range v xs a a len i n within ∙ (same ∙ sym (part_of_range v ys a b len i n within)) in
       same_joined left right 0 0 i n before (ap (λ k. sliced left k n) (zero-add i) ∙ (next ∙ ap (λ k. sliced right k n) (sym (zero-add i))))
 
   -- a run of rows that are stored alike
   pub more_values : (i n : ℕ) → i + n ≤ len → take i left ≡ take i right → sliced xs (a + i) n ≡ sliced ys (b + i) n → take (i + n) left ≡ take (i + n) right
-  more_values i n within before same = more i n within before (ap (mask (bits_by v (a + i) n)) same)
+  more_values i n within before same = more i n within before (ap (mask (bits_of_slice v (a + i) n)) same)
 
   -- and one of nulls
-  pub more_nulls : (i n : ℕ) → i + n ≤ len → take i left ≡ take i right → bits_by v (a + i) n ≡ replicate n false → take (i + n) left ≡ take (i + n) right
+  pub more_nulls : (i n : ℕ) → i + n ≤ len → take i left ≡ take i right → bits_of_slice v (a + i) n ≡ replicate n false → take (i + n) left ≡ take (i + n) right
   more_nulls i n within before run =
       let long = length-sliced xs (a + i) n (omega (arith, here, within)) in
       let other_long = length-sliced ys (b + i) n (omega (arith, there, within)) in
       more i n within before (rw run (mask_of_nulls (sliced xs (a + i) n) n (omega (arith, long)) ∙ sym (mask_of_nulls (sliced ys (b + i) n) n (omega (arith, other_long)))))
 
   -- where all is the same, so is each run of valid rows
-  pub run_same : (i n : ℕ) → i + n ≤ len → bits_by v (a + i) n ≡ replicate n true → left ≡ right → sliced xs (a + i) n ≡ sliced ys (b + i) n
+  pub run_same : (i n : ℕ) → i + n ≤ len → bits_of_slice v (a + i) n ≡ replicate n true → left ≡ right → sliced xs (a + i) n ≡ sliced ys (b + i) n
   run_same i n within run same =
       let long = length-sliced xs (a + i) n (omega (arith, here, within)) in
       let other_long = length-sliced ys (b + i) n (omega (arith, there, within)) in
@@ -101,12 +101,12 @@ module _ (v : Option (List Bool)) (xs ys : List Slot) (a b len : ℕ) (here : a 
   runs_all same =
       let start : a + 0 ≡ a = omega arith in
       let other_start : b + 0 ≡ b = omega arith in
-      let first : take len left ≡ left = part_of_range v xs a a len 0 len (omega arith) ∙ (λ t. mask (bits_by v (start t) len) (sliced xs (start t) len)) in
-      let other : take len right ≡ right = part_of_range v ys a b len 0 len (omega arith) ∙ (λ t. mask (bits_by v (start t) len) (sliced ys (other_start t) len)) in
+      let first : take len left ≡ left = part_of_range v xs a a len 0 len (omega arith) ∙ (λ t. mask (bits_of_slice v (start t) len) (sliced xs (start t) len)) in
+      let other : take len right ≡ right = part_of_range v ys a b len 0 len (omega arith) ∙ (λ t. mask (bits_of_slice v (start t) len) (sliced ys (other_start t) len)) in
       sym first ∙ (same ∙ other)
 
 -- the rows of a range
-range_is : (v : Option (List Bool)) (xs : List Slot) (a len : ℕ) → a + len ≤ length xs → sliced (masked v xs) a len ≡ mask (bits_by v a len) (sliced xs a len)
+range_is : (v : Option (List Bool)) (xs : List Slot) (a len : ℕ) → a + len ≤ length xs → sliced (masked v xs) a len ≡ mask (bits_of_slice v a len) (sliced xs a len)
 range_is None xs a len within =
     let long = length-sliced xs a len within in
     sym (mask_of_values (sliced xs a len) len (omega (arith, long)))
@@ -122,7 +122,7 @@ all_valid (x ∷ xs) (suc n) long values =
     λ i. not (sym first i) ∷ rest i
 
 -- which of them are valid is theirs to say
-bits_are : (v : Option (List Bool)) (xs : List Slot) (a len : ℕ) → All IsValue xs → FitsRows v (length xs) → a + len ≤ length xs → bits_by v a len ≡ map (λ s. not (is_null s)) (sliced (masked v xs) a len)
+bits_are : (v : Option (List Bool)) (xs : List Slot) (a len : ℕ) → All IsValue xs → FitsRows v (length xs) → a + len ≤ length xs → bits_of_slice v a len ≡ map (λ s. not (is_null s)) (sliced (masked v xs) a len)
 bits_are None xs a len values fits within =
     all_valid (sliced xs a len) len (length-sliced xs a len within) (All-take IsValue len _ (All-drop IsValue a _ values))
 bits_are (Some bits) xs a len values fits within =
@@ -130,12 +130,12 @@ bits_are (Some bits) xs a len values fits within =
 
 -- two ranges of rows are the same where the same rows are null, and what is stored in the others is the same
 module _ (v w : Option (List Bool)) (xs ys : List Slot) (a b len : ℕ) (values : All IsValue xs) (other_values : All IsValue ys) (fits : FitsRows v (length xs)) (other_fits : FitsRows w (length ys)) (here : a + len ≤ length xs) (there : b + len ≤ length ys) where
-  pub bits_same : sliced (masked v xs) a len ≡ sliced (masked w ys) b len → bits_by v a len ≡ bits_by w b len
+  pub bits_same : sliced (masked v xs) a len ≡ sliced (masked w ys) b len → bits_of_slice v a len ≡ bits_of_slice w b len
   bits_same same =
       bits_are v xs a len values fits here ∙ (ap (map (λ s. not (is_null s))) same ∙ sym (bits_are w ys b len other_values other_fits there))
 
-  pub ranges_decide : (r : Bool) → bits_by v a len ≡ bits_by w b len → Decides r (mask (bits_by v a len) (sliced xs a len) ≡ mask (bits_by v a len) (sliced ys b len)) → Decides r (sliced (masked v xs) a len ≡ sliced (masked w ys) b len)
+  pub ranges_decide : (r : Bool) → bits_of_slice v a len ≡ bits_of_slice w b len → Decides r (mask (bits_of_slice v a len) (sliced xs a len) ≡ mask (bits_of_slice v a len) (sliced ys b len)) → Decides r (sliced (masked v xs) a len ≡ sliced (masked w ys) b len)
   ranges_decide r bits told =
       let left = range_is v xs a len here in
-      let right : sliced (masked w ys) b len ≡ mask (bits_by v a len) (sliced ys b len) = range_is w ys b len there ∙ ap (λ zs. mask zs (sliced ys b len)) (sym bits) in
+      let right : sliced (masked w ys) b len ≡ mask (bits_of_slice v a len) (sliced ys b len) = range_is w ys b len there ∙ ap (λ zs. mask zs (sliced ys b len)) (sym bits) in
       (λ e. left ∙ (told.0 e ∙ sym right), λ same. told.1 (sym left ∙ (same ∙ right)))

@@ -33,9 +33,9 @@ unset_in None = 0
 unset_in (Some validity) = count_by not validity
 
 -- which of `len` rows from one on are valid
-abbrev pub bits_by : Option (List Bool) → ℕ → ℕ → List Bool
-bits_by None start len = replicate len true
-bits_by (Some validity) start len = sliced validity start len
+abbrev pub bits_of_slice : Option (List Bool) → ℕ → ℕ → List Bool
+bits_of_slice None start len = replicate len true
+bits_of_slice (Some validity) start len = sliced validity start len
 
 -- the rows: what is stored where it is valid, and Null elsewhere
 abbrev pub rows_by : {V : Type 0} → (V → List Slot) → Parts V → List Slot

@@ -12,7 +12,7 @@ ghost use Rattle.arrow_types.specs.Rows.{mask, valid_at};
 ghost use Rattle.arrow_types.specs.TypeOf.{type_of};
 ghost use Rattle.arrow_memory.specs.Sliced.{sliced};
 ghost use Rattle.arrow_flat.specs.Faults.{IsCarriedAs};
-ghost use Rattle.arrow_flat.specs.Parts.{Parts, FitsRows, IsValue, bits_by, MarksNulls, rows_by, meaning_by, meaning_code, slice_by, with_bits};
+ghost use Rattle.arrow_flat.specs.Parts.{Parts, FitsRows, IsValue, bits_of_slice, MarksNulls, rows_by, meaning_by, meaning_code, slice_by, with_bits};
 
 mod any_element;
 mod any_primitive;
@@ -259,7 +259,7 @@ fn equal_runs<V: Values>(
     requires here { start + len ≤ length (V.slots values.now) }
     requires there { other_start + len ≤ length (V.slots others.now) }
     requires fits { FitsRows validity.now (length (V.slots values.now)) }
-    ensures { IsTrue result ↔ (mask (bits_by validity.now start len) (sliced (V.slots values.now) start len) ≡ mask (bits_by validity.now start len) (sliced (V.slots others.now) other_start len)) }
+    ensures { IsTrue result ↔ (mask (bits_of_slice validity.now start len) (sliced (V.slots values.now) start len) ≡ mask (bits_of_slice validity.now start len) (sliced (V.slots others.now) other_start len)) }
 {
     // Places are those of a `usize`, as the counts of rows are.
     let _ = (values.len(), others.len());

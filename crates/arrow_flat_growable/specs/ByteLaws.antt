@@ -16,10 +16,9 @@ use Rattle.arrow_memory.specs.Sliced.{sliced}
 use Rattle.arrow_memory.proofs.OffsetLemmas.{map_sliced}
 use Rattle.arrow_memory.proofs.SlicedLemmas.{length-sliced}
 use Rattle.arrow_flat.specs.ByteRows.{ByteParts, byte_slots, row_bytes}
-use Rattle.arrow_flat.specs.Parts.{FitsRows}
+use Rattle.arrow_flat.specs.Parts.{FitsRows, bits_of_slice}
 use Rattle.arrow_flat_growable.specs.Bytes.{IsBytesType, SparesBytes, stored_rows}
 use Rattle.arrow_flat_growable.specs.GrownRows.{filled, total}
-use Rattle.arrow_flat_growable.specs.Validity.{bits_of_slice}
 use Rattle.arrow_flat_growable.specs.MaskLaws.{mask-append, mask-filled, mask-part, mask-unset, length-bits_of_slice, length-filled}
 
 -- what is stored beneath a null has no bytes

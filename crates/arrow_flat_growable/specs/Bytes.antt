@@ -8,7 +8,7 @@ use Rattle.arrow_types.specs.Slot.{Slot}
 use Rattle.arrow_memory.specs.Sliced.{sliced}
 use Rattle.arrow_flat.specs.ByteRows.{ByteParts, row_bytes}
 use Rattle.arrow_flat_growable.specs.GrownRows.{AreGrown, filled}
-use Rattle.arrow_flat_growable.specs.Validity.{bits_of_slice}
+use Rattle.arrow_flat.specs.Parts.{bits_of_slice}
 
 -- what is stored of a part of an array: a null row has no bytes
 abbrev pub stored_rows : Option (List Bool) → ByteParts → ℕ → ℕ → List (List ℕ)

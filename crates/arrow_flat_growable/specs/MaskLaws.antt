@@ -5,10 +5,9 @@ use Rattle.arrow_types.specs.Rows.{mask, masked}
 use Rattle.arrow_types.specs.Slot.{Slot, Null}
 use Rattle.arrow_memory.specs.Sliced.{sliced}
 use Rattle.arrow_memory.proofs.SlicedLemmas.{length-sliced}
-use Rattle.arrow_flat.specs.Parts.{FitsRows}
+use Rattle.arrow_flat.specs.Parts.{FitsRows, bits_of_slice}
 use Rattle.arrow_flat.proofs.PartsLemmas.{masked-sliced}
 use Rattle.arrow_flat_growable.specs.GrownRows.{filled}
-use Rattle.arrow_flat_growable.specs.Validity.{bits_of_slice}
 
 -- bits that are all set leave the rows as they are
 pub mask-set : (n : ℕ) (xs : List Slot) → length xs ≡ n → mask (replicate n true) xs ≡ xs

@@ -1,16 +1,10 @@
 -- The validity that a growable keeps: a bit for each row, stored only once some bit is not set ("Validity bitmaps").
 use Rattle.std.specs.Prelude.{ℕ, ◌≡◌, ◌+◌, Bool, true, List, Option, Some, None, length, replicate, IfSome, ◌++◌}
-use Rattle.arrow_memory.specs.Sliced.{sliced}
 
 -- the bits of so many rows: all set where none is stored
 abbrev pub bits_by : Option (List Bool) → ℕ → List Bool
 bits_by None n = replicate n true
 bits_by (Some bits) n = bits
-
--- the bits of n rows from row start on
-abbrev pub bits_of_slice : Option (List Bool) → ℕ → ℕ → List Bool
-bits_of_slice None start n = replicate n true
-bits_of_slice (Some bits) start n = sliced bits start n
 
 -- the bits of so many rows stay, and are as many, where some are stored
 abbrev pub AreSameBits : Option (List Bool) → Option (List Bool) → ℕ → Type 0

@@ -14,7 +14,7 @@ use Rattle.arrow_arrays.specs.Layout.{Layout}
 use Rattle.arrow_flat_growable.specs.Grown.{Grown, AreThere, CannotHold, FitsItself, FitsWith, HasFailed, IsRefusal, NamesRows, RefusedBy, appended, named_rows, rows_among}
 use Rattle.arrow_flat_growable.specs.GrownRows.{valid_values}
 use Rattle.arrow_flat_growable.proofs.ValidRowLemmas.{run_taken, set_run}
-use Rattle.arrow_growable.specs.Child.{BindsRows, CannotGrow, CrowdsIn, GrownBy, IsWell, LiesIn, SameBound, bound_rows, rows_in}
+use Rattle.arrow_growable.specs.Child.{BindsRows, CannotGrow, CrowdsIn, GrownBy, IsWell, LiesIn, SameBound, bound_rows, source_rows}
 
 -- rows behind rows
 
@@ -42,7 +42,7 @@ binds_same old new i n same binds =
     record { layouts = binds.layouts; sources = same.same_sources ∙ binds.sources; bound = binds.bound; within = binds.within }
 
 rows_same : (old new : Grown) (i : ℕ) → SameBound old new → bound_rows new i ≡ bound_rows old i
-rows_same old new i same = ap (λ s. rows_in s i) same.same_sources
+rows_same old new i same = ap (λ s. source_rows s i) same.same_sources
 
 -- what a call that appends leaves as it was
 pub kept_on_either : {T E : Type 0} (r : Result T E) (old new : Grown) (more : List Slot) → OnOk r (new ≡ appended old more) → OnErr r (HasFailed old new) → SameBound old new
@@ -64,7 +64,7 @@ not_failed (Err _) failed refusal told well = absurd refusal
 -- rows of the i-th array that is bound
 module _ (g : Grown) (i n : ℕ) (binds : BindsRows g i n) where
   pub rows_there : n ≤ length (bound_rows g i)
-  rows_there = subst (λ s. n ≤ length (rows_in s i)) (sym binds.sources) binds.within
+  rows_there = subst (λ s. n ≤ length (source_rows s i)) (sym binds.sources) binds.within
 
   pub names_there : (first end : ℕ) → first ≤ end → end ≤ n → NamesRows g i first (end - first)
   names_there first end rise high =
@@ -72,7 +72,7 @@ module _ (g : Grown) (i n : ℕ) (binds : BindsRows g i n) where
 
   named : (first len : ℕ) → named_rows g i first len ≡ sliced (bound_rows g i) first len
   named first len =
-      ap (λ s. rows_among s i first len) binds.sources ∙ ap (λ s. sliced (rows_in s i) first len) (sym binds.sources)
+      ap (λ s. rows_among s i first len) binds.sources ∙ ap (λ s. sliced (source_rows s i) first len) (sym binds.sources)
 
   -- those from one place to another
   module _ (first end begin finish : ℕ) (begins : first ≡ begin) (ends : end ≡ finish) (rise : first ≤ end) where

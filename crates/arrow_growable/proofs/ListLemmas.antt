@@ -21,7 +21,7 @@ use Rattle.arrow_memory.proofs.OffsetLemmas.{at_most_last, map_sliced}
 use Rattle.arrow_memory.proofs.SlicedLemmas.{length-sliced}
 use Rattle.arrow_memory.proofs.ValidLemmas.{valid_sound}
 use Rattle.arrow_flat.specs.Faults.{IsCarriedAs}
-use Rattle.arrow_flat.specs.Parts.{FitsRows}
+use Rattle.arrow_flat.specs.Parts.{FitsRows, bits_of_slice}
 use Rattle.arrow_flat.specs.Pieces.{pieces, pieces_from}
 use Rattle.arrow_flat.proofs.PieceLemmas.{length-pieces}
 use Rattle.arrow_arrays.specs.Crowded.{CrowdedRow, child_of}
@@ -31,7 +31,6 @@ use Rattle.arrow_arrays.specs.TypeParts.{item_type}
 use Rattle.arrow_flat_growable.specs.Grown.{Grown, AreCrowded, AreThere, CannotHold, empty_over, first_type, source_at}
 use Rattle.arrow_flat_growable.specs.GrownRows.{AreGrown, filled, total, valid_values}
 use Rattle.arrow_flat_growable.specs.MaskLaws.{mask-append, mask-filled, mask-part, mask-unset, length-bits_of_slice, length-filled}
-use Rattle.arrow_flat_growable.specs.Validity.{bits_of_slice}
 use Rattle.arrow_flat_growable.proofs.FlatLemmas.{source_is}
 use Rattle.arrow_flat_growable.proofs.GrownRowLemmas.{empty_grown, empty_rows, last_behind, sliced-cut, total_pieces}
 use Rattle.arrow_flat_growable.proofs.ValidRowLemmas.{valid_grown, valid_last, valid_moved}
@@ -39,7 +38,7 @@ use Rattle.arrow_growable.specs.Bound.{bound_children, bound_layouts, bound_part
 use Rattle.arrow_growable.specs.Part.{IsPart, no_part}
 use Rattle.arrow_growable.specs.declared.growable.bound.BoundNested.{BoundNested}
 use Rattle.arrow_growable.proofs.GrowableLemmas.{no_plain}
-use Rattle.arrow_growable.specs.Child.{BindsRows, CannotGrow, CrowdsIn, GrownBy, IsWell, LiesIn, bound_rows, rows_in}
+use Rattle.arrow_growable.specs.Child.{BindsRows, CannotGrow, CrowdsIn, GrownBy, IsWell, LiesIn, bound_rows, source_rows}
 use Rattle.arrow_growable.specs.GrowableOffsets.{grown_lists, grown_offsets}
 use Rattle.arrow_growable.specs.declared.growable.offsets.GrowableOffsets.{GrowableOffsets}
 use Rattle.arrow_growable.specs.declared.growable.offsets.GrowableOffsets.TheVariants.{Small, Large, Map}
@@ -392,7 +391,7 @@ module _ (layout : PhysicalType) (os : List ℕ) (inner : Grown) (bits : List Bo
 
   pub child_rows_are : bound_rows inner index ≡ rows p.child
   child_rows_are =
-      ap (λ s. rows_in s index) names.parts.sources ∙ ap rows names.child
+      ap (λ s. source_rows s index) names.parts.sources ∙ ap rows names.child
 
   pub child_is_well : IsWell inner
   child_is_well = holds.child

@@ -6,12 +6,12 @@ use Rattle.arrow_arrays.specs.Layout.{Layout, rows}
 use Rattle.arrow_flat_growable.specs.Grown.{Grown, FitsItself, FitsWith, appended, source_at}
 
 -- the rows of bound array i
-abbrev pub rows_in : Option (List Layout) → ℕ → List Slot
-rows_in None i = []
-rows_in (Some layouts) i = rows (source_at layouts i)
+abbrev pub source_rows : Option (List Layout) → ℕ → List Slot
+source_rows None i = []
+source_rows (Some layouts) i = rows (source_at layouts i)
 
 abbrev pub bound_rows : Grown → ℕ → List Slot
-bound_rows g i = rows_in g.sources i
+bound_rows g i = source_rows g.sources i
 
 -- array i is bound, and has so many rows at least
 pub record BindsRows (g : Grown) (i n : ℕ) : Type 0 where

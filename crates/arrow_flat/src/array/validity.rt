@@ -6,7 +6,7 @@ ghost use Rattle.arrow_types.specs.Relation.{is_null};
 ghost use Rattle.arrow_types.specs.Rows.{valid_at};
 ghost use Rattle.arrow_types.specs.Slot.{Slot, Null};
 ghost use Rattle.arrow_memory.specs.Sliced.{sliced};
-ghost use Rattle.arrow_flat.specs.Parts.{FitsRows, unset_in, bits_by, HasRow, MarksNulls};
+ghost use Rattle.arrow_flat.specs.Parts.{FitsRows, unset_in, bits_of_slice, HasRow, MarksNulls};
 
 use arrow_memory::bitmap::Bitmap;
 
@@ -86,7 +86,7 @@ pub(crate) fn equal_range(
 ) -> bool
     requires here { IfSome validity.now (λ bits. start + len ≤ length bits) }
     requires there { IfSome other.now (λ bits. other_start + len ≤ length bits) }
-    ensures { IsTrue result ↔ (bits_by validity.now start len ≡ bits_by other.now other_start len) }
+    ensures { IsTrue result ↔ (bits_of_slice validity.now start len ≡ bits_of_slice other.now other_start len) }
 {
     match (validity, other) {
         (None, None) => true,
@@ -119,7 +119,7 @@ pub(crate) fn run_at(validity: &Option<Bitmap>, start: usize, len: usize) -> (bo
     requires within { IfSome validity.now (λ bits. start + len ≤ length bits) }
     ensures some { 0 < result.1 }
     ensures within { result.1 ≤ len }
-    ensures run { bits_by validity.now start result.1 ≡ replicate result.1 result.0 }
+    ensures run { bits_of_slice validity.now start result.1 ≡ replicate result.1 result.0 }
 {
     match validity {
         None => (true, len),

@@ -10,12 +10,11 @@ ghost use Rattle.arrow_types.specs.Slot.{Slot, Null, null_slot};
 ghost use Rattle.arrow_types.specs.TypeOf.{type_of};
 ghost use Rattle.arrow_memory.specs.Grown.{IsGrowthError};
 ghost use Rattle.arrow_memory.specs.Sliced.{sliced};
-ghost use Rattle.arrow_flat.specs.Parts.{FitsRows};
+ghost use Rattle.arrow_flat.specs.Parts.{FitsRows, bits_of_slice};
 ghost use Rattle.arrow_arrays.specs.Any.{Kind, kind_of, layout_of};
 ghost use Rattle.arrow_arrays.specs.Layout.{flat};
 ghost use Rattle.arrow_flat_growable.specs.Flat.{Covers, flat_layout};
 ghost use Rattle.arrow_flat_growable.specs.Grown.{Grown, AreOfOneType, IsFailedOrMemory, bound_to};
-ghost use Rattle.arrow_flat_growable.specs.Validity.{bits_of_slice};
 
 use crate::growable::Growable;
 use crate::growable::validity::GrowableValidity;

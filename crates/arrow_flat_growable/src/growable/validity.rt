@@ -6,8 +6,8 @@ ghost use Rattle.arrow_types.specs.Rows.{mask, masked};
 ghost use Rattle.arrow_types.specs.Slot.{Slot};
 ghost use Rattle.arrow_memory.specs.Sliced.{sliced};
 ghost use Rattle.arrow_memory.specs.Grown.{IsGrowthError};
-ghost use Rattle.arrow_flat.specs.Parts.{FitsRows};
-ghost use Rattle.arrow_flat_growable.specs.Validity.{AppendsValidity, AreSameBits, bits_by, bits_of_slice};
+ghost use Rattle.arrow_flat.specs.Parts.{FitsRows, bits_of_slice};
+ghost use Rattle.arrow_flat_growable.specs.Validity.{AppendsValidity, AreSameBits, bits_by};
 
 use arrow_memory::bitmap::{Bitmap, MutableBitmap};
 use arrow_types::error::Error;

@@ -6,7 +6,7 @@ ghost use Rattle.arrow_memory.specs.Grown.{IsGrowthError};
 ghost use Rattle.arrow_memory.specs.Offsets.{last_of};
 ghost use Rattle.arrow_memory.specs.Sliced.{sliced};
 ghost use Rattle.arrow_flat_growable.specs.GrownRows.{valid_values};
-ghost use Rattle.arrow_flat_growable.specs.Validity.{bits_of_slice};
+ghost use Rattle.arrow_flat.specs.Parts.{bits_of_slice};
 ghost use Rattle.arrow_growable.specs.AnyGrowable.{grown_of};
 ghost use Rattle.arrow_growable.specs.Child.{BindsRows, CannotGrow, GrownBy, IsWell, LiesIn, SameBound, bound_rows};
 ghost use Rattle.arrow_growable.specs.Spans.{span_offsets};

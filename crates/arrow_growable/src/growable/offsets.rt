@@ -4,7 +4,7 @@ ghost use Rattle.std.specs.Prelude.{◌≡◌, ◌+◌, ◌<◌, ◌≤◌, [], 
 ghost use Rattle.arrow_types.specs.declared.error.Error.{Error};
 ghost use Rattle.arrow_memory.specs.Grown.{IsGrowthError};
 ghost use Rattle.arrow_memory.specs.Offsets.{IsOffsets, last_of, valid_items, with_valid_rows};
-ghost use Rattle.arrow_flat_growable.specs.Validity.{bits_of_slice};
+ghost use Rattle.arrow_flat.specs.Parts.{bits_of_slice};
 ghost use Rattle.arrow_growable.specs.GrowableOffsets.{grown_offsets, grown_lists};
 ghost use Rattle.arrow_growable.specs.Lists.{greatest_in};
 ghost use Rattle.arrow_growable.specs.Spans.{span_offsets, span_lists};

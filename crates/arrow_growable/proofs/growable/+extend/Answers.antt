@@ -10,7 +10,7 @@ use Rattle.arrow_arrays.specs.Layout.{Layout, rows}
 use Rattle.arrow_arrays.specs.TypeDepth.{type_depth}
 use Rattle.arrow_flat_growable.specs.Grown.{Grown, CannotHold, NamesRows, source_at}
 use Rattle.arrow_flat_growable.specs.GrownRows.{valid_values}
-use Rattle.arrow_flat_growable.specs.Validity.{bits_of_slice}
+use Rattle.arrow_flat.specs.Parts.{bits_of_slice}
 use Rattle.arrow_flat_growable.proofs.FlatLemmas.{too_many}
 use Rattle.arrow_flat_growable.proofs.ResultLemmas.{on_ok, passed_on}
 use Rattle.arrow_flat_growable.proofs.ValidRowLemmas.{run_long}

@@ -1,7 +1,7 @@
 use Rattle.std.proofs.Common.{arith, ◌≡◌, ◌+◌, ◌≤◌, ◌++◌, length, ap, ◌∙◌}
 use Rattle.std.proofs.lemmas.List.{length-append}
 use Rattle.arrow_flat.proofs.PartsLemmas.{length-masked}
-use Rattle.arrow_flat_growable.specs.Validity.{bits_of_slice}
+use Rattle.arrow_flat.specs.Parts.{bits_of_slice}
 use Rattle.arrow_flat_growable.proofs.FlatLemmas.{appended_rows, appended_lengths}
 use Rattle.arrow_flat_growable.specs.MaskLaws.{length-bits_of_slice}
 use Rattle.arrow_flat_growable.proofs.MaskLemmas.{lent_within}
