@@ -88,8 +88,17 @@ pub const SHAPES: [(Shape, PhysicalType); 17] = [
     (Shape::Pairs(Some(UnionMode::Dense)), PhysicalType::Union),
 ];
 
+/// An array in a box of its own. What owns a box is proved faster than what owns an array.
+pub fn boxed(alloc: Global, array: AnyArray) -> Result<Box<AnyArray>, Error> {
+    Ok(Box::new(alloc, array)?)
+}
+
 /// An array without children of these rows.
-pub fn flat(alloc: Global, shape: Shape, letters: &[u8]) -> Result<AnyArray, Error> {
+pub fn flat(alloc: Global, shape: Shape, letters: &[u8]) -> Result<Box<AnyArray>, Error> {
+    boxed(alloc, flat_array(alloc, shape, letters)?)
+}
+
+fn flat_array(alloc: Global, shape: Shape, letters: &[u8]) -> Result<AnyArray, Error> {
     match shape {
         Shape::Boolean => Ok(AnyArray::Boolean(truths(alloc, letters)?)),
         Shape::Number => {
@@ -121,11 +130,12 @@ fn keys_of(alloc: Global, letters: &[u8]) -> Result<AnyKeys, Error> {
 }
 
 /// A dictionary of the texts a to h.
-fn dictionary(alloc: Global, letters: &[u8]) -> Result<AnyArray, Error> {
+fn dictionary(alloc: Global, letters: &[u8]) -> Result<Box<AnyArray>, Error> {
+    let values = flat(alloc, Shape::Utf8, b"abcdefgh")?;
     let keys = keys_of(alloc, letters)?;
     let data_type = read(alloc, "utf8 dictionary:i8")?;
-    let values = Box::new(alloc, flat(alloc, Shape::Utf8, b"abcdefgh")?)?;
-    Ok(AnyArray::Dictionary(DictionaryArray::try_new(data_type, keys, values)?))
+    let array = DictionaryArray::try_new(data_type, keys, values)?;
+    boxed(alloc, AnyArray::Dictionary(array))
 }
 
 /// The type of lists of such items.
@@ -176,24 +186,23 @@ pub fn make_lists(
     kind: ListKind,
     data_type: &DataType,
     ends: &[usize],
-    values: AnyArray,
+    values: Box<AnyArray>,
     validity: Option<Bitmap>,
-) -> Result<AnyArray, Error> {
-    let values = Box::new(alloc, values)?;
+) -> Result<Box<AnyArray>, Error> {
     match kind {
         ListKind::FixedSize => {
             let array = FixedSizeListArray::try_new(data_type.clone()?, values, validity)?;
-            Ok(AnyArray::FixedSizeList(array))
+            boxed(alloc, AnyArray::FixedSizeList(array))
         }
         ListKind::Map => {
             let offsets = offsets_of(alloc, ends)?;
             let array = MapArray::try_new(data_type.clone()?, offsets, values, validity)?;
-            Ok(AnyArray::Map(array))
+            boxed(alloc, AnyArray::Map(array))
         }
         _ => {
             let offsets = list_offsets(alloc, kind, ends)?;
             let array = ListArray::try_new(data_type.clone()?, offsets, values, validity)?;
-            Ok(AnyArray::List(array))
+            boxed(alloc, AnyArray::List(array))
         }
     }
 }
@@ -203,9 +212,9 @@ pub fn lists_of(
     alloc: Global,
     kind: ListKind,
     ends: &[usize],
-    values: AnyArray,
+    values: Box<AnyArray>,
     validity: Option<Bitmap>,
-) -> Result<AnyArray, Error> {
+) -> Result<Box<AnyArray>, Error> {
     let data_type = list_type(alloc, kind, values.data_type().clone()?)?;
     make_lists(alloc, kind, &data_type, ends, values, validity)
 }
@@ -227,7 +236,7 @@ fn items_of(alloc: Global, kind: ListKind, letters: &[u8]) -> Result<(Vec<usize>
     Ok((ends, items))
 }
 
-fn lists(alloc: Global, kind: ListKind, letters: &[u8]) -> Result<AnyArray, Error> {
+fn lists(alloc: Global, kind: ListKind, letters: &[u8]) -> Result<Box<AnyArray>, Error> {
     let validity = validity_of(alloc, letters)?;
     let (ends, items) = items_of(alloc, kind, letters)?;
     let values = match kind {
@@ -249,17 +258,21 @@ fn type_of_pair(
 }
 
 /// Two children.
-pub fn both(alloc: Global, left: AnyArray, right: AnyArray) -> Result<Vec<AnyArray>, Error> {
-    Ok(vec![in alloc; left, right]?)
+pub fn both(
+    alloc: Global,
+    left: Box<AnyArray>,
+    right: Box<AnyArray>,
+) -> Result<Vec<AnyArray>, Error> {
+    Ok(vec![in alloc; Box::into_inner(left), Box::into_inner(right)]?)
 }
 
 /// Structs of these children.
 pub fn make_structs(
     alloc: Global,
     letters: &[u8],
-    left: AnyArray,
-    right: AnyArray,
-) -> Result<AnyArray, Error> {
+    left: Box<AnyArray>,
+    right: Box<AnyArray>,
+) -> Result<Box<AnyArray>, Error> {
     let data_type = type_of_pair(alloc, None, &left, &right)?;
     let fields = both(alloc, left, right)?;
     struct_of(alloc, data_type, letters, fields)
@@ -271,13 +284,16 @@ pub fn struct_of(
     data_type: DataType,
     letters: &[u8],
     fields: Vec<AnyArray>,
-) -> Result<AnyArray, Error> {
+) -> Result<Box<AnyArray>, Error> {
     let validity = validity_of(alloc, letters)?;
-    Ok(AnyArray::Struct(StructArray::try_new(data_type, fields, validity)?))
+    boxed(
+        alloc,
+        AnyArray::Struct(StructArray::try_new(data_type, fields, validity)?),
+    )
 }
 
 /// Beneath a null row the children are not null.
-fn structs(alloc: Global, letters: &[u8]) -> Result<AnyArray, Error> {
+fn structs(alloc: Global, letters: &[u8]) -> Result<Box<AnyArray>, Error> {
     let stored = letters.to_ascii_lowercase(alloc)?;
     let left = flat(alloc, Shape::Utf8, &stored)?;
     make_structs(alloc, letters, left, flat(alloc, Shape::Number, &stored)?)
@@ -306,9 +322,12 @@ pub fn make_union(
     ids: &[i8],
     fields: Vec<AnyArray>,
     offsets: Option<&[i32]>,
-) -> Result<AnyArray, Error> {
+) -> Result<Box<AnyArray>, Error> {
     let (ids, offsets) = buffers_of(alloc, ids, offsets)?;
-    Ok(AnyArray::Union(UnionArray::try_new(data_type, ids, fields, offsets)?))
+    boxed(
+        alloc,
+        AnyArray::Union(UnionArray::try_new(data_type, ids, fields, offsets)?),
+    )
 }
 
 /// The type ids of the rows of a union, and their offsets in a dense one.
@@ -327,7 +346,7 @@ fn ids_and_offsets(alloc: Global, letters: &[u8]) -> Result<(Vec<i8>, Vec<i32>),
 }
 
 /// A capital is null in the children. Those of a dense union are the letters a to h and A to H.
-fn unions(alloc: Global, mode: UnionMode, letters: &[u8]) -> Result<AnyArray, Error> {
+fn unions(alloc: Global, mode: UnionMode, letters: &[u8]) -> Result<Box<AnyArray>, Error> {
     let (ids, offsets) = ids_and_offsets(alloc, letters)?;
     match mode {
         UnionMode::Sparse => union_over(alloc, mode, letters, &ids, None),
@@ -342,7 +361,7 @@ fn union_over(
     stored: &[u8],
     ids: &[i8],
     offsets: Option<&[i32]>,
-) -> Result<AnyArray, Error> {
+) -> Result<Box<AnyArray>, Error> {
     let left = flat(alloc, Shape::Utf8, stored)?;
     let right = flat(alloc, Shape::Number, stored)?;
     let data_type = type_of_pair(alloc, Some(mode), &left, &right)?;
@@ -350,7 +369,7 @@ fn union_over(
 }
 
 /// An array of these rows.
-pub fn array_of(alloc: Global, shape: Shape, letters: &[u8]) -> Result<AnyArray, Error> {
+pub fn array_of(alloc: Global, shape: Shape, letters: &[u8]) -> Result<Box<AnyArray>, Error> {
     match shape {
         Shape::Dictionary => dictionary(alloc, letters),
         Shape::Lists(kind) => lists(alloc, kind, letters),

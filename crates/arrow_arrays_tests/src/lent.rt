@@ -10,8 +10,10 @@ pub fn check_same(rt: &impl Abort, array: &AnyArray, want: &AnyArray) {
 }
 
 /// The rows from one on.
-pub fn from_row(rt: &impl Abort, array: AnyArray, start: usize) -> AnyArray {
+pub fn from_row(rt: &impl Abort, array: Box<AnyArray>, start: usize) -> Box<AnyArray> {
+    let mut array = array;
     let len = array.len();
     assert!(rt; start <= len);
-    array.sliced(start, len - start)
+    array.slice(start, len - start);
+    array
 }

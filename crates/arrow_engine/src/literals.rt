@@ -20,9 +20,15 @@ use std::fmt;
 use std::marker::Model;
 
 /// An array of a type that a line can write: Int32, Boolean or Utf8.
-#[derive(Drop)]
 pub(crate) struct WrittenArray {
     array: AnyArray,
+}
+
+// by hand, so that a drop is a call, and is not written out wherever a value is dropped
+impl Drop for WrittenArray {
+    fn drop(self) {
+        let WrittenArray { array: _ } = self;
+    }
 }
 
 impl Model for WrittenArray {

@@ -5,7 +5,7 @@ mod filter;
 mod window;
 
 use arrow_arrays::array::AnyArray;
-use arrow_arrays_fixture::arrays::{Shape, array_of};
+use arrow_arrays_fixture::arrays::{Shape, array_of, boxed};
 use arrow_types::error::Error;
 use arrow_types_fixture::{check, check_again};
 use std::alloc::Global;
@@ -20,8 +20,8 @@ fn check_answer(
 ) -> Result<(), Error> {
     match answer {
         Ok(array) => {
-            let want = array_of(rt.alloc(), shape, want?)?;
-            check!(rt; array == want, shape);
+            let array = boxed(rt.alloc(), array)?;
+            check!(rt; *array == *array_of(rt.alloc(), shape, want?)?, shape);
             Ok(())
         }
         Err(Error::OutOfMemory) => Err(Error::OutOfMemory),

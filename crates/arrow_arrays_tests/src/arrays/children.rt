@@ -5,7 +5,7 @@ use crate::lent::from_row;
 use arrow_arrays::array::{
     AnyArray, AnyOffsetsBuffer, FixedSizeListArray, ListArray, MapArray, StructArray,
 };
-use arrow_arrays_fixture::arrays::{ListKind, Shape, array_of, lists_of, make_structs};
+use arrow_arrays_fixture::arrays::{ListKind, Shape, array_of, boxed, lists_of, make_structs};
 use arrow_memory::bitmap::Bitmap;
 use arrow_types::datatypes::UnionMode;
 use arrow_types::error::Error;
@@ -82,9 +82,9 @@ fn check_items(
 }
 
 /// The same children under another validity.
-fn under(rt: &impl Abort, array: AnyArray, validity: Bitmap) -> AnyArray {
+fn under(rt: &impl Abort, array: Box<AnyArray>, validity: Bitmap) -> AnyArray {
     let len = validity.len();
-    match array {
+    match Box::into_inner(array) {
         AnyArray::List(array) => {
             assert!(rt; array.len() == len);
             AnyArray::List(array.with_validity(Some(validity)))
@@ -105,134 +105,128 @@ fn under(rt: &impl Abort, array: AnyArray, validity: Bitmap) -> AnyArray {
     }
 }
 
-/// Lists or structs, and the children of their slices from row 1 on.
-const PARTS: [(Shape, &[u8], Shape, &[u8]); 6] = [
-    (
-        Shape::Lists(ListKind::Small),
-        b"bAcd",
-        Shape::Utf8,
-        b"bccddd",
-    ),
-    (
-        Shape::Lists(ListKind::Large),
-        b"bAcd",
-        Shape::Utf8,
-        b"bccddd",
-    ),
-    (
-        Shape::Lists(ListKind::Named),
-        b"bAcd",
-        Shape::Utf8,
-        b"bccddd",
-    ),
-    (
-        Shape::Lists(ListKind::Map),
-        b"bAcd",
-        Shape::Pairs(None),
-        b"bccddd",
-    ),
-    (
-        Shape::Lists(ListKind::FixedSize),
-        b"bAcd",
-        Shape::Utf8,
-        b"aaccdd",
-    ),
-    (Shape::Pairs(None), b"abCd", Shape::Pairs(None), b"bcd"),
+/// The items of lists of the rows Acd, by what they are lists of.
+const ITEMS: [(ListKind, &[u8]); 5] = [
+    (ListKind::Small, b"bccddd"),
+    (ListKind::Large, b"bccddd"),
+    (ListKind::Named, b"bccddd"),
+    (ListKind::Map, b"bccddd"),
+    (ListKind::FixedSize, b"aaccdd"),
 ];
 
 fn check_under(rt: &(impl Abort + Alloc<A = Global>), shape: Shape) -> Result<(), Error> {
     let validity = Bitmap::from_bools(rt.alloc(), &[false, true, false, true])?;
-    let array = under(rt, array_of(rt.alloc(), shape, b"abCd")?, validity);
+    let array = array_of(rt.alloc(), shape, b"abCd")?;
+    let array = boxed(rt.alloc(), under(rt, array, validity))?;
     check_rows(rt, &array, shape, b"AbCd")
+}
+
+/// The children of the rows from row 1 on, and another validity over the same children.
+fn check_children(
+    rt: &(impl Abort + Alloc<A = Global>),
+    shape: Shape,
+    rows: &[u8],
+    item: Shape,
+    items: &[u8],
+) -> Result<(), Error> {
+    let array = from_row(rt, array_of(rt.alloc(), shape, rows)?, 1);
+    let items = array_of(rt.alloc(), item, items)?;
+    check_items(rt, &array, &[(1, 1), (1, 3), (3, 6)], &items)?;
+    check_under(rt, shape)
 }
 
 /// The children of slices, those of a struct and of lists of a fixed size slices too, and other
 /// validities over the same children.
 pub fn check_parts(rt: &(impl Abort + Alloc<A = Global>)) -> Result<(), Error> {
-    let alloc = rt.alloc();
-    for (shape, rows, item, items) in &PARTS {
-        let array = from_row(rt, array_of(alloc, *shape, rows)?, 1);
-        let items = array_of(alloc, *item, items)?;
-        check_items(rt, &array, &[(1, 1), (1, 3), (3, 6)], &items)?;
-        check_under(rt, *shape)?;
+    let pairs = Shape::Pairs(None);
+    for (kind, items) in &ITEMS {
+        let item = if *kind == ListKind::Map {
+            pairs
+        } else {
+            Shape::Utf8
+        };
+        check_children(rt, Shape::Lists(*kind), b"bAcd", item, items)?;
     }
-    Ok(())
+    check_children(rt, pairs, b"abCd", pairs, b"bcd")
 }
 
-/// Lists of structs of a dictionary and a union. Of the lists, the structs, the keys and the union each
-/// so many rows at the start are sliced off.
-fn deep(
+/// Letters without their bar, and how many stand before it.
+fn marked(alloc: Global, text: &str) -> Result<(Vec<u8>, usize), Error> {
+    let (before, after) = text.split_once('|').unwrap_or(("", text));
+    let mut letters = Vec::from_slice(alloc, before.as_bytes())?;
+    letters.extend_from_slice(after.as_bytes())?;
+    Ok((letters, before.len()))
+}
+
+/// The rows of these letters behind the bar.
+fn part_of(
     rt: &(impl Abort + Alloc<A = Global>),
-    ends: (&[usize], usize),
-    rows: (&[u8], usize),
-    keys: (&[u8], usize),
-    values: (&[u8], usize),
-) -> Result<AnyArray, Error> {
-    let alloc = rt.alloc();
-    let left = from_row(rt, array_of(alloc, Shape::Dictionary, keys.0)?, keys.1);
-    let sparse = Shape::Pairs(Some(UnionMode::Sparse));
-    let right = from_row(rt, array_of(alloc, sparse, values.0)?, values.1);
-    let structs = from_row(rt, make_structs(alloc, rows.0, left, right)?, rows.1);
-    let array = lists_of(alloc, ListKind::Small, ends.0, structs, None)?;
-    Ok(from_row(rt, array, ends.1))
+    shape: Shape,
+    text: &str,
+) -> Result<Box<AnyArray>, Error> {
+    let (letters, start) = marked(rt.alloc(), text)?;
+    Ok(from_row(rt, array_of(rt.alloc(), shape, &letters)?, start))
 }
 
-/// The ends of lists, and letters, each with how many rows at the start are sliced off.
-type Ends = (&'static [usize], usize);
+/// Structs of a dictionary of these keys and a union of these values.
+fn deep_structs(
+    rt: &(impl Abort + Alloc<A = Global>),
+    rows: &str,
+    keys: &str,
+    values: &str,
+) -> Result<Box<AnyArray>, Error> {
+    let left = part_of(rt, Shape::Dictionary, keys)?;
+    let right = part_of(rt, Shape::Pairs(Some(UnionMode::Sparse)), values)?;
+    let (letters, start) = marked(rt.alloc(), rows)?;
+    Ok(from_row(rt, make_structs(rt.alloc(), &letters, left, right)?, start))
+}
 
-type Rows = (&'static [u8], usize);
+/// Lists of such structs, from each end to the next.
+fn deep_lists(
+    rt: &(impl Abort + Alloc<A = Global>),
+    structs: Box<AnyArray>,
+    ends: &str,
+) -> Result<Box<AnyArray>, Error> {
+    let (digits, start) = marked(rt.alloc(), ends)?;
+    let mut ends = Vec::with_capacity(rt.alloc(), digits.len())?;
+    for digit in &digits {
+        ends.push(usize::from(digit.saturating_sub(b'0')))?;
+    }
+    Ok(from_row(
+        rt,
+        lists_of(rt.alloc(), ListKind::Small, &ends, structs, None)?,
+        start,
+    ))
+}
 
-const ENDS: Ends = (&[0, 2, 2, 5], 0);
-
-const STRUCTS: Rows = (b"abCde", 0);
-
-const KEYS: Rows = (b"abcDe", 0);
-
-const VALUES: Rows = (b"abcdE", 0);
-
-/// Parts of such lists, and whether their rows are those of the parts above.
-const DEEP: [(Ends, Rows, Rows, Rows, bool); 13] = [
-    (ENDS, STRUCTS, (b"hgabcDe", 2), VALUES, true),
-    (ENDS, STRUCTS, KEYS, (b"gabcdE", 1), true),
-    (
-        ENDS,
-        (b"aAabCde", 2),
-        (b"ghabcDe", 0),
-        (b"ghabcdE", 0),
-        true,
-    ),
-    (
-        (&[1, 3, 3, 6], 0),
-        (b"AabCde", 0),
-        (b"gabcDe", 0),
-        (b"gabcdE", 0),
-        true,
-    ),
-    (
-        (&[0, 1, 1, 3, 3, 6], 2),
-        (b"aaAabCde", 2),
-        (b"hhhffgabcDe", 3),
-        (b"geecabcdE", 1),
-        true,
-    ),
+/// The ends of lists, and the letters of structs, of their keys and of their union. As many rows as stand before a
+/// bar are sliced off at the start. The rows of all are those of the first, but where the last is false.
+const DEEP: [(&str, &str, &str, &str, bool); 14] = [
+    ("0225", "abCde", "abcDe", "abcdE", true),
+    ("0225", "abCde", "hg|abcDe", "abcdE", true),
+    ("0225", "abCde", "abcDe", "g|abcdE", true),
+    ("0225", "aA|abCde", "ghabcDe", "ghabcdE", true),
+    ("1336", "AabCde", "gabcDe", "gabcdE", true),
+    ("01|1336", "aa|AabCde", "hhh|ffgabcDe", "g|eecabcdE", true),
     // beneath null rows
-    (ENDS, STRUCTS, (b"abhDe", 0), (b"abHdE", 0), true),
-    (ENDS, STRUCTS, (b"abcAe", 0), (b"abcdC", 0), true),
+    ("0225", "abCde", "abhDe", "abHdE", true),
+    ("0225", "abCde", "abcAe", "abcdC", true),
     // a key, a value, a type id, a null and an end
-    (ENDS, STRUCTS, (b"aacDe", 0), VALUES, false),
-    (ENDS, STRUCTS, KEYS, (b"adcdE", 0), false),
-    (ENDS, STRUCTS, KEYS, (b"abcdF", 0), false),
-    (ENDS, STRUCTS, KEYS, (b"abcde", 0), false),
-    (ENDS, (b"abcde", 0), KEYS, VALUES, false),
-    ((&[0, 2, 3, 5], 0), STRUCTS, KEYS, VALUES, false),
+    ("0225", "abCde", "aacDe", "abcdE", false),
+    ("0225", "abCde", "abcDe", "adcdE", false),
+    ("0225", "abCde", "abcDe", "abcdF", false),
+    ("0225", "abCde", "abcDe", "abcde", false),
+    ("0225", "abcde", "abcDe", "abcdE", false),
+    ("0235", "abCde", "abcDe", "abcdE", false),
 ];
 
 /// Slices at each level hold the same rows, and a row that differs below tells the lists apart.
 pub fn check_deep(rt: &(impl Abort + Alloc<A = Global>)) -> Result<(), Error> {
-    let array = deep(rt, ENDS, STRUCTS, KEYS, VALUES)?;
+    let structs = deep_structs(rt, "abCde", "abcDe", "abcdE")?;
+    let array = deep_lists(rt, structs, "0225")?;
     for (ends, rows, keys, values, want) in &DEEP {
-        let other = deep(rt, *ends, *rows, *keys, *values)?;
-        let found = [array == other, other == array];
+        let other = deep_lists(rt, deep_structs(rt, rows, keys, values)?, ends)?;
+        let found = [*array == *other, *other == *array];
         check!(rt; found == [*want; 2], (*ends, *rows, *keys, *values));
     }
     Ok(())

@@ -38,7 +38,7 @@ fn dictionary_of(
     validity: &str,
     letters: &[u8],
 ) -> Result<DictionaryArray, Error> {
-    let texts = Box::new(alloc, flat(alloc, Shape::Utf8, letters)?)?;
+    let texts = flat(alloc, Shape::Utf8, letters)?;
     let keys = keys_of(alloc, words.ends_with("u64"), keys, validity)?;
     DictionaryArray::try_new(read(alloc, words)?, keys, texts)
 }

@@ -3,7 +3,7 @@
 use crate::arrays::refused::check_refused;
 use crate::lent::check_same;
 use arrow_arrays::array::{AnyArray, new_empty_array, new_null_array};
-use arrow_arrays_fixture::arrays::{Shape, both, flat, make_union};
+use arrow_arrays_fixture::arrays::{Shape, both, boxed, flat, make_union};
 use arrow_types::datatypes::DataType;
 use arrow_types::error::{Error, SpecPart};
 use arrow_types_fixture::check;
@@ -43,9 +43,12 @@ fn check_type(
     null_count: usize,
 ) -> Result<(), Error> {
     assert!(rt; data_type.is_carried());
-    let empty = new_empty_array(rt.alloc(), data_type.clone()?)?;
+    let empty = boxed(rt.alloc(), new_empty_array(rt.alloc(), data_type.clone()?)?)?;
     check!(rt; empty.len() == 0 && empty.data_type() == data_type);
-    let nulls = new_null_array(rt.alloc(), data_type.clone()?, 2)?;
+    let nulls = boxed(
+        rt.alloc(),
+        new_null_array(rt.alloc(), data_type.clone()?, 2)?,
+    )?;
     check!(rt; nulls.len() == 2 && nulls.null_count() == null_count);
     check!(rt; nulls.data_type() == data_type);
     Ok(())
@@ -63,10 +66,10 @@ fn nulls(
     rt: &(impl Abort + Alloc<A = Global>),
     text: &str,
     count: usize,
-) -> Result<AnyArray, Error> {
+) -> Result<Box<AnyArray>, Error> {
     let data_type = read(rt.alloc(), text)?;
     assert!(rt; data_type.is_carried());
-    new_null_array(rt.alloc(), data_type, count)
+    boxed(rt.alloc(), new_null_array(rt.alloc(), data_type, count)?)
 }
 
 /// Null rows are equal to rows that are null, whatever lies beneath.
@@ -79,7 +82,7 @@ pub fn check_equal(rt: &(impl Abort + Alloc<A = Global>)) -> Result<(), Error> {
         ("fixed_binary:3", Shape::FixedSizeBinary),
     ] {
         let rows = flat(rt.alloc(), shape, b"AB")?;
-        check_same(rt, &nulls(rt, text, 2)?, &rows);
+        check_same(rt, &*nulls(rt, text, 2)?, &rows);
     }
     Ok(())
 }
@@ -104,7 +107,8 @@ pub fn check_unions(rt: &(impl Abort + Alloc<A = Global>)) -> Result<(), Error> 
         ("i8 utf8 union:sparse:5,7", 1),
         ("i8 utf8 union:dense:5,7", 0),
     ] {
-        let AnyArray::Union(array) = nulls(rt, text, 2)? else {
+        let nulls = nulls(rt, text, 2)?;
+        let AnyArray::Union(array) = &*nulls else {
             rt.panic("no union");
         };
         assert!(rt; array.len() == 2);
@@ -114,7 +118,7 @@ pub fn check_unions(rt: &(impl Abort + Alloc<A = Global>)) -> Result<(), Error> 
 }
 
 /// A sparse union of numbers and texts, with these type ids and numbers. No text is null.
-fn union_of(alloc: Global, ids: &[i8], letters: &[u8]) -> Result<AnyArray, Error> {
+fn union_of(alloc: Global, ids: &[i8], letters: &[u8]) -> Result<Box<AnyArray>, Error> {
     let data_type = read(alloc, "i32 utf8 union:sparse:5,7")?;
     let numbers = flat(alloc, Shape::Number, letters)?;
     let texts = flat(alloc, Shape::Utf8, &letters.to_ascii_lowercase(alloc)?)?;
@@ -124,6 +128,6 @@ fn union_of(alloc: Global, ids: &[i8], letters: &[u8]) -> Result<AnyArray, Error
 /// The same rows, built from parts. A type id that no field has makes no union.
 pub fn check_built(rt: &(impl Abort + Alloc<A = Global>)) -> Result<(), Error> {
     let rows = union_of(rt.alloc(), &[5, 5], b"AB")?;
-    check_same(rt, &nulls(rt, "i32 utf8 union:sparse:5,7", 2)?, &rows);
+    check_same(rt, &*nulls(rt, "i32 utf8 union:sparse:5,7", 2)?, &rows);
     check_refused(rt, union_of(rt.alloc(), &[6], b"A"), SpecPart::TypeId)
 }

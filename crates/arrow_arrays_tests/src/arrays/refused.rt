@@ -51,7 +51,7 @@ fn wrong_list_type(alloc: Global, kind: ListKind, wrong: Wrong) -> Result<DataTy
 }
 
 /// The items of such lists, or those of others.
-fn wrong_items(alloc: Global, kind: ListKind, wrong: Wrong) -> Result<AnyArray, Error> {
+fn wrong_items(alloc: Global, kind: ListKind, wrong: Wrong) -> Result<Box<AnyArray>, Error> {
     let shape = if (kind == ListKind::Map) != wrong.contains(&CHILD) {
         Shape::Pairs(None)
     } else {
@@ -61,7 +61,7 @@ fn wrong_items(alloc: Global, kind: ListKind, wrong: Wrong) -> Result<AnyArray, 
 }
 
 /// Two lists of two items, with parts that are wrong.
-fn wrong_lists(alloc: Global, kind: ListKind, wrong: Wrong) -> Result<AnyArray, Error> {
+fn wrong_lists(alloc: Global, kind: ListKind, wrong: Wrong) -> Result<Box<AnyArray>, Error> {
     let data_type = wrong_list_type(alloc, kind, wrong)?;
     let validity = validity_of(alloc, rows(wrong))?;
     let last = if wrong.contains(&OFFSETS) { 5 } else { 4 };
@@ -81,7 +81,11 @@ fn wrong_fields(alloc: Global, wrong: Wrong) -> Result<Vec<AnyArray>, Error> {
 }
 
 /// Two pairs, with parts that are wrong.
-fn wrong_pairs(alloc: Global, mode: Option<UnionMode>, wrong: Wrong) -> Result<AnyArray, Error> {
+fn wrong_pairs(
+    alloc: Global,
+    mode: Option<UnionMode>,
+    wrong: Wrong,
+) -> Result<Box<AnyArray>, Error> {
     let named = match (mode, wrong.contains(&KIND)) {
         (mode, false) => mode,
         (None, true) => Some(UnionMode::Sparse),
@@ -141,7 +145,7 @@ pub fn check_order(rt: &(impl Abort + Alloc<A = Global>)) -> Result<(), Error> {
 /// That the parts of an array were refused, and for which.
 pub fn check_refused(
     rt: &impl Abort,
-    made: Result<AnyArray, Error>,
+    made: Result<Box<AnyArray>, Error>,
     part: SpecPart,
 ) -> Result<(), Error> {
     let refused = refusal(made)?;
@@ -150,7 +154,7 @@ pub fn check_refused(
 }
 
 /// Two texts and a number, as the fields of a struct.
-fn uneven_pairs(alloc: Global) -> Result<AnyArray, Error> {
+fn uneven_pairs(alloc: Global) -> Result<Box<AnyArray>, Error> {
     let left = flat(alloc, Shape::Utf8, b"ab")?;
     make_structs(alloc, b"ab", left, flat(alloc, Shape::Number, b"a")?)
 }
@@ -169,7 +173,7 @@ pub fn check_lengths(rt: &(impl Abort + Alloc<A = Global>)) -> Result<(), Error>
 pub fn check_fields(rt: &(impl Abort + Alloc<A = Global>)) -> Result<(), Error> {
     let alloc = rt.alloc();
     let data_type = pair_type(alloc, None, DataType::Utf8, DataType::Utf8)?;
-    let fields = vec![in alloc; flat(alloc, Shape::Utf8, b"ab")?]?;
+    let fields = vec![in alloc; Box::into_inner(flat(alloc, Shape::Utf8, b"ab")?)]?;
     check_struct(rt, data_type, fields, SpecPart::Child)?;
     let data_type = DataType::Struct(Vec::new(alloc));
     check_struct(rt, data_type, Vec::new(alloc), SpecPart::Kind)

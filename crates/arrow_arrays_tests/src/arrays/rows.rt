@@ -2,7 +2,7 @@
 
 use crate::lent::from_row;
 use arrow_arrays::array::AnyArray;
-use arrow_arrays_fixture::arrays::{SHAPES, Shape, array_of, flat};
+use arrow_arrays_fixture::arrays::{SHAPES, Shape, array_of, boxed, flat};
 use arrow_flat_fixture::arrays::EQUAL;
 use arrow_types::datatypes::{DataType, PhysicalType};
 use arrow_types::error::Error;
@@ -18,7 +18,7 @@ pub fn check_rows(
     shape: Shape,
     letters: &[u8],
 ) -> Result<(), Error> {
-    check!(rt; *array == array_of(rt.alloc(), shape, letters)?, shape);
+    check!(rt; *array == *array_of(rt.alloc(), shape, letters)?, shape);
     check!(rt; array.len() == letters.len() && array.is_empty() == letters.is_empty());
     let is_union = matches!(&shape, Shape::Pairs(Some(_)));
     let mut nulls = 0usize;
@@ -60,10 +60,10 @@ const SLICES: [(usize, usize, &[u8]); 5] = [
     (2, 0, b""),
 ];
 
-/// So many rows at the start.
-fn first_rows(rt: &impl Abort, array: AnyArray, len: usize) -> AnyArray {
+/// That so many rows at the start are these.
+fn check_first(rt: &impl Abort, array: Box<AnyArray>, len: usize, want: &AnyArray) {
     assert!(rt; len <= array.len());
-    array.sliced(0, len)
+    check!(rt; Box::into_inner(array).sliced(0, len) == *want);
 }
 
 fn slice(rt: &impl Abort, array: &mut AnyArray, offset: usize, len: usize) {
@@ -83,8 +83,8 @@ fn check_parts(
         start = start.saturating_add(*offset);
         slice(rt, part, *offset, *len);
         check_rows(rt, part, shape, rows)?;
-        let rest = from_row(rt, array.clone()?, start);
-        check!(rt; first_rows(rt, rest, *len) == *part);
+        let rest = from_row(rt, boxed(rt.alloc(), array.clone()?)?, start);
+        check_first(rt, rest, *len, part);
     }
     Ok(())
 }
@@ -92,7 +92,7 @@ fn check_parts(
 /// Slices of the rows baCDabb.
 fn check_slices(rt: &(impl Abort + Alloc<A = Global>), shape: Shape) -> Result<(), Error> {
     let array = array_of(rt.alloc(), shape, b"baCDabb")?;
-    check_parts(rt, shape, &array, &mut array.clone()?)?;
+    check_parts(rt, shape, &array, &mut AnyArray::clone(&array)?)?;
     check_rows(rt, &array, shape, b"baCDabb")
 }
 
@@ -107,10 +107,15 @@ fn check_pair(
     let array = array_of(rt.alloc(), shape, left)?;
     check_rows(rt, &array, shape, left)?;
     let other = from_row(rt, array_of(rt.alloc(), shape, right)?, 1);
-    check!(rt; [array == other, other == array] == [want; 2], (left, right, shape));
-    check!(rt; equals_itself(&array) && equals_both_ways(&array, &other) == want);
-    check!(rt; equals_through(&array, &other, &other) == want);
+    check!(rt; [*array == *other, *other == *array] == [want; 2], (left, right, shape));
+    check_laws(rt, &array, &other, want);
     Ok(())
+}
+
+/// The laws of equality, of two arrays.
+fn check_laws(rt: &impl Abort, array: &AnyArray, other: &AnyArray, want: bool) {
+    check!(rt; equals_itself(array) && equals_both_ways(array, other) == want);
+    check!(rt; equals_through(array, other, other) == want);
 }
 
 /// Equal are the same rows, whatever is stored beneath nulls, wherever they begin, and under a validity
@@ -132,7 +137,7 @@ fn check_type(
     let array = array_of(rt.alloc(), shape, rows)?;
     check!(rt; array.data_type().to_physical_type() == physical);
     for (other, _) in &SHAPES {
-        let is_same = array == array_of(rt.alloc(), *other, rows)?;
+        let is_same = *array == *array_of(rt.alloc(), *other, rows)?;
         check!(rt; is_same == (shape == *other), (shape, *other));
     }
     Ok(())
@@ -152,8 +157,8 @@ pub fn check_shapes(rt: &(impl Abort + Alloc<A = Global>)) -> Result<(), Error> 
 /// Rows that are all null.
 pub fn check_nulls(rt: &(impl Abort + Alloc<A = Global>)) -> Result<(), Error> {
     let nulls = flat(rt.alloc(), Shape::Null, b"abc")?;
-    let part = from_row(rt, nulls.clone()?, 1);
-    check_all_null(rt, &nulls, &part, &flat(rt.alloc(), Shape::Null, b"ab")?);
+    let part = from_row(rt, flat(rt.alloc(), Shape::Null, b"abc")?, 1);
+    check_all_null(rt, &nulls, &part, &*flat(rt.alloc(), Shape::Null, b"ab")?);
     Ok(())
 }
 

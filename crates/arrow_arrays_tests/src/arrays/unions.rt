@@ -18,7 +18,7 @@ fn union_of(
     right: &[u8],
     mode: UnionMode,
     offsets: &[i32],
-) -> Result<AnyArray, Error> {
+) -> Result<Box<AnyArray>, Error> {
     let left = flat(alloc, Shape::Utf8, left)?;
     let fields = both(alloc, left, flat(alloc, Shape::Number, right)?)?;
     let data_type = pair_type(alloc, Some(mode), DataType::Utf8, DataType::Int32)?;
@@ -62,17 +62,53 @@ const SPARSE: UnionMode = UnionMode::Sparse;
 
 const DENSE: UnionMode = UnionMode::Dense;
 
+/// Of a union the rows from one on, which are checked.
+fn checked_from(
+    rt: &impl Abort,
+    array: Box<AnyArray>,
+    first: usize,
+    start: usize,
+    want: &[(i8, usize, usize)],
+    offsets: Option<&[i32]>,
+) -> Result<Box<AnyArray>, Error> {
+    let part = from_row(rt, array, first);
+    check_union(rt, &part, start, want, offsets)?;
+    Ok(part)
+}
+
+/// Whether an array is equal to one that is made.
+fn check_equal(
+    rt: &impl Abort,
+    array: &AnyArray,
+    made: Result<Box<AnyArray>, Error>,
+    want: bool,
+) -> Result<(), Error> {
+    let other = made?;
+    check!(rt; (*array == *other) == want);
+    Ok(())
+}
+
 /// The rows of a sparse union and of its slices, each of the one before.
 pub fn check_sparse(rt: &(impl Abort + Alloc<A = Global>)) -> Result<(), Error> {
     let alloc = rt.alloc();
     let rows = [(5, 0, 0), (7, 1, 1), (7, 1, 2), (5, 0, 3)];
     let array = union_of(alloc, &[5, 7, 7, 5], b"abcd", b"efgh", SPARSE, &[])?;
-    check_union(rt, &array, 0, &rows, None)?;
-    let part = from_row(rt, array, 2);
-    check_union(rt, &part, 2, &rows[2..], None)?;
-    check!(rt; part == union_of(alloc, &[7, 5], b"Hd", b"ga", SPARSE, &[])?);
-    check!(rt; part != union_of(alloc, &[7, 5], b"Hc", b"ga", SPARSE, &[])?);
-    check_union(rt, &from_row(rt, part, 1), 3, &rows[3..], None)
+    let array = checked_from(rt, array, 0, 0, &rows, None)?;
+    let part = checked_from(rt, array, 2, 2, &rows[2..], None)?;
+    check_equal(
+        rt,
+        &part,
+        union_of(alloc, &[7, 5], b"Hd", b"ga", SPARSE, &[]),
+        true,
+    )?;
+    check_equal(
+        rt,
+        &part,
+        union_of(alloc, &[7, 5], b"Hc", b"ga", SPARSE, &[]),
+        false,
+    )?;
+    checked_from(rt, part, 1, 3, &rows[3..], None)?;
+    Ok(())
 }
 
 /// The rows of a dense union and of a slice. Those that name the same row of a child are equal.
@@ -81,11 +117,21 @@ pub fn check_dense(rt: &(impl Abort + Alloc<A = Global>)) -> Result<(), Error> {
     let (ids, offsets) = ([5, 7, 5, 7], [1, 0, 1, 0]);
     let rows = [(5, 0, 1), (7, 1, 0), (5, 0, 1), (7, 1, 0)];
     let array = union_of(alloc, &ids, b"abcd", b"efgh", DENSE, &offsets)?;
-    check_union(rt, &array, 0, &rows, Some(&offsets))?;
-    check!(rt; array == union_of(alloc, &ids, b"Bbb", b"de", DENSE, &[1, 1, 2, 1])?);
-    check!(rt; array != union_of(alloc, &ids, b"Bbb", b"de", DENSE, &[1, 1, 0, 1])?);
-    let part = from_row(rt, array, 1);
-    check_union(rt, &part, 0, &rows[1..], Some(&offsets[1..]))
+    let array = checked_from(rt, array, 0, 0, &rows, Some(&offsets))?;
+    check_equal(
+        rt,
+        &array,
+        union_of(alloc, &ids, b"Bbb", b"de", DENSE, &[1, 1, 2, 1]),
+        true,
+    )?;
+    check_equal(
+        rt,
+        &array,
+        union_of(alloc, &ids, b"Bbb", b"de", DENSE, &[1, 1, 0, 1]),
+        false,
+    )?;
+    checked_from(rt, array, 1, 0, &rows[1..], Some(&offsets[1..]))?;
+    Ok(())
 }
 
 const LENGTH: Option<SpecPart> = Some(SpecPart::Length);

@@ -7,7 +7,7 @@ ghost use Rattle.arrow_growable.specs.Growable.{IsGrowable};
 
 use crate::lent::{LISTS, from_row};
 use arrow_arrays::array::{AnyArray, new_null_array};
-use arrow_arrays_fixture::arrays::{FLATS, Shape, array_of};
+use arrow_arrays_fixture::arrays::{FLATS, Shape, array_of, boxed};
 use arrow_growable::growable::{AnyGrowable, Growable, is_growable, make_growable};
 use arrow_types::datatypes::{DataType, IntervalUnit};
 use arrow_types::error::Error;
@@ -78,12 +78,13 @@ fn array_with(
     rt: &(impl Abort + Alloc<A = Global>),
     kind: Kind,
     letters: &[u8],
-) -> Result<AnyArray, Error> {
+) -> Result<Box<AnyArray>, Error> {
     match kind {
         Kind::Rows(shape) => array_of(rt.alloc(), shape, letters),
         Kind::Nulls(data_type) => {
             assert!(rt; data_type.is_carried());
-            new_null_array(rt.alloc(), data_type.clone()?, letters.len())
+            let nulls = new_null_array(rt.alloc(), data_type.clone()?, letters.len())?;
+            boxed(rt.alloc(), nulls)
         }
     }
 }
@@ -141,7 +142,7 @@ fn check_next(
     ensures { (grown_of growable.new).sources ≡ (grown_of growable.old).sources }
 {
     check!(rt; growable.len() == letters.len());
-    let array = growable.as_box()?;
+    let array = boxed(rt.alloc(), growable.as_box()?)?;
     check!(rt; growable.len() == 0);
     check_array(rt, &array, kind, letters)
 }
@@ -153,7 +154,7 @@ fn check_array(
     kind: Kind,
     letters: &[u8],
 ) -> Result<(), Error> {
-    check!(rt; *array == array_with(rt, kind, letters)?, kind);
+    check!(rt; *array == *array_with(rt, kind, letters)?, kind);
     let mut nulls = 0usize;
     for letter in letters {
         nulls = nulls.saturating_add(usize::from(!letter.is_ascii_lowercase()));

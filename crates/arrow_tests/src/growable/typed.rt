@@ -7,7 +7,7 @@ ghost use Rattle.arrow_flat.specs.Parts.{rows_by};
 
 use crate::lent::{check_same, from_row};
 use arrow_arrays::array::{AnyArray, AnyOffset, ListArray};
-use arrow_arrays_fixture::arrays::{ListKind, Shape, array_of};
+use arrow_arrays_fixture::arrays::{ListKind, Shape, array_of, boxed};
 use arrow_flat::array::{
     AnyElement, AnyPrimitive, ByteKind, ByteRows, FlatArray, NullArray, PrimitiveArray,
 };
@@ -126,7 +126,8 @@ fn check_stored(rt: &impl Abort, grown: &AnyArray) {
 pub fn check_typed(rt: &(impl Abort + Alloc<A = Global>)) -> Result<(), Error> {
     for (shape, letters, from, start, len, want) in &CASES {
         let array = from_row(rt, array_of(rt.alloc(), *shape, letters)?, *from);
-        check_grown(rt, &grow_any(rt, &array, *start, *len)?, *shape, want)?;
+        let grown = boxed(rt.alloc(), grow_any(rt, &array, *start, *len)?)?;
+        check_grown(rt, &grown, *shape, want)?;
     }
     Ok(())
 }
@@ -139,7 +140,7 @@ fn check_grown(
     letters: &[u8],
 ) -> Result<(), Error> {
     check_stored(rt, grown);
-    check_same(rt, grown, &array_of(rt.alloc(), shape, letters)?);
+    check_same(rt, grown, &*array_of(rt.alloc(), shape, letters)?);
     Ok(())
 }
 
@@ -193,14 +194,11 @@ fn grow_twice(
 /// A slice of lists that begins with a null, joined with itself.
 pub fn check_lists(rt: &(impl Abort + Alloc<A = Global>)) -> Result<(), Error> {
     let shape = Shape::Lists(ListKind::Small);
-    match from_row(rt, array_of(rt.alloc(), shape, b"bCd")?, 1) {
+    let array = from_row(rt, array_of(rt.alloc(), shape, b"bCd")?, 1);
+    match &*array {
         AnyArray::List(array) => {
-            let grown = grow_twice(rt, &array)?;
-            check_same(
-                rt,
-                &AnyArray::List(grown),
-                &array_of(rt.alloc(), shape, b"CdCd")?,
-            );
+            let grown = boxed(rt.alloc(), AnyArray::List(grow_twice(rt, array)?))?;
+            check_same(rt, &grown, &*array_of(rt.alloc(), shape, b"CdCd")?);
             Ok(())
         }
         _ => Err(Error::Failed),

@@ -3,7 +3,7 @@
 use crate::lent::{LISTS, from_row};
 use crate::select::check_answer;
 use arrow_arrays::array::AnyArray;
-use arrow_arrays_fixture::arrays::{FLATS, ListKind, Shape, array_of, lists_of};
+use arrow_arrays_fixture::arrays::{FLATS, ListKind, Shape, array_of, boxed, lists_of};
 use arrow_flat::array::NullArray;
 use arrow_growable::growable::is_growable;
 use arrow_memory::bitmap::Bitmap;
@@ -48,13 +48,21 @@ fn check_rows(
     check_two(rt, &left, &right, shape, want)
 }
 
+/// So many nulls.
+fn nulls(rt: &impl Alloc<A = Global>, count: usize) -> Result<Box<AnyArray>, Error> {
+    boxed(
+        rt.alloc(),
+        AnyArray::Null(NullArray::try_new(DataType::Null, count)?),
+    )
+}
+
 /// Twice one row over as many items as lists can have.
 fn join_wide(
     rt: &(impl Abort + Alloc<A = Global>),
     validity: Option<Bitmap>,
 ) -> Result<AnyArray, Error> {
     const MOST: usize = 2_147_483_647;
-    let items = AnyArray::Null(NullArray::try_new(DataType::Null, MOST)?);
+    let items = nulls(rt, MOST)?;
     let array = lists_of(rt.alloc(), ListKind::Small, &[0, MOST], items, validity)?;
     assert!(rt; is_growable(array.data_type()));
     concatenate(rt.alloc(), &[&array, &array])
@@ -67,7 +75,7 @@ fn check_wide(rt: &(impl Abort + Alloc<A = Global>)) -> Result<(), Error> {
         answer => check!(rt; answer.err() == Some(Error::Overflow)),
     }
     let null = Bitmap::from_bools(rt.alloc(), &[false])?;
-    let both = join_wide(rt, Some(null))?;
+    let both = boxed(rt.alloc(), join_wide(rt, Some(null))?)?;
     check!(rt; both.len() == 2 && both.null_count() == 2);
     Ok(())
 }
@@ -85,8 +93,7 @@ pub fn check_concatenate(rt: &(impl Abort + Alloc<A = Global>)) -> Result<(), Er
     let want = Error::InvalidArgumentError(ArgumentFault::ConcatenateEmpty);
     check_answer(rt, concatenate(rt.alloc(), &[]), Shape::Null, Err(want))?;
     // More rows than can be counted.
-    let most = AnyArray::Null(NullArray::try_new(DataType::Null, usize::MAX)?);
-    let one = AnyArray::Null(NullArray::try_new(DataType::Null, 1)?);
+    let (most, one) = (nulls(rt, usize::MAX)?, nulls(rt, 1)?);
     check_two(rt, &most, &one, Shape::Null, Err(Error::Overflow))?;
     check_wide(rt)
 }

@@ -3,7 +3,7 @@
 use crate::lent::{LISTS, from_row};
 use crate::select::check_answer;
 use arrow_arrays::array::AnyArray;
-use arrow_arrays_fixture::arrays::{FLATS, Shape, array_of};
+use arrow_arrays_fixture::arrays::{FLATS, Shape, array_of, boxed};
 use arrow_flat::array::NullArray;
 use arrow_growable::growable::is_growable;
 use arrow_select::window::shift;
@@ -52,7 +52,8 @@ pub fn check_shift(rt: &(impl Abort + Alloc<A = Global>)) -> Result<(), Error> {
         check_rows(rt, *shape)?;
     }
     // As many rows as can be counted.
-    let array = AnyArray::Null(NullArray::try_new(DataType::Null, usize::MAX)?);
+    let nulls = NullArray::try_new(DataType::Null, usize::MAX)?;
+    let array = boxed(rt.alloc(), AnyArray::Null(nulls))?;
     check!(rt; shift_rows(rt, &array, 1)?.len() == usize::MAX);
     let want = Err(Error::InvalidArgumentError(ArgumentFault::ShiftOffset));
     check_answer(rt, shift_rows(rt, &array, i64::MIN), Shape::Null, want)
