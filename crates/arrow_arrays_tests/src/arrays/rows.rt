@@ -60,10 +60,10 @@ const SLICES: [(usize, usize, &[u8]); 5] = [
     (2, 0, b""),
 ];
 
-/// That so many rows at the start are these.
-fn check_first(rt: &impl Abort, array: Box<AnyArray>, len: usize, want: &AnyArray) {
-    assert!(rt; len <= array.len());
-    check!(rt; Box::into_inner(array).sliced(0, len) == *want);
+/// That so many rows from one on are these.
+fn check_sliced(rt: &impl Abort, array: Box<AnyArray>, start: usize, len: usize, want: &AnyArray) {
+    assert!(rt; start <= array.len() && len <= array.len() - start);
+    check!(rt; Box::into_inner(array).sliced(start, len) == *want);
 }
 
 fn slice(rt: &impl Abort, array: &mut AnyArray, offset: usize, len: usize) {
@@ -83,8 +83,8 @@ fn check_parts(
         start = start.saturating_add(*offset);
         slice(rt, part, *offset, *len);
         check_rows(rt, part, shape, rows)?;
-        let rest = from_row(rt, boxed(rt.alloc(), array.clone()?)?, start);
-        check_first(rt, rest, *len, part);
+        let whole = boxed(rt.alloc(), array.clone()?)?;
+        check_sliced(rt, whole, start, *len, part);
     }
     Ok(())
 }
@@ -157,7 +157,7 @@ pub fn check_shapes(rt: &(impl Abort + Alloc<A = Global>)) -> Result<(), Error> 
 /// Rows that are all null.
 pub fn check_nulls(rt: &(impl Abort + Alloc<A = Global>)) -> Result<(), Error> {
     let nulls = flat(rt.alloc(), Shape::Null, b"abc")?;
-    let part = from_row(rt, flat(rt.alloc(), Shape::Null, b"abc")?, 1);
+    let part = from_row(rt, boxed(rt.alloc(), AnyArray::clone(&nulls)?)?, 1);
     check_all_null(rt, &nulls, &part, &*flat(rt.alloc(), Shape::Null, b"ab")?);
     Ok(())
 }
