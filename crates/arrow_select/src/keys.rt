@@ -12,6 +12,7 @@ pub(crate) fn show_no_keys(array: &AnyArray)
     requires { CanGrow array.now }
     ensures { HasNoKeys (layout_of array.now) }
 {
+    // The kind of the array follows from its data type.
     let _ = array.data_type();
     match array {
         AnyArray::List(lists) => {
