@@ -1,24 +1,23 @@
 -- A child that grows by rows that are named, one call behind the other.
-use Rattle.std.proofs.Common.{arith, ◌≡◌, ◌+◌, ◌-◌, ◌<◌, ◌≤◌, ◌⊎◌, inl, inr, ℕ, zero, suc, Bool, true, false, List, [], ◌∷◌, ◌++◌, Option, Some, None, length, replicate, slice_index, refl, ap, sym, subst, ◌∙◌}
-use Rattle.std.specs.Prelude.{Result, Ok, Err, OnOk, OnErr, IfErr, ◌↔◌}
+use Rattle.std.proofs.Common.{arith, ◌≡◌, ◌+◌, ◌*◌, ◌-◌, ◌<◌, ◌≤◌, ◌⊎◌, inl, inr, ℕ, zero, suc, Bool, true, false, List, [], ◌++◌, Option, Some, None, length, replicate, refl, ap, sym, subst, ◌∙◌}
+use Rattle.std.specs.Prelude.{Result, Ok, Err, OnOk, IsOkUnless, ◌↔◌}
+use Rattle.std.specs.Result.{IsErrAnd}
 use Rattle.std.proofs.lemmas.List.{append_assoc, append-nil, length-append}
 use Rattle.arrow_types.specs.declared.error.Error.{Error}
-use Rattle.arrow_types.specs.declared.error.Error.TheVariants.{Overflow, OutOfMemory, Failed}
+use Rattle.arrow_types.specs.declared.error.Error.TheVariants.{OutOfMemory, Failed}
 use Rattle.arrow_types.specs.Fits.{Fits}
-use Rattle.arrow_types.specs.Slot.{Slot}
+use Rattle.arrow_types.specs.ArrowType.{ArrowType}
+use Rattle.arrow_types.specs.Slot.{Slot, null_slot}
 use Rattle.arrow_types.proofs.FitsLemmas.{Fits-beginning}
-use Rattle.arrow_memory.specs.Grown.{IsGrowthError}
-use Rattle.arrow_memory.specs.Offsets.{IsOffsets, last_of}
 use Rattle.arrow_memory.specs.Sliced.{sliced}
 use Rattle.arrow_arrays.specs.Layout.{Layout}
-use Rattle.arrow_flat_growable.specs.Grown.{Grown, AreThere, CannotHold, FitsItself, FitsWith, HasFailed, IsRefusal, NamesRows, RefusedBy, appended, named_rows, rows_among}
-use Rattle.arrow_flat_growable.specs.GrownRows.{valid_values}
-use Rattle.arrow_flat_growable.proofs.ValidRowLemmas.{run_taken, set_run}
-use Rattle.arrow_growable.specs.Child.{BindsRows, CannotGrow, CrowdsIn, GrownBy, IsWell, LiesIn, SameBound, bound_rows, source_rows}
+use Rattle.arrow_flat_growable.specs.Grown.{Grown, AreThere, CannotHold, FitsItself, FitsWith, IsFailedOrMemory, NamesRows, RefusedBy, appended, named_rows, null_rows_of, rows_among}
+use Rattle.arrow_growable.specs.Child.{BindsRows, CannotGrow, CrowdsIn, GrownBy, IsWell, LiesIn, Rises, SameBound, bound_rows, source_rows, spread}
+use Rattle.arrow_growable.proofs.SpreadLemmas.{spread_run}
 
 -- rows behind rows
 
-appended_none : (g : Grown) → g.failed ≡ false → appended g [] ≡ g
+pub appended_none : (g : Grown) → g.failed ≡ false → appended g [] ≡ g
 appended_none g well =
     let count : g.count + length {A = Slot} [] ≡ g.count = omega arith in
     λ i. record { arrow_type = g.arrow_type; sources = g.sources; rows = append-nil g.rows i; count = count i; failed = sym well i }
@@ -30,36 +29,21 @@ appended_twice g xs ys =
 
 -- the same type and arrays
 
-pub same_refl : (g : Grown) → SameBound g g
-same_refl g = record { same_type = refl; same_sources = refl }
-
 pub same_twice : (a b c : Grown) → SameBound a b → SameBound b c → SameBound a c
 same_twice a b c first second =
     record { same_type = second.same_type ∙ first.same_type; same_sources = second.same_sources ∙ first.same_sources }
 
-pub binds_same : (old new : Grown) (i n : ℕ) → SameBound old new → BindsRows old i n → BindsRows new i n
-binds_same old new i n same binds =
-    record { layouts = binds.layouts; sources = same.same_sources ∙ binds.sources; bound = binds.bound; within = binds.within }
-
 rows_same : (old new : Grown) (i : ℕ) → SameBound old new → bound_rows new i ≡ bound_rows old i
 rows_same old new i same = ap (λ s. source_rows s i) same.same_sources
 
--- what a call that appends leaves as it was
-pub kept_on_either : {T E : Type 0} (r : Result T E) (old new : Grown) (more : List Slot) → OnOk r (new ≡ appended old more) → OnErr r (HasFailed old new) → SameBound old new
-kept_on_either (Ok x) old new more is failed =
-    record { same_type = ap (λ g. g.arrow_type) is; same_sources = ap (λ g. g.sources) is }
-kept_on_either (Err e) old new more is failed =
-    record { same_type = failed.same_type; same_sources = failed.same_sources }
-
--- one that had not failed does not answer that it had
-pub not_failed : {T : Type 0} (r : Result T Error) (failed : Bool) → IfErr r IsRefusal → (r ≡ Err Failed) ↔ (failed ≡ true) → failed ≡ false → IfErr r IsGrowthError
-not_failed (Ok x) failed refusal told well = tt
-not_failed (Err Overflow) failed refusal told well = tt
-not_failed (Err OutOfMemory) failed refusal told well = tt
-not_failed (Err Failed) failed refusal told well =
+-- of one that had not failed memory alone is refused, where nothing is appended
+pub only_memory : {T U : Type 0} (r : Result T Error) (e : Error) (failed : Bool) → IsErrAnd r (λ x. x ≡ e) → IsFailedOrMemory e → ◌≡◌ {A = Result U Error} (Err e) (Err Failed) ↔ (failed ≡ true) → failed ≡ false → IsOkUnless r OutOfMemory
+only_memory (Ok x) e failed is refusal told well = absurd is
+only_memory (Err x) OutOfMemory failed is refusal told well = is
+only_memory (Err x) Failed failed is refusal told well =
     let has : failed ≡ true = told.0 refl in
     absurd cc
-not_failed (Err _) failed refusal told well = absurd refusal
+only_memory (Err x) _ failed is refusal told well = absurd refusal
 
 -- rows of the i-th array that is bound
 module _ (g : Grown) (i n : ℕ) (binds : BindsRows g i n) where
@@ -96,7 +80,7 @@ module _ (g : Grown) (i n : ℕ) (binds : BindsRows g i n) where
 
 -- rows of a child that lie in rows of the array
 
-before_or : (j k : ℕ) → (j < k) ⊎ (k ≤ j)
+pub before_or : (j k : ℕ) → (j < k) ⊎ (k ≤ j)
 before_or zero zero = inr (omega arith)
 before_or zero (suc k) = inl (omega arith)
 before_or (suc j) zero = inr (omega arith)
@@ -147,57 +131,70 @@ pub names_more : (g : Grown) (i : ℕ) (Names Others : ℕ → Type 0) (xs : Lis
 names_more g i Names Others xs more refused =
     record { why = elim refused.why [ inl over ↦ inl over | inr crowds ↦ inr (crowds_more g.sources i Names Others more crowds) ] }
 
--- the values of rows that are all valid
-pub all_values : (os : List ℕ) (xs : List Slot) (n i : ℕ) → IsOffsets os → last_of os ≤ length xs → i + n < length os → valid_values (replicate n true) os xs i ≡ sliced xs (slice_index os i) (slice_index os (i + n) - slice_index os i)
-all_values os xs n i held within inside =
-    ap (λ bs. valid_values bs os xs i) (sym (append-nil (replicate n true))) ∙ (set_run os xs held within n [] i inside ∙ append-nil (sliced xs (slice_index os i) (slice_index os (i + n) - slice_index os i)))
-
 -- rows so far, of those that some bits name: what the bits that are left name comes behind
-pub record GrowsTo (initial now : Grown) (i : ℕ) (os : List ℕ) (bits left : List Bool) (start row : ℕ) : Type 0 where
+pub record GrowsTo (initial now : Grown) (i w : ℕ) (place : ℕ → ℕ) (bits left : List Bool) (start row : ℕ) : Type 0 where
   pub same : SameBound initial now
   pub well : IsWell now
-  pub rest : appended now (valid_values left os (bound_rows initial i) row) ≡ appended initial (valid_values bits os (bound_rows initial i) start)
-  pub names : (j : ℕ) → LiesIn left (slice_index os) row j → LiesIn bits (slice_index os) start j
+  pub rest : appended now (spread w (null_slot initial.arrow_type) left place (bound_rows initial i) row) ≡ appended initial (spread w (null_slot initial.arrow_type) bits place (bound_rows initial i) start)
+  pub names : (j : ℕ) → LiesIn left place row j → LiesIn bits place start j
 
-pub grows_first : (g : Grown) (i : ℕ) (os : List ℕ) (bits : List Bool) (start : ℕ) → IsWell g → GrowsTo g g i os bits bits start start
-grows_first g i os bits start well =
-    record { same = same_refl g; well = well; rest = refl; names = λ j lies. lies }
+-- a run of null rows, of k null slots, and one of valid rows
+module _ (initial now : Grown) (i w n : ℕ) (place : ℕ → ℕ) (bits left next : List Bool) (start row nulls count k : ℕ) (rises : Rises place n (length (bound_rows initial i))) (grows : GrowsTo initial now i w place bits left start row) (is : left ≡ replicate nulls false ++ (replicate count true ++ next)) (inside : row + length left ≤ n) (slots : k ≡ nulls * w) where
+  abbrev none : Slot
+  none = null_slot initial.arrow_type
 
-pub grows_last : (initial now : Grown) (i : ℕ) (os : List ℕ) (bits left : List Bool) (start row : ℕ) → GrowsTo initial now i os bits left start row → length left ≡ 0 → GrownBy initial now (valid_values bits os (bound_rows initial i) start)
-grows_last initial now i os bits [] start row grows none =
-    record { grown = sym (appended_none now grows.well.well) ∙ grows.rest; fits = grows.well.fits }
-grows_last initial now i os bits (b ∷ left) start row grows none = absurd (omega (arith, none))
-
-module _ (initial now : Grown) (i : ℕ) (os : List ℕ) (bits left next : List Bool) (start row nulls count : ℕ) (grows : GrowsTo initial now i os bits left start row) (is : left ≡ replicate nulls false ++ (replicate count true ++ next)) (held : IsOffsets os) (within : last_of os ≤ length (bound_rows initial i)) (inside : row + length left < length os) where
   abbrev part : List Slot
-  part = sliced (bound_rows initial i) (slice_index os (row + nulls)) (slice_index os (row + nulls + count) - slice_index os (row + nulls))
+  part = sliced (bound_rows initial i) (place (row + nulls)) (place (row + nulls + count) - place (row + nulls))
 
   abbrev behind : List Slot
-  behind = valid_values next os (bound_rows initial i) (row + (nulls + count))
+  behind = spread w none next place (bound_rows initial i) (row + (nulls + count))
 
-  taken : valid_values left os (bound_rows initial i) row ≡ part ++ behind
-  taken = run_taken os (bound_rows initial i) held within nulls count left next row is inside
+  taken : spread w none left place (bound_rows initial i) row ≡ replicate k none ++ (part ++ behind)
+  taken =
+      spread_run w none place (bound_rows initial i) n rises nulls count left next row is inside ∙ ap (λ m. replicate m none ++ (part ++ behind)) (sym slots)
 
-  -- one run more
-  pub grows_more : (new : Grown) → SameBound now new → GrownBy now new (sliced (bound_rows now i) (slice_index os (row + nulls)) (slice_index os (row + nulls + count) - slice_index os (row + nulls))) → GrowsTo initial new i os bits next start (row + (nulls + count))
-  grows_more new kept grown =
-      let here : new ≡ appended now part = grown.grown ∙ ap (λ xs. appended now (sliced xs (slice_index os (row + nulls)) (slice_index os (row + nulls + count) - slice_index os (row + nulls)))) (rows_same initial now i grows.same) in
+  nulls_are : null_rows_of now k ≡ replicate k none
+  nulls_are = ap (λ t. replicate k (null_slot t)) grows.same.same_type
+
+  -- all rows, by those so far
+  whole : initial.rows ++ spread w none bits place (bound_rows initial i) start ≡ (now.rows ++ replicate k none) ++ (part ++ behind)
+  whole =
+      ap (λ g. g.rows) (sym grows.rest) ∙ (ap (λ xs. now.rows ++ xs) taken ∙ sym (append_assoc now.rows (replicate k none) (part ++ behind)))
+
+  -- with the null rows
+  module _ (mid : Grown) (kept : SameBound now mid) (grown : GrownBy now mid (null_rows_of now k)) where
+    mid_same : SameBound initial mid
+    mid_same = same_twice initial now mid grows.same kept
+
+    mid_rows : mid.rows ≡ now.rows ++ replicate k none
+    mid_rows = ap (λ g. g.rows) grown.grown ∙ ap (λ xs. now.rows ++ xs) nulls_are
+
+    -- and the valid ones
+    pub grows_more : (new : Grown) → SameBound mid new → GrownBy mid new (sliced (bound_rows mid i) (place (row + nulls)) (place (row + nulls + count) - place (row + nulls))) → GrowsTo initial new i w place bits next start (row + (nulls + count))
+    grows_more new again run =
+        let here : new ≡ appended (appended now (replicate k none)) part = run.grown ∙ (λ t. appended (grown.grown t) (sliced (rows_same initial mid i mid_same t) (place (row + nulls)) (place (row + nulls + count) - place (row + nulls)))) ∙ ap (λ xs. appended (appended now xs) part) nulls_are in
+        record {
+          same = same_twice initial mid new mid_same again;
+          well = record { well = ap (λ g. g.failed) run.grown; fits = run.fits };
+          rest = ap (λ g. appended g behind) here ∙ (appended_twice (appended now (replicate k none)) part behind ∙ (appended_twice now (replicate k none) (part ++ behind) ∙ (ap (appended now) (sym taken) ∙ grows.rest)));
+          names = λ j lies. grows.names j (lies_in_rest nulls count left next place row j is lies);
+        }
+
+    -- or why these are refused
+    pub run_refused : CannotGrow mid i (λ j. (place (row + nulls) ≤ j) × (j < place (row + nulls + count))) (sliced (bound_rows mid i) (place (row + nulls)) (place (row + nulls + count) - place (row + nulls))) → CannotGrow initial i (LiesIn bits place start) (spread w none bits place (bound_rows initial i) start)
+    run_refused refused =
+        let fits_mid : Fits initial.arrow_type (((now.rows ++ replicate k none) ++ part) ++ behind) → FitsWith mid (sliced (bound_rows mid i) (place (row + nulls)) (place (row + nulls + count) - place (row + nulls))) = λ fits. subst {A = ArrowType × List Slot} (λ q. Fits q.0 q.1) (λ t. (sym mid_same.same_type t, sym mid_rows t ++ sliced (sym (rows_same initial mid i mid_same) t) (place (row + nulls)) (place (row + nulls + count) - place (row + nulls)))) (Fits-beginning initial.arrow_type ((now.rows ++ replicate k none) ++ part) behind fits) in
+        record {
+          why =
+              elim refused.why [
+                | inl over ↦ inl (λ fits. over (fits_mid (subst (Fits initial.arrow_type) (whole ∙ sym (append_assoc (now.rows ++ replicate k none) part behind)) fits)))
+                | inr crowds ↦ inr (crowds_more initial.sources i _ _ (λ j run. grows.names j (lies_in_run nulls count left next place row j is run)) (subst (λ s. CrowdsIn s i (λ j. (place (row + nulls) ≤ j) × (j < place (row + nulls + count)))) mid_same.same_sources crowds))
+              ];
+        }
+
+  -- or why the null rows are
+  pub nulls_refused : (FitsWith now (null_rows_of now k) → ⊥) → CannotGrow initial i (LiesIn bits place start) (spread w none bits place (bound_rows initial i) start)
+  nulls_refused over =
       record {
-        same = same_twice initial now new grows.same kept;
-        well = record { well = ap (λ g. g.failed) grown.grown; fits = grown.fits };
-        rest = ap (λ g. appended g behind) here ∙ (appended_twice now part behind ∙ (ap (appended now) (sym taken) ∙ grows.rest));
-        names = λ j lies. grows.names j (lies_in_rest nulls count left next (slice_index os) row j is lies);
-      }
-
-  -- and why it is refused
-  pub run_refused : CannotGrow now i (λ j. (slice_index os (row + nulls) ≤ j) × (j < slice_index os (row + nulls + count))) (sliced (bound_rows now i) (slice_index os (row + nulls)) (slice_index os (row + nulls + count) - slice_index os (row + nulls))) → CannotGrow initial i (LiesIn bits (slice_index os) start) (valid_values bits os (bound_rows initial i) start)
-  run_refused refused =
-      let rows_now = rows_same initial now i grows.same in
-      let whole : initial.rows ++ valid_values bits os (bound_rows initial i) start ≡ (now.rows ++ part) ++ behind = ap (λ g. g.rows) (sym grows.rest) ∙ (ap (λ xs. now.rows ++ xs) taken ∙ sym (append_assoc now.rows part behind)) in
-      record {
-        why =
-            elim refused.why [
-              | inl over ↦ inl (λ fits. over (subst (λ xs. Fits now.arrow_type (now.rows ++ sliced xs (slice_index os (row + nulls)) (slice_index os (row + nulls + count) - slice_index os (row + nulls)))) (sym rows_now) (Fits-beginning now.arrow_type (now.rows ++ part) behind (subst (λ t. Fits t ((now.rows ++ part) ++ behind)) (sym grows.same.same_type) (subst (Fits initial.arrow_type) whole fits)))))
-              | inr crowds ↦ inr (crowds_more initial.sources i _ _ (λ j run. grows.names j (lies_in_run nulls count left next (slice_index os) row j is run)) (subst (λ s. CrowdsIn s i (λ j. (slice_index os (row + nulls) ≤ j) × (j < slice_index os (row + nulls + count)))) grows.same.same_sources crowds))
-            ];
+        why = inl (λ fits. over (subst {A = ArrowType × List Slot} (λ q. Fits q.0 q.1) (λ t. (sym grows.same.same_type t, now.rows ++ sym nulls_are t)) (Fits-beginning initial.arrow_type (now.rows ++ replicate k none) (part ++ behind) (subst (Fits initial.arrow_type) whole fits))));
       }

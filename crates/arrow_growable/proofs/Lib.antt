@@ -1,5 +1,17 @@
 pub mod ChildLemmas
+pub mod ColumnLemmas
 pub mod CountLemmas
+pub mod CrowdLemmas
+pub mod EvenLemmas
+pub mod FieldLemmas
+pub mod FinishLemmas
+pub mod FixedSizeLemmas
 pub mod GrowableLemmas
+pub mod GrownLemmas
 pub mod ListLemmas
+pub mod LoopLemmas
 pub mod MakeLemmas
+pub mod NestedLemmas
+pub mod SourceLemmas
+pub mod SpreadLemmas
+pub mod StepLemmas

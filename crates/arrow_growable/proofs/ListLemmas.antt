@@ -1,48 +1,37 @@
 -- A growable of lists: its rows, what fits, and why it refuses.
-use Rattle.std.proofs.Common.{arith, ◌≡◌, ◌+◌, ◌-◌, ◌<◌, ◌≤◌, ◌^◌, inl, inr, ℕ, zero, suc, pos, Bool, true, false, List, [], ◌∷◌, ◌++◌, Option, Some, None, length, map, replicate, take, drop, get_or, slice_index, refl, ap, sym, subst, ◌∙◌}
-use Rattle.std.specs.Prelude.{slice_index_or}
-use Rattle.std.specs.List.{All, take-map}
+use Rattle.std.proofs.Common.{arith, ◌≡◌, ◌+◌, ◌-◌, ◌<◌, ◌≤◌, ◌^◌, ℕ, zero, suc, pos, Bool, true, false, List, [], ◌∷◌, ◌++◌, Option, length, map, replicate, take, drop, slice_index, refl, ap, sym, subst, ◌∙◌}
 use Rattle.std.proofs.lemmas.Int.{ints}
-use Rattle.std.proofs.lemmas.List.{length-append, length-map, length-replicate, map-append, take_all, get_or-take, get_or-drop, get_or_default}
+use Rattle.std.proofs.lemmas.List.{length-append, length-map, length-replicate, map-append, take_all}
 use Rattle.std.proofs.lemmas.List.Sums.{sum_by-cons}
 use Rattle.arrow_types.specs.declared.datatypes.physical_type.PhysicalType.{PhysicalType}
 use Rattle.arrow_types.specs.ArrowType.{ArrowType, plain, list, struct, union, dictionary, extension, field, small, large, fixed_size, mapped}
 use Rattle.arrow_types.specs.Fits.{Fits, all_items}
 use Rattle.arrow_types.specs.Physical.{physical_type_of}
-use Rattle.arrow_types.specs.Rows.{joined, mask, masked, valid_at}
-use Rattle.arrow_types.specs.Slot.{Slot, Null, null_slot}
+use Rattle.arrow_types.specs.Rows.{joined, mask, masked}
+use Rattle.arrow_types.specs.Slot.{Slot, Null}
 use Rattle.arrow_types.proofs.FitsLemmas.{Fits-nil, all_items-append}
 use Rattle.arrow_types.proofs.RowsLemmas.{length-mask}
 use Rattle.arrow_types.proofs.SelectLemmas.{joined-append}
-use Rattle.arrow_types.proofs.SlotLemmas.{from_slots-to_slots, null_slot-no_union}
+use Rattle.arrow_types.proofs.SlotLemmas.{from_slots-to_slots}
 use Rattle.arrow_memory.specs.Offsets.{IsOffsets, RisesFrom, last_of, valid_ends, valid_items, with_valid_rows}
 use Rattle.arrow_memory.specs.Sliced.{sliced}
 use Rattle.arrow_memory.proofs.OffsetLemmas.{at_most_last, map_sliced}
 use Rattle.arrow_memory.proofs.SlicedLemmas.{length-sliced}
 use Rattle.arrow_memory.proofs.ValidLemmas.{valid_sound}
-use Rattle.arrow_flat.specs.Faults.{IsCarriedAs}
 use Rattle.arrow_flat.specs.Parts.{FitsRows, bits_of_slice}
 use Rattle.arrow_flat.specs.Pieces.{pieces, pieces_from}
 use Rattle.arrow_flat.proofs.PieceLemmas.{length-pieces}
-use Rattle.arrow_arrays.specs.Crowded.{CrowdedRow, child_of}
-use Rattle.arrow_arrays.specs.Layout.{Layout, items_row, list_items, rows, type_of_layout}
-use Rattle.arrow_arrays.specs.ListParts.{ListParts, list_layout, list_rows}
+use Rattle.arrow_arrays.specs.Layout.{Layout, items_row, list_items, rows}
+use Rattle.arrow_arrays.specs.ListParts.{ListParts, list_rows}
 use Rattle.arrow_arrays.specs.TypeParts.{item_type}
-use Rattle.arrow_flat_growable.specs.Grown.{Grown, AreCrowded, AreThere, CannotHold, empty_over, first_type, source_at}
+use Rattle.arrow_flat_growable.specs.Grown.{Grown, empty_over}
 use Rattle.arrow_flat_growable.specs.GrownRows.{AreGrown, filled, total, valid_values}
 use Rattle.arrow_flat_growable.specs.MaskLaws.{mask-append, mask-filled, mask-part, mask-unset, length-bits_of_slice, length-filled}
-use Rattle.arrow_flat_growable.proofs.FlatLemmas.{source_is}
 use Rattle.arrow_flat_growable.proofs.GrownRowLemmas.{empty_grown, empty_rows, last_behind, sliced-cut, total_pieces}
 use Rattle.arrow_flat_growable.proofs.ValidRowLemmas.{valid_grown, valid_last, valid_moved}
-use Rattle.arrow_growable.specs.Bound.{bound_children, bound_layouts, bound_parts, part_at}
-use Rattle.arrow_growable.specs.Part.{IsPart, no_part}
-use Rattle.arrow_growable.specs.declared.growable.bound.BoundNested.{BoundNested}
 use Rattle.arrow_growable.proofs.GrowableLemmas.{no_plain}
-use Rattle.arrow_growable.specs.Child.{BindsRows, CannotGrow, CrowdsIn, GrownBy, IsWell, LiesIn, bound_rows, source_rows}
-use Rattle.arrow_growable.specs.GrowableOffsets.{grown_lists, grown_offsets}
-use Rattle.arrow_growable.specs.declared.growable.offsets.GrowableOffsets.{GrowableOffsets}
-use Rattle.arrow_growable.specs.declared.growable.offsets.GrowableOffsets.TheVariants.{Small, Large, Map}
-use Rattle.arrow_growable.specs.Lists.{AnyItems, FitsLists, HoldsLists, IsGrownList, IsListType, SparesItems, greatest_in, lists_rows}
+use Rattle.arrow_growable.specs.Child.{GrownBy}
+use Rattle.arrow_growable.specs.Lists.{AnyItems, FitsLists, HoldsLists, IsListType, SparesItems, greatest_in, lists_rows}
 
 -- all items of lists
 
@@ -132,20 +121,10 @@ lists_fit_by (union mode ids fs) bits lists is spares counted fits = absurd is
 lists_fit_by (dictionary keys ordered t) bits lists is spares counted fits = absurd is
 lists_fit_by (extension name metadata t) bits lists is spares counted fits = lists_fit_by t bits lists is spares counted fits
 
--- the offsets are those of lists
-pub is_list_type : (offsets : GrowableOffsets) → IsListType (grown_lists offsets)
-is_list_type (Small offsets) = tt
-is_list_type (Large offsets) = tt
-is_list_type (Map offsets) = tt
-
 -- of a type whose arrays are lists
 module _ (t : ArrowType) (layout : PhysicalType) (is : IsListType layout) (kind : physical_type_of t ≡ layout) where
   lies : IsListType (physical_type_of t)
   lies = subst IsListType (sym kind) is
-
-  null_of : null_slot t ≡ Null
-  null_of =
-      null_slot-no_union t (λ union. subst IsListType (sym kind ∙ union) is)
 
   module _ (bits : List Bool) (lists : List (List Slot)) (spares : SparesItems bits lists) where
     fits_lists : Fits t (mask bits (map items_row lists)) → FitsLists (greatest_in layout) (item_type t) lists
@@ -164,13 +143,9 @@ module _ (os : List ℕ) (inner : Grown) (bits : List Bool) (len : ℕ) (holds :
       omega (arith, holds.counted, holds.covered, length-pieces os inner.rows)
 
   -- it counts its rows
-  holds_counts : len ≡ length (lists_rows bits os inner.rows)
+  pub holds_counts : len ≡ length (lists_rows bits os inner.rows)
   holds_counts =
       omega (arith, length-mask bits (list_items os inner.rows) (omega (arith, as_many, length-map (pieces os inner.rows) items_row)), length-map (pieces os inner.rows) items_row, as_many, holds.counted)
-
-pub list_counts : (layout : PhysicalType) (os : List ℕ) (inner : Grown) (bits : List Bool) (len : ℕ) (layouts children : List Layout) (t : ArrowType) (failed : Bool) → IsGrownList layout os inner bits len layouts children t failed → failed ≡ false → len ≡ length (lists_rows bits os inner.rows)
-list_counts layout os inner bits len layouts children t failed parts well =
-    holds_counts os inner bits len (parts.holds well)
 
 module _ (os : List ℕ) (inner : Grown) (bits : List Bool) (len : ℕ) (held : IsOffsets os) (holds : HoldsLists os inner bits len) where
   many_bits : length bits ≡ length (pieces os inner.rows)
@@ -306,178 +281,13 @@ pub rows_made : (os ns : List ℕ) (xs : List Slot) (bits : List Bool) (v : Opti
 rows_made os ns xs bits v same covered gives =
     ap (λ ms. masked v (list_items ms xs)) same ∙ gives (list_items os xs) (omega (arith, length-map (pieces os xs) items_row, length-pieces os xs, covered))
 
--- one without rows
-pub list_empty : (layout : PhysicalType) (os : List ℕ) (inner : Grown) (bits : List Bool) (layouts children : List Layout) (t : ArrowType) → IsCarriedAs layout t → All (λ l. type_of_layout l ≡ t) layouts → inner ≡ empty_over (item_type t) (Some children) → os ≡ 0 ∷ [] → bits ≡ [] → IsGrownList layout os inner bits 0 layouts children t false
-list_empty layout os inner bits layouts children t kind one_type bound none_os none_bits =
+-- no row over a child without rows
+pub holds_none : (t : ArrowType) (sources : Option (List Layout)) (inner : Grown) → inner ≡ empty_over t sources → HoldsLists (0 ∷ []) inner [] 0
+holds_none t sources inner is =
     record {
-      kind = kind;
-      one_type = one_type;
-      child = ap (λ g. g.arrow_type) bound;
-      sources = ap (λ g. g.sources) bound;
-      holds = λ _. record {
-        counted = ap length none_bits;
-        covered = omega (arith, ap length none_os);
-        grown = record {
-          begins = ap (λ ns. slice_index ns 0) none_os;
-          ends = ap last_of none_os ∙ sym (ap (λ g. length g.rows) bound);
-          rows = λ k d has. tt;
-        };
-        child = record { well = ap (λ g. g.failed) bound; fits = rw bound (Fits-nil (item_type t)) };
-        spares = rw (none_bits, none_os) refl;
-      };
-    }
-
--- the children of the arrays that are bound
-pub children_of : {A : Type 0} (f : A → ListParts) (xs : List A) → map child_of (map (λ x. list_layout (f x)) xs) ≡ map (λ x. (f x).child) xs
-children_of f [] = refl
-children_of f (x ∷ xs) = ap (λ ls. (f x).child ∷ ls) (children_of f xs)
-
--- a row of the child that lies in rows of an array lies in one that is valid
-
-lies_at : (bits : List Bool) (place : ℕ → ℕ) (i j : ℕ) → LiesIn bits place i j → (k : ℕ) × (k < length bits) × ((d : Bool) → slice_index_or bits k d ≡ true) × (place (i + k) ≤ j) × (j < place (suc (i + k)))
-lies_at [] place i j lies = absurd lies
-lies_at (b ∷ bits) place i j (inl here) =
-    let first : i + 0 ≡ i = omega arith in
-    let next : suc (i + 0) ≡ i + 1 = omega arith in
-    (0, omega arith, λ d. here.0, omega (arith, here.1, ap place first), omega (arith, here.2, ap place next))
-lies_at (b ∷ bits) place i j (inr rest) =
-    let r = lies_at bits place (i + 1) j rest in
-    let at : i + 1 + r.0 ≡ i + suc r.0 = omega arith in
-    (suc r.0, omega (arith, r.1), r.2, omega (arith, r.3, ap place at), omega (arith, r.4, ap (λ k. place (suc k)) at))
-
-lies_valid : (v : Option (List Bool)) (start n k : ℕ) → k < n → ((d : Bool) → slice_index_or (bits_of_slice v start n) k d ≡ true) → valid_at v (start + k) ≡ true
-lies_valid None start n k inside set = refl
-lies_valid (Some bits) start n k inside set =
-    sym (get_or-take n (drop start bits) k true inside ∙ get_or-drop start bits k true) ∙ set true
-
--- an item that is crowded makes its row so
-pub crowded_row : (layouts children : List Layout) (index : ℕ) (p : ListParts) (start n : ℕ) → map child_of layouts ≡ children → source_at layouts index ≡ list_layout p → source_at children index ≡ p.child → length (bits_of_slice p.validity start n) ≡ n → CrowdsIn (Some children) index (LiesIn (bits_of_slice p.validity start n) (slice_index p.offsets) start) → AreCrowded (Some layouts) index start n
-crowded_row layouts children index p start n same source child long crowds =
-    let item = crowds.1 in
-    let row = lies_at (bits_of_slice p.validity start n) (slice_index p.offsets) start item.0 item.1 in
-    let before : take index children ≡ map child_of (take index layouts) = ap (take index) (sym same) ∙ take-map child_of index layouts in
-    let inner = subst (λ l. CrowdedRow (map child_of (take index layouts)) l item.0) child (subst (λ ls. CrowdedRow ls (source_at children index) item.0) before item.2) in
-    let valid = lies_valid p.validity start n row.0 (omega (arith, row.1, long)) row.2 in
-    (crowds.0, (start + row.0, omega arith, omega (arith, row.1, long), subst (λ l. CrowdedRow (take index layouts) l (start + row.0)) (sym source) (valid, (item.0, row.3, row.4, inner))))
-
--- a growable that has not failed, and rows of an array that is bound to it
-pub record NamesLists (layout : PhysicalType) (os : List ℕ) (inner : Grown) (bits : List Bool) (len : ℕ) (layouts children : List Layout) (t : ArrowType) (p : ListParts) (index start n : ℕ) : Type 0 where
-  pub is_list : IsListType layout
-  pub parts : IsGrownList layout os inner bits len layouts children t false
-  pub held : IsOffsets os
-  pub others : IsOffsets p.offsets
-  pub within : last_of p.offsets ≤ length (rows p.child)
-  pub fits : FitsRows p.validity (length p.offsets - 1)
-  pub inside : start + n < length p.offsets
-  pub same : map child_of layouts ≡ children
-  pub bound : index < length children
-  pub source : source_at layouts index ≡ list_layout p
-  pub child : source_at children index ≡ p.child
-
-module _ (layout : PhysicalType) (os : List ℕ) (inner : Grown) (bits : List Bool) (len : ℕ) (layouts children : List Layout) (t : ArrowType) (p : ListParts) (index start n : ℕ) (names : NamesLists layout os inner bits len layouts children t p index start n) where
-  abbrev named_bits : List Bool
-  named_bits = bits_of_slice p.validity start n
-
-  abbrev named_items : List Slot
-  named_items = valid_values named_bits p.offsets (rows p.child) start
-
-  holds : HoldsLists os inner bits len
-  holds = names.parts.holds refl
-
-  -- the child is bound to that of the array
-  pub binds_child : BindsRows inner index (last_of p.offsets)
-  binds_child =
-      record { layouts = children; sources = names.parts.sources; bound = names.bound; within = subst (λ l. last_of p.offsets ≤ length (rows l)) (sym names.child) names.within }
-
-  pub child_rows_are : bound_rows inner index ≡ rows p.child
-  child_rows_are =
-      ap (λ s. source_rows s index) names.parts.sources ∙ ap rows names.child
-
-  pub child_is_well : IsWell inner
-  child_is_well = holds.child
-
-  -- why the rows are refused
-  whole_refused : (Fits t (lists_rows bits os inner.rows ++ sliced (list_rows p) start n) → ⊥) → (failed : Bool) → CannotHold (record { arrow_type = t; sources = Some layouts; rows = lists_rows bits os inner.rows; count = len; failed = failed }) index start n
-  whole_refused over failed =
-      inl (λ fits. over (subst (λ l. Fits t (lists_rows bits os inner.rows ++ sliced (rows l) start n)) names.source fits))
-
-  pub offsets_refused : greatest_in layout < last_of os + valid_items named_bits p.offsets start → (failed : Bool) → CannotHold (record { arrow_type = t; sources = Some layouts; rows = lists_rows bits os inner.rows; count = len; failed = failed }) index start n
-  offsets_refused passes =
-      whole_refused (offsets_refuse os inner bits len names.held holds p start n names.others names.within names.fits names.inside layout t names.is_list names.parts.kind.1 names.parts.child passes)
-
-  pub items_refused : CannotGrow inner index (LiesIn named_bits (slice_index p.offsets) start) named_items → (failed : Bool) → CannotHold (record { arrow_type = t; sources = Some layouts; rows = lists_rows bits os inner.rows; count = len; failed = failed }) index start n
-  items_refused refused failed =
-      elim refused.why [
-        | inl over ↦ whole_refused (items_refuse os inner bits len names.held holds p start n names.others names.within names.fits names.inside layout t names.is_list names.parts.kind.1 names.parts.child over) failed
-        | inr crowds ↦ inr (crowded_row layouts children index p start n names.same names.source names.child (length-bits_of_slice p.validity (length p.offsets - 1) start n names.fits (omega (arith, names.inside))) (subst (λ s. CrowdsIn s index (LiesIn named_bits (slice_index p.offsets) start)) names.parts.sources crowds))
-      ]
-
-  -- what it holds with them
-  module _ (new_os : List ℕ) (new : Grown) (new_bits : List Bool) (total_rows : ℕ) (offsets : new_os ≡ with_valid_rows os named_bits p.offsets start) (bits_are : new_bits ≡ bits ++ named_bits) (grown : GrownBy inner new named_items) (count : total_rows ≡ len + n) where
-    pub lists_held : HoldsLists new_os new new_bits total_rows
-    lists_held =
-        let all = holds_more os inner bits len names.held holds p start n names.others names.within names.fits names.inside new grown in
-        subst {A = List ℕ × (List Bool × ℕ)} (λ q. HoldsLists q.0 new q.1.0 q.1.1) (λ i. (sym offsets i, (sym bits_are i, sym count i))) all
-
-    pub lists_parts : IsGrownList layout new_os new new_bits total_rows layouts children t false
-    lists_parts =
-        record {
-          kind = names.parts.kind;
-          one_type = names.parts.one_type;
-          child = ap (λ g. g.arrow_type) grown.grown ∙ names.parts.child;
-          sources = ap (λ g. g.sources) grown.grown ∙ names.parts.sources;
-          holds = λ well. lists_held;
-        }
-
-    pub lists_appended : lists_rows new_bits new_os new.rows ≡ lists_rows bits os inner.rows ++ sliced (rows (source_at layouts index)) start n
-    lists_appended =
-        (λ i. lists_rows (bits_are i) (offsets i) (ap (λ g. g.rows) grown.grown i)) ∙ (rows_appended os inner bits len names.held holds p start n names.others names.within names.fits names.inside ∙ ap (λ l. lists_rows bits os inner.rows ++ sliced (rows l) start n) (sym names.source))
-
--- null rows behind the rows of a growable
-module _ (layout : PhysicalType) (os : List ℕ) (inner : Grown) (bits : List Bool) (len : ℕ) (layouts children : List Layout) (t : ArrowType) (is : IsListType layout) (parts : IsGrownList layout os inner bits len layouts children t false) (held : IsOffsets os) (n : ℕ) (new_os : List ℕ) (new_bits : List Bool) (total_rows : ℕ) (offsets : new_os ≡ os ++ replicate n (last_of os)) (bits_are : new_bits ≡ bits ++ replicate n false) (count : total_rows ≡ len + n) where
-  nulls_held : HoldsLists new_os inner new_bits total_rows
-  nulls_held =
-      subst {A = List ℕ × (List Bool × ℕ)} (λ q. HoldsLists q.0 inner q.1.0 q.1.1) (λ i. (sym offsets i, (sym bits_are i, sym count i))) (holds_nulls os inner bits len held (parts.holds refl) n)
-
-  pub nulls_parts : IsGrownList layout new_os inner new_bits total_rows layouts children t false
-  nulls_parts =
-      record { kind = parts.kind; one_type = parts.one_type; child = parts.child; sources = parts.sources; holds = λ well. nulls_held }
-
-  pub nulls_rows : lists_rows new_bits new_os inner.rows ≡ lists_rows bits os inner.rows ++ replicate n (null_slot t)
-  nulls_rows =
-      (λ i. lists_rows (bits_are i) (offsets i) inner.rows) ∙ (nulls_appended os inner bits len held (parts.holds refl) n ∙ ap (λ s. lists_rows bits os inner.rows ++ replicate n s) (sym (null_of t layout is parts.kind.1)))
-
--- the rows fit
-pub list_fits : (layout : PhysicalType) (os : List ℕ) (inner : Grown) (bits : List Bool) (len : ℕ) (layouts children : List Layout) (t : ArrowType) → IsListType layout → IsGrownList layout os inner bits len layouts children t false → IsOffsets os → last_of os ≤ greatest_in layout → len < 2 ^ 64 → Fits t (lists_rows bits os inner.rows)
-list_fits layout os inner bits len layouts children t is parts held few counted =
-    holds_fits os inner bits len held (parts.holds refl) layout t is parts.kind.1 parts.child few counted
-
--- the type of the first array that is bound
-first_of : (ps : List ListParts) → 0 < length (map list_layout ps) → (get_or ps 0 no_part).arrow_type ≡ first_type (map list_layout ps)
-first_of [] some = absurd (omega (arith, some))
-first_of (p ∷ ps) some = refl
-
-pub first_part : (arrays : BoundNested) → 0 < length (bound_layouts arrays) → (part_at arrays 0).arrow_type ≡ first_type (bound_layouts arrays)
-first_part arrays some = first_of (bound_parts arrays) some
-
--- rows that are there, of an array that is bound
-pub names_bound : (arrays : BoundNested) (offsets : GrowableOffsets) (inner : Grown) (bits : List Bool) (len : ℕ) (t : ArrowType) (failed : Bool) (index start n : ℕ) → IsGrownList (grown_lists offsets) (grown_offsets offsets) inner bits len (bound_layouts arrays) (bound_children arrays) t failed → failed ≡ false → IsOffsets (grown_offsets offsets) → AreThere (Some (bound_layouts arrays)) index start n → IsPart (part_at arrays index) → NamesLists (grown_lists offsets) (grown_offsets offsets) inner bits len (bound_layouts arrays) (bound_children arrays) t (part_at arrays index) index start n
-names_bound arrays offsets inner bits len t failed index start n parts well held there part =
-    let ps = bound_parts arrays in
-    let p = part_at arrays index in
-    let bound : index < length ps = omega (arith, there.0, length-map ps list_layout) in
-    let read : p ≡ get_or ps index p = get_or_default ps index no_part p bound in
-    let source = source_is list_layout ps index p bound read in
-    record {
-      is_list = is_list_type offsets;
-      parts = subst (IsGrownList (grown_lists offsets) (grown_offsets offsets) inner bits len (bound_layouts arrays) (bound_children arrays) t) well parts;
-      held = held;
-      others = part.sound;
-      within = part.within;
-      fits = part.fits;
-      inside = omega (arith, there.1, ap (λ l. length (rows l)) source, part.counted);
-      same = children_of (λ q. q) ps;
-      bound = omega (arith, bound, length-map ps (λ q. q.child));
-      source = source;
-      child = source_is (λ q. q.child) ps index p bound read;
+      counted = refl;
+      covered = refl;
+      grown = record { begins = refl; ends = sym (ap (λ g. length g.rows) is); rows = λ k d has. tt };
+      child = record { well = ap (λ g. g.failed) is; fits = rw is (Fits-nil t) };
+      spares = refl;
     }

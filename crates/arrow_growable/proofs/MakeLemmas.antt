@@ -1,11 +1,18 @@
--- Arrays of any type that are bound as arrays of one kind.
+-- Arrays of any type that are bound as arrays of one kind, and growables without rows over the children of those.
 use Rattle.std.proofs.Common.{arith, ◌≡◌, ◌+◌, ◌≤◌, ◌<◌, ℕ, suc, List, [], ◌∷◌, ◌++◌, length, map, take, get_or, refl, ap, sym, subst, ◌∙◌}
 use Rattle.std.proofs.Math.Seq.{take-suc}
 use Rattle.std.proofs.lemmas.List.{take_all, length-map, map-append}
-use Rattle.arrow_types.specs.ArrowType.{plain, null}
+use Rattle.arrow_types.specs.ArrowType.{ArrowType, plain, null}
 use Rattle.arrow_arrays.specs.Layout.{Layout, flat, type_of_layout}
-use Rattle.arrow_flat_growable.specs.Grown.{AreOfOneType, first_type}
+use Rattle.arrow_flat_growable.specs.Grown.{Grown, AreOfOneType, bound_to, first_type}
 use Rattle.arrow_flat_growable.proofs.FlatLemmas.{source_is}
+use Rattle.std.specs.List.{All, range_with_len}
+use Rattle.std.proofs.lemmas.List.FromFn.{map-range_with_len_more}
+use Rattle.arrow_growable.specs.AnyGrowable.{grown_of}
+use Rattle.arrow_growable.specs.Form.{child_type, child_types}
+use Rattle.arrow_growable.specs.Nested.{fresh_children}
+use Rattle.arrow_growable.specs.Source.{nth_child}
+use Rattle.arrow_growable.specs.declared.growable.any.AnyGrowable.{AnyGrowable}
 
 abbrev none_bound : Layout
 none_bound = flat (plain null) []
@@ -31,3 +38,29 @@ type_at h arrays b i bound read same =
 pub map_twice : {A B C : Type 0} (f : B → C) (g : A → B) (xs : List A) → map f (map g xs) ≡ map (λ x. f (g x)) xs
 map_twice f g [] = refl
 map_twice f g (x ∷ xs) = ap (λ ys. f (g x) ∷ ys) (map_twice f g xs)
+
+-- layouts that are all of a type
+pub first_type_of : (t : ArrowType) (layouts : List Layout) → 0 < length layouts → All (λ l. type_of_layout l ≡ t) layouts → first_type layouts ≡ t
+first_type_of t [] some all = absurd (omega (arith, some))
+first_type_of t (l ∷ layouts) some all = all 0 l (omega arith)
+
+pub one_type_of : (t : ArrowType) (layouts : List Layout) → 0 < length layouts → All (λ l. type_of_layout l ≡ t) layouts → AreOfOneType layouts
+one_type_of t layouts some all = λ k d within. all k d within ∙ sym (first_type_of t layouts some all)
+
+-- one child more
+pub made_next : (layouts : List Layout) (done : List AnyGrowable) (x : AnyGrowable) (f : ℕ) → f < length (child_types (first_type layouts)) → grown_of x ≡ bound_to (map (nth_child f) layouts) → first_type (map (nth_child f) layouts) ≡ child_type (first_type layouts) f → (map grown_of done ≡ map (λ k. bound_to (map (nth_child k) layouts)) (range_with_len 0 f)) × (map (λ g. g.arrow_type) (map grown_of done) ≡ take f (child_types (first_type layouts))) → (map grown_of (done ++ x ∷ []) ≡ map (λ k. bound_to (map (nth_child k) layouts)) (range_with_len 0 (f + 1))) × (map (λ g. g.arrow_type) (map grown_of (done ++ x ∷ [])) ≡ take (f + 1) (child_types (first_type layouts)))
+made_next layouts done x f within made first so_far =
+    let ts = child_types (first_type layouts) in
+    let grow : ℕ → Grown = λ k. bound_to (map (nth_child k) layouts) in
+    let one : suc f ≡ f + 1 = omega arith in
+    let new : map grown_of (done ++ x ∷ []) ≡ map grown_of done ++ grown_of x ∷ [] = map-append grown_of done (x ∷ []) in
+    let types : map (λ (g : Grown). g.arrow_type) (map grown_of done ++ grown_of x ∷ []) ≡ map (λ g. g.arrow_type) (map grown_of done) ++ (grown_of x).arrow_type ∷ [] = map-append (λ (g : Grown). g.arrow_type) (map grown_of done) (grown_of x ∷ []) in
+    let next : take (suc f) ts ≡ take f ts ++ (get_or ts f (plain null) ∷ []) = take-suc ts f (plain null) within in (
+      new ∙ ((λ j. so_far.0 j ++ made j ∷ []) ∙ sym (map-range_with_len_more grow 0 f f (omega arith))),
+      ap (map (λ (g : Grown). g.arrow_type)) new ∙ (types ∙ ((λ j. so_far.1 j ++ (ap (λ g. g.arrow_type) made ∙ first) j ∷ []) ∙ (sym next ∙ ap (λ k. take k ts) one))),
+    )
+
+-- all of them
+pub all_children : (layouts : List Layout) (done : List AnyGrowable) (f : ℕ) → f ≡ length (child_types (first_type layouts)) → map grown_of done ≡ map (λ k. bound_to (map (nth_child k) layouts)) (range_with_len 0 f) → map grown_of done ≡ fresh_children layouts
+all_children layouts done f whole so_far =
+    so_far ∙ ap (λ n. map (λ k. bound_to (map (nth_child k) layouts)) (range_with_len 0 n)) whole

@@ -1,13 +1,16 @@
--- The types whose arrays can grow so far: lists and maps, at any depth, of types without children.
-use Rattle.arrow_types.specs.ArrowType.{ArrowType, plain, list, struct, union, dictionary, extension, field, small, large, fixed_size, mapped}
+-- The types whose arrays can grow so far: lists of any form, maps and structs, at any depth, of types without children.
+use Rattle.arrow_types.specs.ArrowType.{ArrowType, ArrowFields, plain, list, struct, union, dictionary, extension, field, no_fields, more_fields}
 
-abbrev pub IsGrowable : ArrowType → Type 0
-IsGrowable (plain p) = Unit {0}
-IsGrowable (list small (field name t nullable)) = IsGrowable t
-IsGrowable (list large (field name t nullable)) = IsGrowable t
-IsGrowable (list (fixed_size s) f) = ⊥
-IsGrowable (list (mapped sorted) (field name t nullable)) = IsGrowable t
-IsGrowable (struct fs) = ⊥
-IsGrowable (union mode ids fs) = ⊥
-IsGrowable (dictionary keys ordered t) = ⊥
-IsGrowable (extension name metadata t) = IsGrowable t
+abbrev mutual
+  pub IsGrowable : ArrowType → Type 0
+  IsGrowable (plain p) = Unit {0}
+  IsGrowable (list form (field name t nullable)) = IsGrowable t
+  IsGrowable (struct fs) = AreGrowable fs
+  IsGrowable (union mode ids fs) = ⊥
+  IsGrowable (dictionary keys ordered t) = ⊥
+  IsGrowable (extension name metadata t) = IsGrowable t
+
+  -- those of all fields
+  pub AreGrowable : ArrowFields → Type 0
+  AreGrowable no_fields = Unit {0}
+  AreGrowable (more_fields (field name t nullable) fs) = IsGrowable t × AreGrowable fs

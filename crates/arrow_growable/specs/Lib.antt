@@ -2,8 +2,12 @@ pub mod AnyGrowable
 pub mod Bound
 pub mod Child
 pub mod Falls
+pub mod Form
+pub mod FormLaws
 pub mod Growable
-pub mod GrowableOffsets
+pub mod GrowableSpans
+pub mod Lies
 pub mod Lists
-pub mod Part
+pub mod Nested
+pub mod Source
 pub mod Spans

@@ -1,6 +1,5 @@
 -- Lists under construction: the offsets, the child that grows under them, and the rows ("Variable-size List Layout").
-use Rattle.std.specs.Prelude.{ℕ, ◌≡◌, ◌+◌, ◌≤◌, Bool, true, false, Some, List, length, map}
-use Rattle.std.specs.List.{All}
+use Rattle.std.specs.Prelude.{ℕ, ◌≡◌, ◌+◌, ◌≤◌, Bool, true, false, List, length, map}
 use Rattle.arrow_types.specs.declared.datatypes.physical_type.PhysicalType.{PhysicalType}
 use Rattle.arrow_types.specs.declared.datatypes.physical_type.PhysicalType.TheVariants as physical
 use Rattle.arrow_types.specs.ArrowType.{ArrowType}
@@ -8,10 +7,8 @@ use Rattle.arrow_types.specs.Fits.{Fits, all_items}
 use Rattle.arrow_types.specs.Greatest.{greatest_offset}
 use Rattle.arrow_types.specs.Rows.{joined, mask}
 use Rattle.arrow_types.specs.Slot.{Slot}
-use Rattle.arrow_flat.specs.Faults.{IsCarriedAs}
 use Rattle.arrow_flat.specs.Pieces.{pieces}
-use Rattle.arrow_arrays.specs.Layout.{Layout, items_row, list_items, type_of_layout}
-use Rattle.arrow_arrays.specs.TypeParts.{item_type}
+use Rattle.arrow_arrays.specs.Layout.{items_row, list_items}
 use Rattle.arrow_flat_growable.specs.Grown.{Grown}
 use Rattle.arrow_flat_growable.specs.GrownRows.{AreGrown, total}
 use Rattle.arrow_growable.specs.Child.{IsWell}
@@ -52,11 +49,3 @@ pub record HoldsLists (os : List ℕ) (inner : Grown) (bits : List Bool) (len : 
   pub grown : AreGrown AnyItems os inner.rows
   pub child : IsWell inner
   pub spares : SparesItems bits (pieces os inner.rows)
-
--- the parts of a growable: a carried type of lists, that of all arrays, and a child of the type of its items that is bound to theirs
-pub record IsGrownList (physical_type : PhysicalType) (os : List ℕ) (inner : Grown) (bits : List Bool) (len : ℕ) (layouts children : List Layout) (t : ArrowType) (failed : Bool) : Type 0 where
-  pub kind : IsCarriedAs physical_type t
-  pub one_type : All (λ l. type_of_layout l ≡ t) layouts
-  pub child : inner.arrow_type ≡ item_type t
-  pub sources : inner.sources ≡ Some children
-  pub holds : failed ≡ false → HoldsLists os inner bits len

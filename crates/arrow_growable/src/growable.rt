@@ -2,10 +2,11 @@
 
 mod any;
 mod bound;
-mod items;
+mod children;
+mod finish;
+mod grown_spans;
 mod make;
 mod nested;
-mod offsets;
 mod spans;
 mod typed;
 
@@ -18,4 +19,4 @@ pub use arrow_flat_growable::growable::{
 pub use bound::NestedArray;
 pub use make::{is_growable, make_growable};
 pub use nested::GrowableNested;
-pub use typed::{GrowableList, GrowableOf};
+pub use typed::{GrowableFixedSizeList, GrowableList, GrowableMap, GrowableOf, GrowableStruct};

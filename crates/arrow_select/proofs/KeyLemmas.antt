@@ -1,15 +1,24 @@
 -- Arrays that hold no dictionary: no row of theirs is crowded.
-use Rattle.std.proofs.Common.{◌≡◌, ℕ, ℤ, inl, inr, suc, List, Option, Some, map, refl, sym, subst, take, slice_index, ◌+◌}
+use Rattle.std.proofs.Common.{arith, ◌≡◌, ◌+◌, ◌<◌, ◌≤◌, ◌⊎◌, ℕ, ℤ, inl, inr, suc, List, [], ◌∷◌, Option, Some, length, map, get_or, refl, ap, sym, subst, ◌∙◌, take, slice_index}
+use Rattle.std.specs.List.{All}
+use Rattle.std.proofs.Math.Nat.{eq-or-lt_of_le}
+use Rattle.std.proofs.lemmas.List.{get_or-map, get_or_default, length-map}
 use Rattle.arrow_types.specs.declared.datatypes.physical_type.PhysicalType.{PhysicalType}
 use Rattle.arrow_types.specs.declared.datatypes.physical_type.PhysicalType.TheVariants as physical
+use Rattle.arrow_types.specs.ArrowType.{ArrowType, plain, null}
 use Rattle.arrow_types.specs.Physical.{physical_type_of}
-use Rattle.arrow_arrays.specs.Any.{Kind, kind_in, kind_of, layout_of, any_array_type, fixed_size_list_kind, struct_kind, union_kind, dictionary_kind}
+use Rattle.arrow_arrays.specs.Any.{Kind, kind_in, kind_of, layout_of, any_array_type, union_kind, dictionary_kind}
 use Rattle.arrow_arrays.specs.Crowded.{CrowdedRow, CrowdedPart, CrowdedVariant, child_at, child_of}
-use Rattle.arrow_arrays.specs.Layout.{Layout, Layouts, flat, listed, fixed, fielded, sparse, dense, keyed, no_layouts, more_layouts, field_ids}
+use Rattle.arrow_arrays.specs.Layout.{Layout, Layouts, flat, listed, fixed, fielded, sparse, dense, keyed, no_layouts, more_layouts, to_layouts, field_ids, type_of_layout}
+use Rattle.arrow_arrays.specs.TypeParts.{field_types, item_type}
+use Rattle.arrow_arrays.proofs.ShapeLemmas.{list_shape, shape_in, struct_shape}
 use Rattle.arrow_arrays.specs.declared.array.any.AnyArray.{AnyArray}
 use Rattle.arrow_arrays.specs.declared.array.any.AnyArray.TheVariants.{Null, Boolean, Primitive, Utf8, LargeUtf8, Binary, LargeBinary, FixedSizeBinary, List as ListOf, FixedSizeList, Struct, Union, Map, Dictionary}
 use Rattle.arrow_flat_growable.specs.Grown.{AreCrowded, source_at}
-use Rattle.arrow_growable.proofs.GrowableLemmas.{MayGrow, may_grow}
+use Rattle.arrow_growable.specs.Form.{child_types}
+use Rattle.arrow_growable.specs.Growable.{IsGrowable}
+use Rattle.arrow_growable.proofs.ColumnLemmas.{list_child_types, struct_child_types}
+use Rattle.arrow_growable.proofs.GrowableLemmas.{MayGrow, child_grows, may_grow}
 use Rattle.arrow_select.specs.Arrays.{CanGrow}
 use Rattle.arrow_select.specs.Keys.{HasNoKeys, HaveNoKeys}
 
@@ -41,15 +50,11 @@ none_crowded layouts l i start len source none crowded =
 
 -- the kinds of arrays that can't grow
 abbrev IsOther : Kind → Type 0
-IsOther fixed_size_list_kind = Unit {0}
-IsOther struct_kind = Unit {0}
 IsOther union_kind = Unit {0}
 IsOther dictionary_kind = Unit {0}
 IsOther _ = ⊥
 
 grows_none : (p : PhysicalType) → MayGrow p → IsOther (kind_in p) → ⊥
-grows_none physical.FixedSizeList may other = may
-grows_none physical.Struct may other = may
 grows_none physical.Union may other = may
 grows_none (physical.Dictionary keys) may other = may
 grows_none _ may other = other
@@ -58,19 +63,51 @@ other_array : (array : AnyArray) → CanGrow array → kind_in (physical_type_of
 other_array array grows kind other =
     grows_none (physical_type_of (any_array_type array)) (may_grow (any_array_type array) grows) (subst IsOther (sym kind) other)
 
--- an array without children, as each is that can grow but for lists and maps
-pub flat_has_none : (array : AnyArray) → CanGrow array → kind_in (physical_type_of (any_array_type array)) ≡ kind_of array → ((p : _) → array ≡ ListOf p → ⊥) → ((p : _) → array ≡ Map p → ⊥) → HasNoKeys (layout_of array)
-flat_has_none (Null p) grows kind no_list no_map = tt
-flat_has_none (Boolean p) grows kind no_list no_map = tt
-flat_has_none (Primitive p) grows kind no_list no_map = tt
-flat_has_none (Utf8 p) grows kind no_list no_map = tt
-flat_has_none (LargeUtf8 p) grows kind no_list no_map = tt
-flat_has_none (Binary p) grows kind no_list no_map = tt
-flat_has_none (LargeBinary p) grows kind no_list no_map = tt
-flat_has_none (FixedSizeBinary p) grows kind no_list no_map = tt
-flat_has_none (ListOf p) grows kind no_list no_map = absurd (no_list p refl)
-flat_has_none (FixedSizeList p) grows kind no_list no_map = absurd (other_array (FixedSizeList p) grows kind tt)
-flat_has_none (Struct p) grows kind no_list no_map = absurd (other_array (Struct p) grows kind tt)
-flat_has_none (Union p) grows kind no_list no_map = absurd (other_array (Union p) grows kind tt)
-flat_has_none (Map p) grows kind no_list no_map = absurd (no_map p refl)
-flat_has_none (Dictionary p) grows kind no_list no_map = absurd (other_array (Dictionary p) grows kind tt)
+-- an array without children, as each is that can grow but for lists of any form, maps and structs
+pub flat_has_none : (array : AnyArray) → CanGrow array → kind_in (physical_type_of (any_array_type array)) ≡ kind_of array → ((p : _) → array ≡ ListOf p → ⊥) → ((p : _) → array ≡ FixedSizeList p → ⊥) → ((p : _) → array ≡ Map p → ⊥) → ((p : _) → array ≡ Struct p → ⊥) → HasNoKeys (layout_of array)
+flat_has_none (Null p) grows kind no_list no_fixed no_map no_struct = tt
+flat_has_none (Boolean p) grows kind no_list no_fixed no_map no_struct = tt
+flat_has_none (Primitive p) grows kind no_list no_fixed no_map no_struct = tt
+flat_has_none (Utf8 p) grows kind no_list no_fixed no_map no_struct = tt
+flat_has_none (LargeUtf8 p) grows kind no_list no_fixed no_map no_struct = tt
+flat_has_none (Binary p) grows kind no_list no_fixed no_map no_struct = tt
+flat_has_none (LargeBinary p) grows kind no_list no_fixed no_map no_struct = tt
+flat_has_none (FixedSizeBinary p) grows kind no_list no_fixed no_map no_struct = tt
+flat_has_none (ListOf p) grows kind no_list no_fixed no_map no_struct = absurd (no_list p refl)
+flat_has_none (FixedSizeList p) grows kind no_list no_fixed no_map no_struct = absurd (no_fixed p refl)
+flat_has_none (Struct p) grows kind no_list no_fixed no_map no_struct = absurd (no_struct p refl)
+flat_has_none (Union p) grows kind no_list no_fixed no_map no_struct = absurd (other_array (Union p) grows kind tt)
+flat_has_none (Map p) grows kind no_list no_fixed no_map no_struct = absurd (no_map p refl)
+flat_has_none (Dictionary p) grows kind no_list no_fixed no_map no_struct = absurd (other_array (Dictionary p) grows kind tt)
+
+-- items of lists whose type can grow can
+pub items_grow : (t : ArrowType) → IsGrowable t → shape_in t ≡ list_shape → IsGrowable (item_type t)
+items_grow t grows shape =
+    let one = list_child_types t shape in
+    subst (λ ts. IsGrowable (get_or ts 0 (plain null))) one (child_grows t 0 grows (omega (arith, ap length one)))
+
+-- and so can the children of structs
+pub children_grow : (t : ArrowType) (arrays : List AnyArray) (children : List Layout) → IsGrowable t → shape_in t ≡ struct_shape → map layout_of arrays ≡ children → map type_of_layout children ≡ field_types t → All CanGrow arrays
+children_grow t arrays children grows shape same fields =
+    λ k d within.
+        let types : map type_of_layout (map layout_of arrays) ≡ child_types t = ap (map type_of_layout) same ∙ (fields ∙ sym (struct_child_types t shape)) in
+        let there : k < length (map layout_of arrays) = omega (arith, within, length-map arrays layout_of) in
+        let among : k < length (child_types t) = omega (arith, there, ap length types, length-map (map layout_of arrays) type_of_layout) in
+        let read : get_or (child_types t) k (plain null) ≡ any_array_type (get_or arrays k d) = ap (λ ts. get_or ts k (plain null)) (sym types) ∙ (get_or-map type_of_layout (map layout_of arrays) k (layout_of d) (plain null) there ∙ ap type_of_layout (get_or-map layout_of arrays k d (layout_of d) within)) in
+        subst IsGrowable read (child_grows t k grows among)
+
+-- each of several layouts holds none
+pub all_have_none : (ls : List Layout) → All HasNoKeys ls → HaveNoKeys (to_layouts ls)
+all_have_none [] all = tt
+all_have_none (l ∷ ls) all =
+    (all 0 l (omega arith), all_have_none ls (λ k d within. all (suc k) d (omega (arith, within))))
+
+has_none_at : (arrays : List AnyArray) (i : ℕ) (x : AnyArray) → i < length arrays → x ≡ get_or arrays i x → HasNoKeys (layout_of x) → ((k : ℕ) (d : AnyArray) → k < i → HasNoKeys (layout_of (get_or arrays k d))) → (k : ℕ) (d : AnyArray) → (k ≡ i) ⊎ (k < i) → HasNoKeys (layout_of (get_or arrays k d))
+has_none_at arrays i x within read none before k d (inl same) =
+    subst (λ y. HasNoKeys (layout_of y)) (read ∙ (get_or_default arrays i x d within ∙ ap (λ j. get_or arrays j d) (sym same))) none
+has_none_at arrays i x within read none before k d (inr less) = before k d less
+
+-- one array more
+pub next_has_none : (arrays : List AnyArray) (i : ℕ) (x : AnyArray) → i < length arrays → x ≡ get_or arrays i x → HasNoKeys (layout_of x) → ((k : ℕ) (d : AnyArray) → k < i → HasNoKeys (layout_of (get_or arrays k d))) → (k : ℕ) (d : AnyArray) → k < i + 1 → HasNoKeys (layout_of (get_or arrays k d))
+next_has_none arrays i x within read none before k d less =
+    has_none_at arrays i x within read none before k d (eq-or-lt_of_le (omega (arith, less)))

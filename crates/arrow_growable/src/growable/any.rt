@@ -119,6 +119,7 @@ impl<'a> Growable<'a> for AnyGrowable<'a> {
         of_any!(self, growable => growable.extend(index, start, len))
     }
 
+    #[cycle(extend_validity)]
     fn extend_validity(&mut self, additional: usize) -> Result<(), Error> {
         of_any!(self, growable => growable.extend_validity(additional))
     }

@@ -4,10 +4,10 @@ ghost use Rattle.std.specs.Prelude.{◌≡◌, ◌<◌, ◌↔◌, length, map, 
 ghost use Rattle.arrow_types.specs.declared.error.Error.{Error};
 ghost use Rattle.arrow_types.specs.declared.datatypes.physical_type.PhysicalType.TheVariants as physical;
 ghost use Rattle.arrow_types.specs.Physical.{physical_type_of};
-ghost use Rattle.arrow_types.specs.TypeOf.{type_of};
+ghost use Rattle.arrow_types.specs.TypeOf.{fields_of, type_of};
 ghost use Rattle.arrow_arrays.specs.Any.{kind_in, kind_of, layout_of, null_kind};
 ghost use Rattle.arrow_growable.specs.AnyGrowable.{grown_of, primitive_grown_of};
-ghost use Rattle.arrow_growable.specs.Growable.{IsGrowable};
+ghost use Rattle.arrow_growable.specs.Growable.{AreGrowable, IsGrowable};
 ghost use Rattle.arrow_flat_growable.specs.Grown.{AreOfOneType, bound_to, first_type};
 ghost use Rattle.arrow_flat_growable.specs.Nulls.{null_layout};
 
@@ -17,7 +17,7 @@ use crate::growable::{
 };
 use arrow_arrays::array::AnyArray;
 use arrow_flat::array::NullArray;
-use arrow_types::datatypes::{DataType, PhysicalType};
+use arrow_types::datatypes::{DataType, Field, PhysicalType};
 use arrow_types::error::Error;
 use arrow_types::types::PrimitiveType;
 use std::alloc::Global;
@@ -76,21 +76,34 @@ pub fn make_growable<'a>(
     }
 }
 
-/// Whether arrays of a data type can grow, as [`make_growable`] asks: a type without children, or lists or maps,
-/// at any depth, of such a type.
+/// Whether arrays of a data type can grow, as [`make_growable`] asks: a type without children, or lists of any form,
+/// maps or structs, at any depth, of such types.
+#[cycle(is_growable)]
 pub fn is_growable(data_type: &DataType) -> bool
     ensures { IsTrue result ↔ IsGrowable (type_of data_type.now) }
 {
     match data_type {
         DataType::List(field) | DataType::LargeList(field) => is_growable(field.data_type()),
+        DataType::FixedSizeList(field, _size) => is_growable(field.data_type()),
         DataType::Map(field, _sorted) => is_growable(field.data_type()),
+        DataType::Struct(fields) => are_growable(fields),
         DataType::Extension(_, inner, _) => is_growable(inner),
-        DataType::FixedSizeList(_, _)
-        | DataType::Struct(_)
-        | DataType::Union(_, _, _)
-        | DataType::Dictionary(_, _, _) => false,
+        DataType::Union(_, _, _) | DataType::Dictionary(_, _, _) => false,
         _ => true,
     }
+}
+
+/// Whether arrays of the type of each field can grow.
+#[cycle(is_growable)]
+fn are_growable(fields: &[Field]) -> bool
+    ensures { IsTrue result ↔ AreGrowable (fields_of fields.now) }
+{
+    for field in fields {
+        if !is_growable(field.data_type()) {
+            return false;
+        }
+    }
+    true
 }
 
 /// A growable over arrays that lie in memory as its values do.

@@ -1,29 +1,40 @@
-//! Where the rows of an array lie in its child.
+//! Where the rows of an array lie in its children.
 
-ghost use Rattle.std.specs.Prelude.{◌≡◌, ◌+◌, ◌<◌, ◌≤◌, length, slice_index};
+ghost use Rattle.std.specs.Prelude.{◌≡◌, ◌+◌, ◌*◌, ◌≤◌};
 ghost use Rattle.arrow_types.specs.Physical.{physical_type_of};
-ghost use Rattle.arrow_types.specs.declared.datatypes.physical_type.PhysicalType.TheVariants as physical;
-ghost use Rattle.arrow_memory.specs.Offsets.{IsOffsets, last_of};
-ghost use Rattle.arrow_arrays.specs.AnyOffsetsBuffer.{offsets_of, lists_of};
-ghost use Rattle.arrow_growable.specs.Spans.{span_offsets, span_lists};
+ghost use Rattle.arrow_arrays.specs.FixedListParts.{fixed_list_layout};
+ghost use Rattle.arrow_arrays.specs.ListParts.{list_layout};
+ghost use Rattle.arrow_arrays.specs.StructParts.{struct_layout};
+ghost use Rattle.arrow_growable.specs.Lies.{Lies};
+ghost use Rattle.arrow_growable.specs.Spans.{AreSpans, span_count, span_nulls, span_place};
 
-use arrow_arrays::array::{AnyOffsetsBuffer, ListArray, MapArray};
+use arrow_arrays::array::{AnyOffsetsBuffer, FixedSizeListArray, ListArray, MapArray, StructArray};
 use arrow_memory::offset::OffsetsBuffer;
 
-/// The offsets of an array of lists, of large lists or of maps.
+/// Where the rows of an array lie in its children.
 #[derive(Clone, Copy)]
 pub enum Spans<'a> {
+    /// Those of a list: from an offset to the next one.
     Small(&'a OffsetsBuffer<i32>),
+    /// Those of a large list.
     Large(&'a OffsetsBuffer<i64>),
+    /// Those of a map.
     Map(&'a OffsetsBuffer<i32>),
+    /// Those of a fixed-size list: so many items each, of so many items.
+    FixedSize(usize, usize),
+    /// Those of a struct: a row of each child, of so many.
+    Fields(usize),
 }
 
 impl<'a> Spans<'a> {
     /// Those of lists.
     pub(crate) fn of_lists(array: &'a ListArray) -> Spans<'a>
-        ensures same { span_offsets result ≡ array.now.offsets }
-        ensures lists { span_lists result ≡ physical_type_of array.now.arrow_type }
+        ensures lies { Lies result (list_layout array.now) }
     {
+        // Offsets lie inside the child, and there is a row and a bit for each but one of them.
+        let _ = array.values();
+        let _ = array.len();
+        let _ = array.validity();
         match array.offsets() {
             AnyOffsetsBuffer::Small(offsets) => Spans::Small(offsets),
             AnyOffsetsBuffer::Large(offsets) => Spans::Large(offsets),
@@ -32,38 +43,67 @@ impl<'a> Spans<'a> {
 
     /// Those of maps.
     pub(crate) fn of_maps(array: &'a MapArray) -> Spans<'a>
-        ensures same { span_offsets result ≡ array.now.offsets }
-        ensures lists { span_lists result ≡ physical_type_of array.now.arrow_type }
+        ensures lies { Lies result (list_layout array.now) }
     {
-        // The data type is a map's.
+        // The data type is a map's; the rest is as for lists.
         let _ = array.data_type();
+        let _ = array.field();
+        let _ = array.len();
+        let _ = array.validity();
         Spans::Map(array.offsets())
     }
 
-    /// How many offsets there are: one more than the rows.
-    pub(crate) fn len(&self) -> usize
-        ensures count { result ≡ length (span_offsets self.now) }
-        ensures sound { IsOffsets (span_offsets self.now) }
+    /// Those of lists of a fixed size.
+    pub(crate) fn of_fixed_size_lists(array: &'a FixedSizeListArray) -> Spans<'a>
+        ensures lies { Lies result (fixed_list_layout array.now) }
     {
-        match self {
-            Spans::Small(offsets) => offsets.len(),
-            Spans::Large(offsets) => offsets.len(),
-            Spans::Map(offsets) => offsets.len(),
+        // The data type is a fixed-size list's, and there is a bit for each row.
+        let _ = array.data_type();
+        let _ = array.len();
+        let _ = array.validity();
+        Spans::FixedSize(array.size(), array.values().len())
+    }
+
+    /// Those of structs.
+    pub(crate) fn of_structs(array: &'a StructArray) -> Spans<'a>
+        ensures lies { Lies result (struct_layout array.now) }
+    {
+        // The data type is a struct's, and there is a row of each child and a bit for each row.
+        let _ = array.data_type();
+        let _ = array.values();
+        let _ = array.validity();
+        Spans::Fields(array.len())
+    }
+
+    /// How many null slots so many null rows have in each child.
+    pub(crate) fn nulls_of(&self, rows: usize) -> usize
+        requires sound { AreSpans self.now }
+        requires part { rows ≤ span_count self.now }
+        ensures { result ≡ rows * span_nulls self.now }
+    {
+        // The counts are read by value: there each is known to fit a `usize`, and so do the products.
+        match *self {
+            Spans::Small(_) | Spans::Large(_) | Spans::Map(_) => 0,
+            Spans::FixedSize(size, _items) => rows * size,
+            Spans::Fields(_) => rows,
         }
     }
 
-    /// Where the first of `len` rows from row `start` on begins, and the last of them ends.
+    /// Where the first of `len` rows from row `start` on begins in each child, and the last of them ends.
     pub(crate) fn range(&self, start: usize, len: usize) -> (usize, usize)
-        requires { start + len < length (span_offsets self.now) }
-        ensures start { result.0 ≡ slice_index (span_offsets self.now) start }
-        ensures end { result.1 ≡ slice_index (span_offsets self.now) (start + len) }
+        requires sound { AreSpans self.now }
+        requires part { start + len ≤ span_count self.now }
+        ensures start { result.0 ≡ span_place self.now start }
+        ensures end { result.1 ≡ span_place self.now (start + len) }
         ensures rises { result.0 ≤ result.1 }
-        ensures within { result.1 ≤ last_of (span_offsets self.now) }
     {
-        match self {
+        // The counts are read by value: there each is known to fit a `usize`, and so do the products.
+        match *self {
             Spans::Small(offsets) => offsets.range(start, len),
             Spans::Large(offsets) => offsets.range(start, len),
             Spans::Map(offsets) => offsets.range(start, len),
+            Spans::FixedSize(size, _items) => (start * size, (start + len) * size),
+            Spans::Fields(_rows) => (start, start + len),
         }
     }
 }

@@ -2,20 +2,29 @@
 
 ghost use Rattle.std.specs.Prelude.{◌≡◌, ◌<◌, ◌↔◌, true, Err, length, map, IfOk, IfErr, IsOkUnless};
 ghost use Rattle.arrow_types.specs.declared.error.Error.{Error};
-ghost use Rattle.arrow_arrays.specs.ListParts.{list_layout, list_rows};
+ghost use Rattle.arrow_arrays.specs.Layout.{rows, type_of_layout};
 ghost use Rattle.arrow_flat_growable.specs.Grown.{AreOfOneType, IsFailedOrMemory, bound_to, first_type};
 ghost use Rattle.arrow_growable.specs.Growable.{IsGrowable};
 
 use crate::growable::Growable;
 use crate::growable::bound::NestedArray;
 use crate::growable::nested::GrowableNested;
-use arrow_arrays::array::{AnyArray, ListArray};
+use arrow_arrays::array::{AnyArray, FixedSizeListArray, ListArray, MapArray, StructArray};
 use arrow_types::error::Error;
 use std::alloc::Global;
 use std::marker::{Model, PhantomData};
 
 /// An array of lists under construction, under offsets of either width.
 pub type GrowableList<'a> = GrowableOf<'a, ListArray>;
+
+/// An array of lists of a fixed size under construction.
+pub type GrowableFixedSizeList<'a> = GrowableOf<'a, FixedSizeListArray>;
+
+/// An array of maps under construction.
+pub type GrowableMap<'a> = GrowableOf<'a, MapArray>;
+
+/// An array of structs under construction.
+pub type GrowableStruct<'a> = GrowableOf<'a, StructArray>;
 
 /// An array with children under construction, over arrays of one kind.
 #[derive(Drop)]
@@ -59,9 +68,9 @@ impl<'a, A: NestedArray> GrowableOf<'a, A> {
         capacity: usize,
     ) -> Result<GrowableOf<'a, A>, Error>
         requires some { 0 < length arrays.items }
-        requires one_type { AreOfOneType (map list_layout (map (λ r. A.parts_in r.now) arrays.items)) }
-        requires growable { IsGrowable (first_type (map list_layout (map (λ r. A.parts_in r.now) arrays.items))) }
-        ensures ok { IfOk result (λ growable. growable ≡ bound_to (map list_layout (map (λ r. A.parts_in r.now) arrays.entry.items))) }
+        requires one_type { AreOfOneType (map (λ r. A.layout_in r.now) arrays.items) }
+        requires growable { IsGrowable (first_type (map (λ r. A.layout_in r.now) arrays.items)) }
+        ensures ok { IfOk result (λ growable. growable ≡ bound_to (map (λ r. A.layout_in r.now) arrays.entry.items)) }
         ensures err { IsOkUnless result Error.OutOfMemory }
     {
         // The kind of arrays follows from their data type.
@@ -79,7 +88,7 @@ impl<'a, A: NestedArray> GrowableOf<'a, A> {
     /// # Errors
     /// `Failed` where an earlier call refused; `OutOfMemory` where memory is refused.
     pub fn into_array(self) -> Result<A, Error>
-        ensures ok { IfOk result (λ array. ((A.parts_in array).arrow_type ≡ self.entry.arrow_type) × (list_rows (A.parts_in array) ≡ self.entry.rows)) }
+        ensures ok { IfOk result (λ array. (type_of_layout (A.layout_in array) ≡ self.entry.arrow_type) × (rows (A.layout_in array) ≡ self.entry.rows)) }
         ensures failed { (result ≡ Err Error.Failed) ↔ (self.entry.failed ≡ true) }
         ensures others { IfErr result IsFailedOrMemory }
     {

@@ -1,20 +1,127 @@
-use Rattle.std.proofs.Common.{◌≡◌, Some, ap, sym, subst, ◌∙◌}
+use Rattle.std.proofs.Common.{arith, ◌≡◌, ◌<◌, length, map, refl, ap, sym, subst, ◌∙◌}
+use Rattle.std.proofs.lemmas.List.{length-map, length-set, take_all}
 use Rattle.arrow_types.specs.TypeOf.{type_of}
-use Rattle.arrow_flat.specs.Faults.{IsCarriedAs}
-use Rattle.arrow_arrays.specs.TypeParts.{item_type}
-use Rattle.arrow_flat_growable.specs.Grown.{empty_over}
+use Rattle.arrow_arrays.specs.Any.{any_array_rows, any_array_type}
+use Rattle.arrow_arrays.specs.TypeDepth.{deepest, type_depth}
+use Rattle.arrow_arrays.proofs.SliceLemmas.{all_changed, changed_next, changed_read, in_map, rest_as_was, written}
+use Rattle.arrow_flat_growable.specs.Grown.{Grown, HoldsRows}
 use Rattle.arrow_growable.specs.AnyGrowable.{grown_of}
-use Rattle.arrow_growable.specs.Bound.{bound_children, bound_layouts}
-use Rattle.arrow_growable.specs.GrowableOffsets.{grown_lists}
-use Rattle.arrow_growable.proofs.ListLemmas.{list_empty}
+use Rattle.arrow_growable.specs.Child.{AreBoundAs, IsWell, emptied_of}
+use Rattle.arrow_growable.specs.FormLaws.{deepest_child}
+use Rattle.arrow_growable.specs.GrowableSpans.{form_of, grown_arrays}
+use Rattle.arrow_growable.specs.Nested.{AreWhole, rows_of_all}
+use Rattle.arrow_growable.proofs.ChildLemmas.{only_memory}
+use Rattle.arrow_growable.proofs.LoopLemmas.{as_many_items, bound_after, deepest_at, taken_next}
+use Rattle.arrow_growable.proofs.StepLemmas.{all_well, bound_map, emptied_same, failed_parts, parts_left, spans_lie, whole_of}
 use Rattle.arrow_growable.proofs.growable.+as_box.Goals as goal
 
+-- all children
+
+pub children::box_children-loop-child-init : goal.children::box_children-loop-child-init
+children::box_children-loop-child-init t c =
+    ((refl, λ k d within. refl), λ k d within. absurd (omega (arith, within)), ap (map any_array_type) c.in_ok-arrays.ensures.items, ap (map any_array_rows) c.in_ok-arrays.ensures.items)
+
+pub children::box_children-as_box-requires : goal.children::box_children-as_box-requires
+children::box_children-as_box-requires t c =
+    let was = c.args.children.now in
+    let k = c.loop-child.child-index in
+    let e = c.child-item.result in
+    let now = c.loop-child.invariant.0.1 k e (omega arith) in
+    rw now (omega (arith, c.decreases, deepest_at was k e c.loop-child-test.true))
+
+pub children::box_children-returns-in_err-as_box-clause-kept : goal.children::box_children-returns-in_err-as_box-clause-kept
+children::box_children-returns-in_err-as_box-clause-kept t c =
+    let i = c.loop-child.invariant in
+    let failed = c.in_err-as_box.ensures.err in
+    bound_after emptied_of (λ g. refl) (λ g. refl) c.loop-child.child-items c.args.children.now c.loop-child.child-index c.as_box.new.self c.child-item.result i.0.0 c.loop-child-test.true i.0.1 i.1 (record { same_type = failed.same_type; same_sources = failed.same_sources })
+
+pub children::box_children-returns-in_err-as_box-clause-err : goal.children::box_children-returns-in_err-as_box-clause-err
+children::box_children-returns-in_err-as_box-clause-err t c =
+    let was = c.args.children.now in
+    let k = c.loop-child.child-index in
+    let e = c.child-item.result in
+    let now = c.loop-child.invariant.0.1 k e (omega arith) in
+    let well = in_map grown_of IsWell was k e c.requires.well c.loop-child-test.true in
+    only_memory c.from_residual-in_err-as_box.result _ _ c.from_residual-in_err-as_box.ensures.1 c.in_err-as_box.ensures.others c.in_err-as_box.ensures.failed (ap (λ x. (grown_of x).failed) now ∙ well.well)
+
+pub children::box_children-returns-in_err-push-clause-kept : goal.children::box_children-returns-in_err-push-clause-kept
+children::box_children-returns-in_err-push-clause-kept t c =
+    let i = c.loop-child.invariant in
+    let left = c.in_ok-as_box.ensures.left in
+    bound_after emptied_of (λ g. refl) (λ g. refl) c.loop-child.child-items c.args.children.now c.loop-child.child-index c.as_box.new.self c.child-item.result i.0.0 c.loop-child-test.true i.0.1 i.1 (record { same_type = ap (λ g. g.arrow_type) left; same_sources = ap (λ g. g.sources) left })
+
+pub children::box_children-loop-child-preserved : goal.children::box_children-loop-child-preserved
+children::box_children-loop-child-preserved t c =
+    let was = c.args.children.now in
+    let items = c.loop-child.child-items in
+    let k = c.loop-child.child-index in
+    let x = c.as_box.new.self in
+    let e = c.child-item.result in
+    let i = c.loop-child.invariant in
+    let among = c.loop-child-test.true in
+    let here : k < length items = omega (arith, among, i.0.0) in
+    let now = i.0.1 k e (omega arith) in
+    let new = changed_read grown_of emptied_of items was k x e among now c.in_ok-as_box.ensures.left in
+    let array = c.in_ok-as_box.field-0 in
+    let made = subst (λ y. HoldsRows (grown_of y) array) now c.in_ok-as_box.ensures.ok in
+    ((length-set items k x ∙ i.0.0, rest_as_was items was k x i.0.1), changed_next grown_of emptied_of items was k x here i.1 new, rw c.in_ok-push.ensures.items (taken_next (λ (g : Grown). g.arrow_type) any_array_type was c.loop-child.arrays.items array k e among made.0 i.2), rw c.in_ok-push.ensures.items (taken_next (λ (g : Grown). g.rows) any_array_rows was c.loop-child.arrays.items array k e among made.1 i.3))
+
+pub children::box_children-returns-clause-types : goal.children::box_children-returns-clause-types
+children::box_children-returns-clause-types t c =
+    let was = c.args.children.now in
+    c.loop-child.invariant.2 ∙ ap (map (λ (g : Grown). g.arrow_type)) (take_all c.loop-child.child-index (map grown_of was) (omega (arith, c.loop-child-test.false, length-map was grown_of)))
+
+pub children::box_children-returns-clause-rows : goal.children::box_children-returns-clause-rows
+children::box_children-returns-clause-rows t c =
+    let was = c.args.children.now in
+    c.loop-child.invariant.3 ∙ ap (map (λ (g : Grown). g.rows)) (take_all c.loop-child.child-index (map grown_of was) (omega (arith, c.loop-child-test.false, length-map was grown_of)))
+
+pub children::box_children-returns-clause-left : goal.children::box_children-returns-clause-left
+children::box_children-returns-clause-left t c =
+    let i = c.loop-child.invariant in
+    all_changed grown_of emptied_of c.loop-child.child-items c.args.children.now i.0.0 (λ k d before. i.1 k d (omega (arith, before, c.loop-child-test.false)))
+
+pub children::box_children-returns-clause-kept : goal.children::box_children-returns-clause-kept
+children::box_children-returns-clause-kept t c =
+    let i = c.loop-child.invariant in
+    let whole = all_changed grown_of emptied_of c.loop-child.child-items c.args.children.now i.0.0 (λ k d before. i.1 k d (omega (arith, before, c.loop-child-test.false))) in
+    subst (AreBoundAs (map grown_of c.args.children.now)) (sym whole) (bound_map emptied_of (map grown_of c.args.children.now) (λ g. refl) (λ g. refl))
+
+-- the growable
+
+pub nested::GrowableNestedGrowable::as_box-box_children-requires : goal.nested::GrowableNestedGrowable::as_box-box_children-requires
+nested::GrowableNestedGrowable::as_box-box_children-requires t c =
+    let u = type_of c.self.inside.data_type in
+    let outer = ap (λ (g : Grown). type_depth g.arrow_type) c.self.view_is in
+    let inner = ap (λ xs. deepest (map (λ g. g.arrow_type) (map grown_of xs))) c.deref_mut.ensures.value ∙ ap deepest c.self.invariant.types in
+    let well = all_well _ _ _ _ _ (c.self.invariant.holds c.if-self.false) in
+    (omega (arith, inner, deepest_child u, outer, c.decreases), rw c.deref_mut.ensures.value well)
+
+pub nested::GrowableNestedGrowable::as_box-invariant_of-self-in_err-values : goal.nested::GrowableNestedGrowable::as_box-invariant_of-self-in_err-values
+nested::GrowableNestedGrowable::as_box-invariant_of-self-in_err-values t c =
+    let kept = subst (λ xs. AreBoundAs (map grown_of xs) (map grown_of c.box_children.new.children)) c.deref_mut.ensures.value c.in_err-values.ensures.kept in
+    let back = written c.box_children.new.children c.self.inside.children.items c.self.inside.children.len (as_many_items c.deref_mut.result.now c.box_children.new.children c.in_err-values.ensures.kept ∙ c.deref_mut.ensures.len) in
+    rw back (failed_parts _ _ _ _ _ _ _ _ _ _ _ _ c.self.invariant refl refl kept)
+
+pub nested::GrowableNestedGrowable::as_box-finish-requires-clause-whole : goal.nested::GrowableNestedGrowable::as_box-finish-requires-clause-whole
+nested::GrowableNestedGrowable::as_box-finish-requires-clause-whole t c =
+    let inside = c.self.inside in
+    let rows = c.in_ok-values.ensures.rows ∙ ap (λ xs. rows_of_all (map grown_of xs)) c.deref_mut.ensures.value in
+    let whole = whole_of _ _ _ _ _ (c.self.invariant.holds c.if-self.false) in
+    rw (c.replace-spans.ensures.value, c.replace-validity.ensures.value) (subst (AreWhole (form_of inside.spans) (length inside.validity)) (sym rows) whole)
+
+pub nested::GrowableNestedGrowable::as_box-invariant_of-self-in_err-array : goal.nested::GrowableNestedGrowable::as_box-invariant_of-self-in_err-array
+nested::GrowableNestedGrowable::as_box-invariant_of-self-in_err-array t c =
+    let kept = subst (λ xs. AreBoundAs (map grown_of xs) (map grown_of c.box_children.new.children)) c.deref_mut.ensures.value c.in_ok-values.ensures.kept in
+    let back = written c.box_children.new.children c.self.inside.children.items c.self.inside.children.len (as_many_items c.deref_mut.result.now c.box_children.new.children c.in_ok-values.ensures.kept ∙ c.deref_mut.ensures.len) in
+    let arrays = ap grown_arrays c.replace-spans.ensures.after ∙ c.in_ok-spans.ensures.arrays in
+    let form = ap form_of c.replace-spans.ensures.after ∙ c.in_ok-spans.ensures.ok in
+    rw back (failed_parts _ _ _ _ _ _ _ _ _ _ _ _ c.self.invariant arrays (emptied_same _ _ form) kept)
+
 pub nested::GrowableNestedGrowable::as_box-invariant_of-self-2 : goal.nested::GrowableNestedGrowable::as_box-invariant_of-self-2
-nested::GrowableNestedGrowable::as_box-invariant_of-self-2 d c =
-    let t = type_of c.self.inside.data_type in
-    let layouts = bound_layouts c.self.inside.arrays in
-    let children = bound_children c.self.inside.arrays in
-    let parts = c.self.invariant in
-    let left : grown_of c.as_box.new.self ≡ empty_over (item_type t) (Some children) = c.in_ok-child.ensures.left ∙ (ap (λ g. empty_over (grown_of g).arrow_type (grown_of g).sources) c.deref_mut.ensures.value ∙ (λ i. empty_over (parts.child i) (parts.sources i))) in
-    let kind : IsCarriedAs (grown_lists c.in_ok-offsets.offsets) t = subst (λ l. IsCarriedAs l t) (sym c.in_ok-offsets.ensures.width) parts.kind in
-    rw (c.replace-offsets.ensures.after, c.replace-validity.ensures.after) (list_empty _ _ _ _ layouts children t kind parts.one_type left c.in_ok-offsets.ensures.ok c.in_ok-validity.ensures.ok)
+nested::GrowableNestedGrowable::as_box-invariant_of-self-2 t c =
+    let back = written c.box_children.new.children c.self.inside.children.items c.self.inside.children.len (as_many_items c.deref_mut.result.now c.box_children.new.children c.in_ok-values.ensures.kept ∙ c.deref_mut.ensures.len) in
+    let arrays = ap grown_arrays c.replace-spans.ensures.after ∙ c.in_ok-spans.ensures.arrays in
+    let form = ap form_of c.replace-spans.ensures.after ∙ c.in_ok-spans.ensures.ok in
+    let left = subst (λ xs. map grown_of c.box_children.new.children ≡ map emptied_of (map grown_of xs)) c.deref_mut.ensures.value c.in_ok-values.ensures.left in
+    rw back (parts_left _ _ _ _ _ _ _ _ _ _ _ _ c.self.invariant (spans_lie c.self.inside.spans) arrays form left (c.replace-validity.ensures.after ∙ c.in_ok-validity.ensures.ok))

@@ -1,180 +1,259 @@
-use Rattle.std.proofs.Common.{rules, arith, ◌≡◌, ◌+◌, ◌<◌, ◌≤◌, ◌++◌, ℕ, Bool, false, List, Option, length, slice_index, Some, None, Err, inl, ap, sym, subst, ◌∙◌}
-use Rattle.std.specs.Prelude.{IfSome}
-use Rattle.arrow_types.specs.declared.datatypes.physical_type.PhysicalType.{PhysicalType}
-use Rattle.arrow_types.specs.ArrowType.{ArrowType}
+use Rattle.std.proofs.Common.{rules, arith, ◌≡◌, ◌+◌, ◌<◌, ◌≤◌, ◌++◌, ℕ, Bool, false, List, Option, drop, length, map, take, Some, None, Err, inl, refl, ap, sym, subst, ◌∙◌}
+use Rattle.std.specs.Prelude.{IfSome, option_copied}
+use Rattle.std.proofs.lemmas.List.{length-map, length-set}
+use Rattle.std.proofs.lemmas.List.Elements.{All-map}
+use Rattle.arrow_types.specs.Fits.{Fits}
+use Rattle.arrow_types.specs.Slot.{null_slot}
 use Rattle.arrow_types.specs.TypeOf.{type_of}
-use Rattle.arrow_memory.specs.Offsets.{last_of, valid_items, with_valid_rows}
 use Rattle.arrow_memory.specs.Sliced.{sliced}
 use Rattle.arrow_memory.proofs.SlicedLemmas.{length-sliced}
-use Rattle.arrow_arrays.specs.Layout.{Layout, rows}
-use Rattle.arrow_arrays.specs.TypeDepth.{type_depth}
-use Rattle.arrow_flat_growable.specs.Grown.{Grown, CannotHold, NamesRows, source_at}
-use Rattle.arrow_flat_growable.specs.GrownRows.{valid_values}
 use Rattle.arrow_flat.specs.Parts.{bits_of_slice}
+use Rattle.arrow_arrays.specs.Layout.{rows}
+use Rattle.arrow_arrays.specs.TypeDepth.{deepest, type_depth}
+use Rattle.arrow_arrays.proofs.SliceLemmas.{all_changed, changed_next, changed_read, in_map, rest_as_was, written}
+use Rattle.arrow_flat_growable.specs.Grown.{Grown, CannotHold, FitsItself, NamesRows, source_at}
 use Rattle.arrow_flat_growable.proofs.FlatLemmas.{too_many}
 use Rattle.arrow_flat_growable.proofs.ResultLemmas.{on_ok, passed_on}
 use Rattle.arrow_flat_growable.proofs.ValidRowLemmas.{run_long}
 use Rattle.arrow_growable.specs.AnyGrowable.{grown_of}
-use Rattle.arrow_growable.specs.Bound.{bound_children, bound_layouts, part_at}
-use Rattle.arrow_growable.specs.Child.{BindsRows, CannotGrow, GrownBy, LiesIn, bound_rows}
-use Rattle.arrow_growable.specs.Falls.{items_less_deep}
-use Rattle.arrow_growable.specs.GrowableOffsets.{grown_offsets, grown_lists}
-use Rattle.arrow_growable.specs.Spans.{span_offsets}
-use Rattle.arrow_growable.specs.Lists.{IsGrownList, greatest_in, lists_rows}
-use Rattle.arrow_growable.proofs.ChildLemmas.{all_values, grows_more, lies_in_all, names_more, part_refused, rows_there, run_refused}
-use Rattle.arrow_growable.proofs.ListLemmas.{binds_child, child_is_well, child_rows_are, is_list_type, items_refused, list_counts, list_fits, lists_appended, lists_parts, names_bound, offsets_refused}
+use Rattle.arrow_growable.specs.Bound.{bound_layouts}
+use Rattle.arrow_growable.specs.Child.{AreBoundAs, BindsRows, CannotGrow, GrownBy, IsWell, LiesIn, SomeCannotGrow, bound_rows, grown_by, spread}
+use Rattle.arrow_growable.specs.Form.{nested_rows}
+use Rattle.arrow_growable.specs.FormLaws.{deepest_child}
+use Rattle.arrow_growable.specs.GrowableSpans.{IsSoundForm, PassesGreatest, form_of, form_with, grown_arrays}
+use Rattle.arrow_growable.specs.Nested.{IsGrownNested, rows_of_all}
+use Rattle.arrow_growable.specs.Spans.{span_count, span_nulls, span_place}
+use Rattle.arrow_growable.proofs.ChildLemmas.{grows_more, lies_in_all, names_more, names_there, nulls_refused, part_refused, run_refused}
+use Rattle.arrow_growable.proofs.GrownLemmas.{counts, offsets_refused}
+use Rattle.arrow_growable.proofs.LoopLemmas.{as_many_items, bound_after, deepest_at, holds_next, read_is}
+use Rattle.arrow_growable.proofs.SpreadLemmas.{spread_all}
+use Rattle.arrow_growable.proofs.StepLemmas.{Step, all_well, binds_all, bits_counted, bound_map, children_cannot, failed_parts, fits_step, lies_with, names_of, rises_in, spans_lie, step}
 use Rattle.arrow_growable.proofs.growable.+extend.Goals as goal
 use Rattle.arrow_growable.proofs.growable.+extend.Goals.{nested::GrowableNestedGrowable::extend-After-self-4-1}
 
--- the items of rows
+-- one child
 
-pub items::append_items-returns-in-None-clause-ok :
-    goal.items::append_items-returns-in-None-clause-ok
-items::append_items-returns-in-None-clause-ok t c =
-    let g = grown_of c.args.values.now in
-    let os = span_offsets c.args.rows.now in
-    let all = all_values os (bound_rows g c.args.index) c.args.len c.args.start c.len.ensures.sound (rows_there g c.args.index (last_of os) c.requires.bound) c.requires.part in
-    rw c.in-None.is (on_ok c.append_run.result c.append_run.ensures.ok (λ grown. subst (λ xs. GrownBy g (grown_of c.append_run.new.values) xs) (sym all) grown))
+pub children::extend_child-returns-in-None-clause-ok : goal.children::extend_child-returns-in-None-clause-ok
+children::extend_child-returns-in-None-clause-ok t c =
+    let g = grown_of c.args.child.now in
+    let spans = c.args.rows.now in
+    let all = spread_all (span_nulls spans) (null_slot g.arrow_type) (span_place spans) (bound_rows g c.args.index) (span_count spans) (rises_in spans g c.args.index c.requires.sound c.requires.bound) c.args.len c.args.start c.requires.part in
+    rw c.in-None.is (on_ok c.extend_run.result c.extend_run.ensures.ok (λ grown. subst (GrownBy g (grown_of c.extend_run.new.child)) (sym all) grown))
 
-pub items::append_items-returns-in-None-clause-overflow :
-    goal.items::append_items-returns-in-None-clause-overflow
-items::append_items-returns-in-None-clause-overflow t c overflows =
-    let g = grown_of c.args.values.now in
-    let os = span_offsets c.args.rows.now in
-    let all = all_values os (bound_rows g c.args.index) c.args.len c.args.start c.len.ensures.sound (rows_there g c.args.index (last_of os) c.requires.bound) c.requires.part in
-    rw c.in-None.is (subst (λ xs. CannotGrow g c.args.index (LiesIn (bits_of_slice None c.args.start c.args.len) (slice_index os) c.args.start) xs) (sym all) (names_more g c.args.index _ _ _ (λ j within. lies_in_all c.args.len (slice_index os) c.args.start j within) (c.append_run.ensures.overflow overflows)))
+pub children::extend_child-returns-in-None-clause-overflow : goal.children::extend_child-returns-in-None-clause-overflow
+children::extend_child-returns-in-None-clause-overflow t c overflows =
+    let g = grown_of c.args.child.now in
+    let spans = c.args.rows.now in
+    let all = spread_all (span_nulls spans) (null_slot g.arrow_type) (span_place spans) (bound_rows g c.args.index) (span_count spans) (rises_in spans g c.args.index c.requires.sound c.requires.bound) c.args.len c.args.start c.requires.part in
+    rw c.in-None.is (subst (CannotGrow g c.args.index (LiesIn (bits_of_slice None c.args.start c.args.len) (span_place spans) c.args.start)) (sym all) (names_more g c.args.index _ _ _ (λ j within. lies_in_all c.args.len (span_place spans) c.args.start j within) (c.extend_run.ensures.overflow overflows)))
 
-pub items::append_items-returns-in-Some-clause-overflow :
-    goal.items::append_items-returns-in-Some-clause-overflow
-items::append_items-returns-in-Some-clause-overflow t c overflows =
-    rw c.in-Some.is (c.append_runs.ensures.overflow overflows)
+pub children::extend_child-returns-in-Some-clause-overflow : goal.children::extend_child-returns-in-Some-clause-overflow
+children::extend_child-returns-in-Some-clause-overflow t c overflows =
+    rw c.in-Some.is (c.extend_runs.ensures.overflow overflows)
 
-pub items::append_run-returns-clause-overflow : goal.items::append_run-returns-clause-overflow
-items::append_run-returns-clause-overflow t c overflows =
-    part_refused (grown_of c.args.values.now) c.args.index _ c.requires.bound c.range-first.result.0 c.range-first.result.1 _ _ c.range-first.ensures.start c.range-first.ensures.end c.range-first.ensures.rises (c.extend.ensures.overflow overflows)
+-- all children
 
-pub items::append_runs-returns-in_err-append_run-clause-overflow :
-    goal.items::append_runs-returns-in_err-append_run-clause-overflow
-items::append_runs-returns-in_err-append_run-clause-overflow t c overflows =
-    let g = grown_of c.args.values.now in
-    let os = span_offsets c.args.rows.now in
-    let within = rows_there g c.args.index (last_of os) c.requires.bound in
-    let refused = c.in_err-append_run.ensures.overflow (ap Err (passed_on c.from_residual.result _ _ c.from_residual.ensures.1 overflows)) in
-    run_refused g (grown_of c.loop-row.values) c.args.index os (sliced c.args.validity.now c.args.start c.args.len) c.loop-row.left c.next_set-nulls.new.self c.args.start c.loop-row.row c.next_set-nulls.result.0 c.next_set-nulls.result.1 c.loop-row.invariant.1 c.next_set-nulls.ensures.bits c.len.ensures.sound within (omega (arith, c.loop-row.invariant.0, c.requires.part)) refused
+pub children::extend_children-extend_child-requires : goal.children::extend_children-extend_child-requires
+children::extend_children-extend_child-requires t c =
+    let was = c.args.children.now in
+    let k = c.loop-child.child-index in
+    let e = c.child-item.result in
+    let spans = c.args.rows.now in
+    let among : k < length was = omega (arith, c.loop-child-test.true, c.loop-child.invariant.0.0) in
+    let now = c.loop-child.invariant.0.1 k e (omega arith) in
+    rw now (omega (arith, c.decreases, deepest_at was k e among), (c.requires.sound, (c.requires.part, (c.requires.covered, (in_map grown_of (λ g. BindsRows g c.args.index (span_place spans (span_count spans))) was k e c.requires.bound among, in_map grown_of IsWell was k e c.requires.well among)))))
 
-pub items::append_runs-loop-row-preserved : goal.items::append_runs-loop-row-preserved
-items::append_runs-loop-row-preserved t c =
-    let g = grown_of c.args.values.now in
-    let os = span_offsets c.args.rows.now in
-    let within = rows_there g c.args.index (last_of os) c.requires.bound in
+pub children::extend_children-returns-in_err-extend_child-clause-kept : goal.children::extend_children-returns-in_err-extend_child-clause-kept
+children::extend_children-returns-in_err-extend_child-clause-kept t c =
+    let spans = c.args.rows.now in
+    let i = c.loop-child.invariant in
+    bound_after (grown_by (span_nulls spans) (bits_of_slice _ c.args.start c.args.len) (span_place spans) c.args.index c.args.start) (λ g. refl) (λ g. refl) c.loop-child.child-items c.args.children.now c.loop-child.child-index c.extend_child.new.child c.child-item.result i.0.0 (omega (arith, c.loop-child-test.true, i.0.0)) i.0.1 i.1 c.in_err-extend_child.ensures.kept
+
+pub children::extend_children-returns-in_err-extend_child-clause-overflow : goal.children::extend_children-returns-in_err-extend_child-clause-overflow
+children::extend_children-returns-in_err-extend_child-clause-overflow t c overflows =
+    let was = c.args.children.now in
+    let k = c.loop-child.child-index in
+    let e = c.child-item.result in
+    let spans = c.args.rows.now in
+    let bits = bits_of_slice (option_copied c.args.validity) c.args.start c.args.len in
+    let among : k < length was = omega (arith, c.loop-child-test.true, c.loop-child.invariant.0.0) in
+    let now = c.loop-child.invariant.0.1 k e (omega arith) in
+    let refused = c.in_err-extend_child.ensures.overflow (ap Err (passed_on c.from_residual.result _ _ c.from_residual.ensures.1 overflows)) in
+    (k, omega (arith, among, length-map was grown_of), λ d. subst (λ g. CannotGrow g c.args.index (LiesIn bits (span_place spans) c.args.start) (spread (span_nulls spans) (null_slot g.arrow_type) bits (span_place spans) (bound_rows g c.args.index) c.args.start)) (sym (read_is c.loop-child.child-items was k e d among now)) refused)
+
+pub children::extend_children-loop-child-preserved : goal.children::extend_children-loop-child-preserved
+children::extend_children-loop-child-preserved t c =
+    let was = c.args.children.now in
+    let items = c.loop-child.child-items in
+    let k = c.loop-child.child-index in
+    let x = c.extend_child.new.child in
+    let e = c.child-item.result in
+    let i = c.loop-child.invariant in
+    let spans = c.args.rows.now in
+    let change = grown_by (span_nulls spans) (bits_of_slice (option_copied c.args.validity) c.args.start c.args.len) (span_place spans) c.args.index c.args.start in
+    let among : k < length was = omega (arith, c.loop-child-test.true, i.0.0) in
+    let here : k < length items = omega (arith, among, i.0.0) in
+    let new = changed_read grown_of change items was k x e among (i.0.1 k e (omega arith)) c.in_ok-extend_child.ensures.ok.grown in
+    ((length-set items k x ∙ i.0.0, rest_as_was items was k x i.0.1), changed_next grown_of change items was k x here i.1 new, holds_next (λ y. FitsItself (grown_of y)) items k x here i.2 c.in_ok-extend_child.ensures.ok.fits)
+
+pub children::extend_children-returns-clause-ok : goal.children::extend_children-returns-clause-ok
+children::extend_children-returns-clause-ok t c =
+    let i = c.loop-child.invariant in
+    all_changed grown_of _ c.loop-child.child-items c.args.children.now i.0.0 (λ k d before. i.1 k d (omega (arith, before, c.loop-child-test.false, i.0.0)))
+
+pub children::extend_children-returns-clause-fits : goal.children::extend_children-returns-clause-fits
+children::extend_children-returns-clause-fits t c =
+    let i = c.loop-child.invariant in
+    All-map FitsItself grown_of c.loop-child.child-items (λ k d within. i.2 k d (omega (arith, within, c.loop-child-test.false)))
+
+pub children::extend_children-returns-clause-kept : goal.children::extend_children-returns-clause-kept
+children::extend_children-returns-clause-kept t c =
+    let spans = c.args.rows.now in
+    let i = c.loop-child.invariant in
+    let change = grown_by (span_nulls spans) (bits_of_slice (option_copied c.args.validity) c.args.start c.args.len) (span_place spans) c.args.index c.args.start in
+    let whole = all_changed grown_of change c.loop-child.child-items c.args.children.now i.0.0 (λ k d before. i.1 k d (omega (arith, before, c.loop-child-test.false, i.0.0))) in
+    subst (AreBoundAs (map grown_of c.args.children.now)) (sym whole) (bound_map change (map grown_of c.args.children.now) (λ g. refl) (λ g. refl))
+
+-- runs of a child
+
+pub children::extend_run-extend-requires : goal.children::extend_run-extend-requires
+children::extend_run-extend-requires t c =
+    let g = grown_of c.args.child.now in
+    let spans = c.args.rows.now in
+    let last = (rises_in spans g c.args.index c.requires.sound c.requires.bound).up (c.args.start + c.args.len) (span_count spans) c.requires.part (omega arith) in
+    (omega (arith, c.decreases), names_there g c.args.index (span_place spans (span_count spans)) c.requires.bound c.range-first.result.0 c.range-first.result.1 c.range-first.ensures.rises (omega (arith, c.range-first.ensures.end, last)))
+
+pub children::extend_run-returns-clause-overflow : goal.children::extend_run-returns-clause-overflow
+children::extend_run-returns-clause-overflow t c overflows =
+    part_refused (grown_of c.args.child.now) c.args.index _ c.requires.bound c.range-first.result.0 c.range-first.result.1 _ _ c.range-first.ensures.start c.range-first.ensures.end c.range-first.ensures.rises (c.extend.ensures.overflow overflows)
+
+pub children::extend_runs-returns-in_err-extend_nulls-clause-overflow : goal.children::extend_runs-returns-in_err-extend_nulls-clause-overflow
+children::extend_runs-returns-in_err-extend_nulls-clause-overflow t c overflows =
+    let g = grown_of c.args.child.now in
+    let spans = c.args.rows.now in
+    let refused = c.in_err-extend_nulls.ensures.overflow (ap Err (passed_on c.from_residual.result _ _ c.from_residual.ensures.1 overflows)) in
+    nulls_refused g (grown_of c.loop-row.child) c.args.index (span_nulls spans) (span_count spans) (span_place spans) (sliced c.args.validity.now c.args.start c.args.len) c.loop-row.left c.next_set-nulls.new.self c.args.start c.loop-row.row c.next_set-nulls.result.0 c.next_set-nulls.result.1 c.nulls_of.result (rises_in spans g c.args.index c.requires.sound c.requires.bound) c.loop-row.invariant.1 c.next_set-nulls.ensures.bits (omega (arith, c.loop-row.invariant.0, c.requires.part)) c.nulls_of.ensures refused
+
+pub children::extend_runs-returns-in_err-extend_run-clause-overflow : goal.children::extend_runs-returns-in_err-extend_run-clause-overflow
+children::extend_runs-returns-in_err-extend_run-clause-overflow t c overflows =
+    let g = grown_of c.args.child.now in
+    let spans = c.args.rows.now in
+    let refused = c.in_err-extend_run.ensures.overflow (ap Err (passed_on c.from_residual-in_err-extend_run.result _ _ c.from_residual-in_err-extend_run.ensures.1 overflows)) in
+    run_refused g (grown_of c.loop-row.child) c.args.index (span_nulls spans) (span_count spans) (span_place spans) (sliced c.args.validity.now c.args.start c.args.len) c.loop-row.left c.next_set-nulls.new.self c.args.start c.loop-row.row c.next_set-nulls.result.0 c.next_set-nulls.result.1 c.nulls_of.result (rises_in spans g c.args.index c.requires.sound c.requires.bound) c.loop-row.invariant.1 c.next_set-nulls.ensures.bits (omega (arith, c.loop-row.invariant.0, c.requires.part)) c.nulls_of.ensures (grown_of c.extend_nulls.new.child) c.in_ok-extend_nulls.ensures.kept c.in_ok-extend_nulls.ensures.ok refused
+
+pub children::extend_runs-loop-row-preserved : goal.children::extend_runs-loop-row-preserved
+children::extend_runs-loop-row-preserved t c =
+    let g = grown_of c.args.child.now in
+    let spans = c.args.rows.now in
     let nulls = c.next_set-nulls.result.0 in
     let count = c.next_set-nulls.result.1 in
     let long = run_long nulls count c.loop-row.left c.next_set-nulls.new.self c.next_set-nulls.ensures.bits in
-    (omega (arith, c.loop-row.invariant.0, long), grows_more g (grown_of c.loop-row.values) c.args.index os (sliced c.args.validity.now c.args.start c.args.len) c.loop-row.left c.next_set-nulls.new.self c.args.start c.loop-row.row nulls count c.loop-row.invariant.1 c.next_set-nulls.ensures.bits c.len.ensures.sound within (omega (arith, c.loop-row.invariant.0, c.requires.part)) (grown_of c.append_run.new.values) c.in_ok-append_run.ensures.kept c.in_ok-append_run.ensures.ok)
+    (omega (arith, c.loop-row.invariant.0, long), grows_more g (grown_of c.loop-row.child) c.args.index (span_nulls spans) (span_count spans) (span_place spans) (sliced c.args.validity.now c.args.start c.args.len) c.loop-row.left c.next_set-nulls.new.self c.args.start c.loop-row.row nulls count c.nulls_of.result (rises_in spans g c.args.index c.requires.sound c.requires.bound) c.loop-row.invariant.1 c.next_set-nulls.ensures.bits (omega (arith, c.loop-row.invariant.0, c.requires.part)) c.nulls_of.ensures (grown_of c.extend_nulls.new.child) c.in_ok-extend_nulls.ensures.kept c.in_ok-extend_nulls.ensures.ok (grown_of c.extend_run.new.child) c.in_ok-extend_run.ensures.kept c.in_ok-extend_run.ensures.ok)
 
 -- the growable
 
-pub nested::GrowableNestedGrowable::extend-returns-in_default-clause-overflow :
-    goal.nested::GrowableNestedGrowable::extend-returns-in_default-clause-overflow
+pub nested::GrowableNestedGrowable::extend-returns-in_default-clause-overflow : goal.nested::GrowableNestedGrowable::extend-returns-in_default-clause-overflow
 nested::GrowableNestedGrowable::extend-returns-in_default-clause-overflow t c same =
+    let inside = c.self.inside in
+    let there = subst (λ h. NamesRows h c.args.index c.args.start c.args.len) (sym c.self.view_is) c.requires in
+    let before = nested_rows (form_of inside.spans) inside.validity (rows_of_all (map grown_of inside.children.items)) in
+    let named = sliced (rows (source_at (bound_layouts inside.arrays) c.args.index)) c.args.start c.args.len in
+    subst (λ h. CannotHold h c.args.index c.args.start c.args.len) c.self.view_is (inl (λ fits. too_many (type_of inside.data_type) before named inside.len c.args.len fits (counts _ _ _ _ _ (c.self.invariant.holds c.if-self.false)) (length-sliced _ c.args.start c.args.len there.1) (omega (arith, c.in_default.ensures))))
+
+pub nested::GrowableNestedGrowable::extend-returns-in_err-extend_from-clause-overflow : goal.nested::GrowableNestedGrowable::extend-returns-in_err-extend_from-clause-overflow
+nested::GrowableNestedGrowable::extend-returns-in_err-extend_from-clause-overflow t c overflows =
+    let passes = c.in_err-extend_from.ensures.overflow (ap Err (passed_on c.from_residual.result _ _ c.from_residual.ensures.1 overflows)) in
+    let counted = bits_counted _ _ _ _ (type_of c.self.inside.data_type) (c.self.invariant.holds c.if-self.false) in
+    absurd (omega (arith, passes, counted, c.in-Some.ensures))
+
+pub nested::GrowableNestedGrowable::extend-invariant_of-self-in_err-extend : goal.nested::GrowableNestedGrowable::extend-invariant_of-self-in_err-extend
+nested::GrowableNestedGrowable::extend-invariant_of-self-in_err-extend t c =
+    failed_parts _ _ _ _ _ _ _ _ _ _ _ _ c.self.invariant c.in_err-extend.ensures.arrays c.in_err-extend.ensures.form (record { same_types = refl; same_sources = refl })
+
+pub nested::GrowableNestedGrowable::extend-returns-in_err-extend-clause-overflow : goal.nested::GrowableNestedGrowable::extend-returns-in_err-extend-clause-overflow
+nested::GrowableNestedGrowable::extend-returns-in_err-extend-clause-overflow t c overflows =
+    let inside = c.self.inside in
+    let layouts = bound_layouts inside.arrays in
+    let index = c.args.index in
+    let start = c.args.start in
+    let n = c.args.len in
+    let there = subst (λ h. NamesRows h index start n) (sym c.self.view_is) c.requires in
+    let names = names_of inside.spans (map grown_of inside.children.items) inside.validity inside.len layouts (type_of inside.data_type) inside.has_failed c.spans-rows.result index start n c.self.invariant c.if-self.false there c.spans-rows.ensures c.null_slots-old.ensures.sound in
+    let passes = c.in_err-extend.ensures.overflow (ap Err (passed_on c.from_residual-in_err-extend.result _ _ c.from_residual-in_err-extend.ensures.1 overflows)) in
+    let here = subst {A = Option (List Bool) × List ℕ} (λ q. PassesGreatest (grown_arrays inside.spans) (form_of inside.spans) (bits_of_slice q.0 start n) q.1 start) (λ j. (c.validity-validity.ensures j, c.spans-rows.ensures.offsets j)) passes in
+    subst (λ h. CannotHold h index start n) c.self.view_is (inl (offsets_refused _ _ _ _ _ _ _ _ _ _ names here))
+
+pub nested::GrowableNestedGrowable::extend-extend_children-requires : goal.nested::GrowableNestedGrowable::extend-extend_children-requires
+nested::GrowableNestedGrowable::extend-extend_children-requires t c =
+    let inside = c.self.inside in
+    let layouts = bound_layouts inside.arrays in
+    let u = type_of inside.data_type in
+    let children = map grown_of inside.children.items in
+    let there = subst (λ h. NamesRows h c.args.index c.args.start c.args.len) (sym c.self.view_is) c.requires in
+    let outer = ap (λ (g : Grown). type_depth g.arrow_type) c.self.view_is in
+    let inner = ap (λ xs. deepest (map (λ g. g.arrow_type) (map grown_of xs))) c.deref_mut.ensures.value ∙ ap deepest c.self.invariant.types in
+    let covered : IfSome c.validity-validity.result (λ bits. c.args.start + c.args.len ≤ length bits.now) = search rules in
+    let binds = binds_all inside.spans children inside.validity inside.len layouts u inside.has_failed c.spans-rows.result c.args.index c.args.start c.args.len c.self.invariant c.if-self.false there c.spans-rows.ensures in
+    let well = all_well _ _ _ _ _ (c.self.invariant.holds c.if-self.false) in
+    (omega (arith, inner, deepest_child u, outer, c.decreases), (c.spans-rows.ensures.sound, (omega (arith, c.spans-rows.ensures.count, there.1), (covered, (rw c.deref_mut.ensures.value binds, rw c.deref_mut.ensures.value well)))))
+
+pub nested::GrowableNestedGrowable::extend-invariant_of-self-in_err-extend_children : goal.nested::GrowableNestedGrowable::extend-invariant_of-self-in_err-extend_children
+nested::GrowableNestedGrowable::extend-invariant_of-self-in_err-extend_children t c =
+    let kept = subst (λ xs. AreBoundAs (map grown_of xs) (map grown_of c.extend_children.new.children)) c.deref_mut.ensures.value c.in_err-extend_children.ensures.kept in
+    let back = written c.extend_children.new.children c.self.inside.children.items c.self.inside.children.len (as_many_items c.deref_mut.result.now c.extend_children.new.children c.in_err-extend_children.ensures.kept ∙ c.deref_mut.ensures.len) in
+    rw back (failed_parts _ _ _ _ _ _ _ _ _ _ _ _ c.self.invariant c.in_ok-extend.ensures.arrays c.in_ok-extend.ensures.form kept)
+
+pub nested::GrowableNestedGrowable::extend-returns-in_err-extend_children-clause-overflow : goal.nested::GrowableNestedGrowable::extend-returns-in_err-extend_children-clause-overflow
+nested::GrowableNestedGrowable::extend-returns-in_err-extend_children-clause-overflow t c overflows =
+    let inside = c.self.inside in
+    let layouts = bound_layouts inside.arrays in
+    let children = map grown_of inside.children.items in
+    let index = c.args.index in
+    let start = c.args.start in
+    let n = c.args.len in
+    let there = subst (λ h. NamesRows h index start n) (sym c.self.view_is) c.requires in
+    let refused = c.in_err-extend_children.ensures.overflow (ap Err (passed_on c.from_residual-in_err-extend_children.result _ _ c.from_residual-in_err-extend_children.ensures.1 overflows)) in
+    let here = subst {A = ((ℕ × Option (List Bool)) × (ℕ → ℕ)) × List Grown} (λ q. SomeCannotGrow q.0.0.0 (bits_of_slice q.0.0.1 start n) q.0.1 index start q.1) (λ j. (((c.spans-rows.ensures.nulls j, c.validity-validity.ensures j), c.spans-rows.ensures.place j), map grown_of (c.deref_mut.ensures.value j))) refused in
+    subst (λ h. CannotHold h index start n) c.self.view_is (children_cannot inside.spans children inside.validity inside.len layouts (type_of inside.data_type) inside.has_failed c.spans-rows.result index start n c.self.invariant c.if-self.false there c.spans-rows.ensures c.null_slots-old.ensures.sound here inside.has_failed)
+
+-- the parts after the rows are appended
+grown : (t : ℕ) (c : nested::GrowableNestedGrowable::extend-After-self-4-1 t) → Step (grown_arrays c.self.inside.spans) (form_of c.self.inside.spans) (form_of c.extend.new.self) (map grown_of c.self.inside.children.items) (map grown_of c.extend_children.new.children) c.self.inside.validity c.extend_from.new.self c.in-Some.total (bound_layouts c.self.inside.arrays) (type_of c.self.inside.data_type) (sliced (rows (source_at (bound_layouts c.self.inside.arrays) c.args.index)) c.args.start c.args.len)
+grown t c =
+    let inside = c.self.inside in
+    let layouts = bound_layouts inside.arrays in
+    let children = map grown_of inside.children.items in
+    let index = c.args.index in
+    let start = c.args.start in
+    let n = c.args.len in
+    let there = subst (λ h. NamesRows h index start n) (sym c.self.view_is) c.requires in
+    let form = c.in_ok-extend.ensures.ok ∙ (λ j. form_with (form_of inside.spans) (bits_of_slice (c.validity-validity.ensures j) start n) (c.spans-rows.ensures.offsets j) start) in
+    let bits = c.in_ok-extend_from.ensures.ok ∙ ap (λ v. inside.validity ++ bits_of_slice v start n) c.validity-validity.ensures in
+    let news = c.in_ok-extend_children.ensures.ok ∙ (λ j. map (grown_by (c.spans-rows.ensures.nulls j) (bits_of_slice (c.validity-validity.ensures j) start n) (c.spans-rows.ensures.place j) index start) (map grown_of (c.deref_mut.ensures.value j))) in
+    step inside.spans children inside.validity inside.len layouts (type_of inside.data_type) inside.has_failed c.spans-rows.result index start n c.self.invariant c.if-self.false there c.spans-rows.ensures c.null_slots-old.ensures.sound (form_of c.extend.new.self) (map grown_of c.extend_children.new.children) c.extend_from.new.self c.in-Some.total form news bits (omega (arith, c.in-Some.ensures)) c.in_ok-extend_children.ensures.fits
+
+back_of : (t : ℕ) (c : nested::GrowableNestedGrowable::extend-After-self-4-1 t) → take c.self.inside.children.len (c.extend_children.new.children ++ drop (length c.extend_children.new.children) c.self.inside.children.items) ≡ c.extend_children.new.children
+back_of t c =
+    written c.extend_children.new.children c.self.inside.children.items c.self.inside.children.len (as_many_items c.deref_mut.result.now c.extend_children.new.children c.in_ok-extend_children.ensures.kept ∙ c.deref_mut.ensures.len)
+
+pub nested::GrowableNestedGrowable::extend-invariant_of-self-2 : goal.nested::GrowableNestedGrowable::extend-invariant_of-self-2
+nested::GrowableNestedGrowable::extend-invariant_of-self-2 t c =
+    rw (back_of t c) (subst (λ a. IsGrownNested a (form_of c.extend.new.self) (map grown_of c.extend_children.new.children) c.extend_from.new.self c.in-Some.total (bound_layouts c.self.inside.arrays) (type_of c.self.inside.data_type) false) (sym c.in_ok-extend.ensures.arrays) (grown t c).parts)
+
+pub nested::GrowableNestedGrowable::extend-returns-clause-ok : goal.nested::GrowableNestedGrowable::extend-returns-clause-ok
+nested::GrowableNestedGrowable::extend-returns-clause-ok t c =
+    let s = grown t c in
     let inside = c.self.inside in
     let layouts = bound_layouts inside.arrays in
     let there = subst (λ h. NamesRows h c.args.index c.args.start c.args.len) (sym c.self.view_is) c.requires in
-    let before = lists_rows inside.validity (grown_offsets inside.offsets) (grown_of inside.values.value).rows in
     let named = sliced (rows (source_at layouts c.args.index)) c.args.start c.args.len in
-    subst (λ h. CannotHold h c.args.index c.args.start c.args.len) c.self.view_is (inl (λ fits. too_many (type_of inside.data_type) before named inside.len c.args.len fits (list_counts _ _ _ _ _ _ _ _ _ c.self.invariant c.if-self.false) (length-sliced _ c.args.start c.args.len there.1) (omega (arith, c.in_default.ensures))))
+    let many = length-sliced (rows (source_at layouts c.args.index)) c.args.start c.args.len there.1 in
+    let count : c.in-Some.total ≡ inside.len + length named = omega (arith, c.in-Some.ensures, many) in
+    let all = ap (λ xs. nested_rows (form_of c.extend.new.self) c.extend_from.new.self (rows_of_all (map grown_of xs))) (back_of t c) ∙ s.rows in
+    rw (← c.self.view_is) (λ j. record { arrow_type = type_of inside.data_type; sources = Some layouts; rows = all j; count = count j; failed = false })
 
-pub nested::GrowableNestedGrowable::extend-returns-in_err-extend-clause-overflow :
-    goal.nested::GrowableNestedGrowable::extend-returns-in_err-extend-clause-overflow
-nested::GrowableNestedGrowable::extend-returns-in_err-extend-clause-overflow t c overflows =
-    let inside = c.self.inside in
-    let os = grown_offsets inside.offsets in
-    let start = c.args.start in
-    let n = c.args.len in
-    let there = subst (λ h. NamesRows h c.args.index start n) (sym c.self.view_is) c.requires in
-    let names = names_bound inside.arrays inside.offsets (grown_of inside.values.value) inside.validity inside.len (type_of inside.data_type) inside.has_failed c.args.index start n c.self.invariant c.if-self.false c.len-old.ensures.sound there c.spans-rows.ensures.part in
-    let passes = c.in_err-extend.ensures.overflow (ap Err (passed_on c.from_residual-in_err-extend.result _ _ c.from_residual-in_err-extend.ensures.1 overflows)) in
-    let here = subst {A = Option (List Bool) × List ℕ} (λ q. greatest_in (grown_lists inside.offsets) < last_of os + valid_items (bits_of_slice q.0 start n) q.1 start) (λ i. (c.validity-validity.ensures i, c.spans-rows.ensures.same i)) passes in
-    subst (λ h. CannotHold h c.args.index start n) c.self.view_is (offsets_refused _ _ _ _ _ _ _ _ _ _ _ _ names here inside.has_failed)
-
-pub nested::GrowableNestedGrowable::extend-append_items-requires :
-    goal.nested::GrowableNestedGrowable::extend-append_items-requires
-nested::GrowableNestedGrowable::extend-append_items-requires t c =
-    let inside = c.self.inside in
-    let start = c.args.start in
-    let n = c.args.len in
-    let parts = c.self.invariant in
-    let there = subst (λ h. NamesRows h c.args.index start n) (sym c.self.view_is) c.requires in
-    let names = names_bound inside.arrays inside.offsets (grown_of inside.values.value) inside.validity inside.len (type_of inside.data_type) inside.has_failed c.args.index start n c.self.invariant c.if-self.false c.len-old.ensures.sound there c.spans-rows.ensures.part in
-    let less = items_less_deep (type_of inside.data_type) inside.offsets parts.kind in
-    let outer = ap (λ (g : Grown). type_depth g.arrow_type) c.self.view_is in
-    let here = ap (λ g. type_depth (grown_of g).arrow_type) c.deref_mut.ensures.value in
-    let part = subst (λ os. start + n < length os) (sym c.spans-rows.ensures.same) names.inside in
-    let covered : IfSome c.validity-validity.result (λ bits. start + n ≤ length bits.now) = search rules in
-    let binds = subst (λ os. BindsRows (grown_of inside.values.value) c.args.index (last_of os)) (sym c.spans-rows.ensures.same) (binds_child _ _ _ _ _ _ _ _ _ _ _ _ names) in
-    (omega (arith, less, outer, here, ap type_depth parts.child, c.decreases), (part, (covered, (rw c.deref_mut.ensures.value binds, rw c.deref_mut.ensures.value (child_is_well _ _ _ _ _ _ _ _ _ _ _ _ names)))))
-
-pub nested::GrowableNestedGrowable::extend-returns-in_err-append_items-clause-overflow :
-    goal.nested::GrowableNestedGrowable::extend-returns-in_err-append_items-clause-overflow
-nested::GrowableNestedGrowable::extend-returns-in_err-append_items-clause-overflow t c overflows =
-    let inside = c.self.inside in
-    let p = part_at inside.arrays c.args.index in
-    let start = c.args.start in
-    let n = c.args.len in
-    let index = c.args.index in
-    let inner = grown_of inside.values.value in
-    let there = subst (λ h. NamesRows h index start n) (sym c.self.view_is) c.requires in
-    let names = names_bound inside.arrays inside.offsets inner inside.validity inside.len (type_of inside.data_type) inside.has_failed index start n c.self.invariant c.if-self.false c.len-old.ensures.sound there c.spans-rows.ensures.part in
-    let refused = c.in_err-append_items.ensures.overflow (ap Err (passed_on c.from_residual-in_err-append_items.result _ _ c.from_residual-in_err-append_items.ensures.1 overflows)) in
-    let here = subst {A = Grown × (Option (List Bool) × List ℕ)} (λ q. CannotGrow q.0 index (LiesIn (bits_of_slice q.1.0 start n) (slice_index q.1.1) start) (valid_values (bits_of_slice q.1.0 start n) q.1.1 (bound_rows q.0 index) start)) (λ i. (grown_of (c.deref_mut.ensures.value i), (c.validity-validity.ensures i, c.spans-rows.ensures.same i))) refused in
-    let items = subst (λ xs. CannotGrow inner index (LiesIn (bits_of_slice p.validity start n) (slice_index p.offsets) start) (valid_values (bits_of_slice p.validity start n) p.offsets xs start)) (child_rows_are _ _ _ _ _ _ _ _ _ _ _ _ names) here in
-    subst (λ h. CannotHold h index start n) c.self.view_is (items_refused _ _ _ _ _ _ _ _ _ _ _ _ names items inside.has_failed)
-
--- what the parts are after the rows are appended
-record Step (layout : PhysicalType) (os new_os : List ℕ) (inner new : Grown) (bits new_bits : List Bool) (total : ℕ) (layouts children : List Layout) (t : ArrowType) (index start n : ℕ) : Type 0 where
-  parts : IsGrownList layout new_os new new_bits total layouts children t false
-  rows_are : lists_rows new_bits new_os new.rows ≡ lists_rows bits os inner.rows ++ sliced (rows (source_at layouts index)) start n
-  many : length (sliced (rows (source_at layouts index)) start n) ≡ n
-
-step : (t : ℕ) (c : nested::GrowableNestedGrowable::extend-After-self-4-1 t) → Step (grown_lists c.self.inside.offsets) (grown_offsets c.self.inside.offsets) (grown_offsets c.extend.new.self) (grown_of c.self.inside.values.value) (grown_of c.append_items.new.values) c.self.inside.validity c.extend_from.new.self c.in-Some.total (bound_layouts c.self.inside.arrays) (bound_children c.self.inside.arrays) (type_of c.self.inside.data_type) c.args.index c.args.start c.args.len
-step t c =
-    let inside = c.self.inside in
-    let p = part_at inside.arrays c.args.index in
-    let start = c.args.start in
-    let n = c.args.len in
-    let index = c.args.index in
-    let os = grown_offsets inside.offsets in
-    let inner = grown_of inside.values.value in
-    let new = grown_of c.append_items.new.values in
-    let there = subst (λ h. NamesRows h index start n) (sym c.self.view_is) c.requires in
-    let names = names_bound inside.arrays inside.offsets inner inside.validity inside.len (type_of inside.data_type) inside.has_failed index start n c.self.invariant c.if-self.false c.len-old.ensures.sound there c.spans-rows.ensures.part in
-    let offsets = c.in_ok-extend.ensures.ok ∙ (λ i. with_valid_rows os (bits_of_slice (c.validity-validity.ensures i) start n) (c.spans-rows.ensures.same i) start) in
-    let bits = c.in_ok-extend_from.ensures.ok ∙ ap (λ v. inside.validity ++ bits_of_slice v start n) c.validity-validity.ensures in
-    let here = subst {A = Grown × (Option (List Bool) × List ℕ)} (λ q. GrownBy q.0 new (valid_values (bits_of_slice q.1.0 start n) q.1.1 (bound_rows q.0 index) start)) (λ i. (grown_of (c.deref_mut.ensures.value i), (c.validity-validity.ensures i, c.spans-rows.ensures.same i))) c.in_ok-append_items.ensures.ok in
-    let grown = subst (λ xs. GrownBy inner new (valid_values (bits_of_slice p.validity start n) p.offsets xs start)) (child_rows_are _ _ _ _ _ _ _ _ _ _ _ _ names) here in
-    let count : c.in-Some.total ≡ inside.len + n = omega (arith, c.in-Some.ensures) in
-    record {
-      parts = lists_parts _ _ _ _ _ _ _ _ _ _ _ _ names _ new _ c.in-Some.total offsets bits grown count;
-      rows_are = lists_appended _ _ _ _ _ _ _ _ _ _ _ _ names _ new _ c.in-Some.total offsets bits grown count;
-      many = length-sliced _ start n there.1;
-    }
-
-pub nested::GrowableNestedGrowable::extend-invariant_of-self-2 :
-    goal.nested::GrowableNestedGrowable::extend-invariant_of-self-2
-nested::GrowableNestedGrowable::extend-invariant_of-self-2 t c =
-    subst (λ l. IsGrownList l (grown_offsets c.extend.new.self) (grown_of c.append_items.new.values) c.extend_from.new.self c.in-Some.total (bound_layouts c.self.inside.arrays) (bound_children c.self.inside.arrays) (type_of c.self.inside.data_type) false) (sym c.in_ok-extend.ensures.width) (step t c).parts
-
-pub nested::GrowableNestedGrowable::extend-returns-clause-ok :
-    goal.nested::GrowableNestedGrowable::extend-returns-clause-ok
-nested::GrowableNestedGrowable::extend-returns-clause-ok t c =
-    let s = step t c in
-    let layouts = bound_layouts c.self.inside.arrays in
-    let count : c.in-Some.total ≡ c.self.inside.len + length (sliced (rows (source_at layouts c.args.index)) c.args.start c.args.len) = omega (arith, c.in-Some.ensures, s.many) in
-    rw (← c.self.view_is) (λ i. record { arrow_type = type_of c.self.inside.data_type; sources = Some layouts; rows = s.rows_are i; count = count i; failed = false })
-
-pub nested::GrowableNestedGrowable::extend-returns-clause-fits :
-    goal.nested::GrowableNestedGrowable::extend-returns-clause-fits
+pub nested::GrowableNestedGrowable::extend-returns-clause-fits : goal.nested::GrowableNestedGrowable::extend-returns-clause-fits
 nested::GrowableNestedGrowable::extend-returns-clause-fits t c =
-    let s = step t c in
-    let few = subst (λ l. last_of (grown_offsets c.extend.new.self) ≤ greatest_in l) c.in_ok-extend.ensures.width c.len-offsets.ensures.fits in
-    list_fits (grown_lists c.self.inside.offsets) _ _ _ _ _ _ _ (is_list_type c.self.inside.offsets) s.parts c.len-offsets.ensures.sound few (omega (arith, c.in-Some.ensures))
+    let s = grown t c in
+    let sound = subst (λ a. IsSoundForm a (form_of c.extend.new.self)) c.in_ok-extend.ensures.arrays c.null_slots-new.ensures.sound in
+    let all = ap (λ xs. nested_rows (form_of c.extend.new.self) c.extend_from.new.self (rows_of_all (map grown_of xs))) (back_of t c) in
+    subst (Fits (type_of c.self.inside.data_type)) (sym all) (fits_step _ _ _ _ _ _ _ _ _ _ _ s (lies_with _ _ _ (spans_lie c.self.inside.spans) c.in_ok-extend.ensures.form) sound (omega (arith, c.in-Some.ensures)))

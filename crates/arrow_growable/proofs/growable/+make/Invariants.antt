@@ -1,14 +1,26 @@
-use Rattle.std.proofs.Common.{◌+◌, ◌*◌, map}
+use Rattle.std.proofs.Common.{◌≡◌, ◌+◌, ◌*◌, map, take}
+use Rattle.std.specs.List.{range_with_len}
 use Rattle.arrow_arrays.specs.Any.{layout_of}
 use Rattle.arrow_arrays.specs.TypeDepth.{type_depth}
-use Rattle.arrow_flat_growable.specs.Grown.{first_type}
+use Rattle.arrow_flat_growable.specs.Grown.{bound_to, first_type}
+use Rattle.arrow_growable.specs.AnyGrowable.{grown_of}
 use Rattle.arrow_growable.specs.Bound.{bound_layouts}
+use Rattle.arrow_growable.specs.Form.{child_types}
+use Rattle.arrow_growable.specs.Source.{nth_child}
 use Rattle.arrow_growable.proofs.growable.+make.Given as goal
 
 -- each call goes to arrays of a less deep type, or comes nearer to their children
 
 abbrev pub decreases-make::make_growable : goal.decreases-make::make_growable
-decreases-make::make_growable l = 2 * type_depth (first_type (map (λ a. layout_of a.now) l.arrays.now)) + 1
+decreases-make::make_growable l = 3 * type_depth (first_type (map (λ a. layout_of a.now) l.arrays.now)) + 2
 
 abbrev pub decreases-nested::GrowableNested::new : goal.decreases-nested::GrowableNested::new
-decreases-nested::GrowableNested::new l = 2 * type_depth (first_type (bound_layouts l.arrays))
+decreases-nested::GrowableNested::new l = 3 * type_depth (first_type (bound_layouts l.arrays)) + 1
+
+abbrev pub decreases-nested::make_children : goal.decreases-nested::make_children
+decreases-nested::make_children l = 3 * type_depth (first_type (bound_layouts l.arrays.now))
+
+-- the children so far are bound to those of the arrays, and have their types
+abbrev pub invariant-nested::make_children-loop-f : goal.invariant-nested::make_children-loop-f
+invariant-nested::make_children-loop-f l =
+    (map grown_of l.children.items ≡ map (λ f. bound_to (map (nth_child f) (bound_layouts l.arrays))) (range_with_len 0 l.f)) × (map (λ g. g.arrow_type) (map grown_of l.children.items) ≡ take l.f (child_types (first_type (bound_layouts l.arrays))))

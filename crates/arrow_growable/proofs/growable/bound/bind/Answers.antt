@@ -1,13 +1,8 @@
-use Rattle.std.proofs.Common.{arith, Bor, map, ap, sym, ◌∙◌}
+use Rattle.std.proofs.Common.{Bor, ap, sym, ◌∙◌}
 use Rattle.arrow_types.specs.Physical.{physical_type_of}
 use Rattle.arrow_arrays.specs.Any.{kind_in, layout_of}
-use Rattle.arrow_arrays.specs.ListParts.{list_layout}
-use Rattle.arrow_growable.proofs.MakeLemmas.{bind_all, bind_next, map_twice, type_at}
+use Rattle.arrow_growable.proofs.MakeLemmas.{bind_next, type_at}
 use Rattle.arrow_growable.proofs.growable.bound.bind.Goals as goal
-
-pub loop-array-init : goal.loop-array-init
-loop-array-init g c =
-    ap (map (λ (r : Bor _). list_layout (g.A.NestedArray.parts_in r.now))) c.in_ok-bound.ensures.items
 
 pub of_any-requires : goal.of_any-requires
 of_any-requires g c =
@@ -16,8 +11,4 @@ of_any-requires g c =
 
 pub loop-array-preserved : goal.loop-array-preserved
 loop-array-preserved g c =
-    rw c.in_ok-push.ensures.items (bind_next (λ (r : Bor _). list_layout (g.A.NestedArray.parts_in r.now)) (λ (a : Bor _). layout_of a.now) c.loop-array.bound.items c.of_any.result c.args.arrays.now c.array-item.result c.loop-array.array-index c.loop-array-test.true c.array-item.is c.of_any.ensures c.loop-array.invariant)
-
-pub returns-clause-ok : goal.returns-clause-ok
-returns-clause-ok g c =
-    map_twice list_layout (λ (r : Bor _). g.A.NestedArray.parts_in r.now) c.loop-array.bound.items ∙ bind_all (λ (r : Bor _). list_layout (g.A.NestedArray.parts_in r.now)) (λ (a : Bor _). layout_of a.now) c.loop-array.bound.items c.args.arrays.now c.loop-array.array-index (omega (arith, c.loop-array-test.false)) c.loop-array.invariant
+    rw c.in_ok-push.ensures.items (bind_next (λ (r : Bor _). g.A.NestedArray.layout_in r.now) (λ (a : Bor _). layout_of a.now) c.loop-array.bound.items c.of_any.result c.args.arrays.now c.array-item.result c.loop-array.array-index c.loop-array-test.true c.array-item.is c.of_any.ensures c.loop-array.invariant)

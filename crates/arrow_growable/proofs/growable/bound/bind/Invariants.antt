@@ -1,9 +1,8 @@
 use Rattle.std.proofs.Common.{◌≡◌, map, take}
 use Rattle.arrow_arrays.specs.Any.{layout_of}
-use Rattle.arrow_arrays.specs.ListParts.{list_layout}
 use Rattle.arrow_growable.proofs.growable.bound.bind.Given as goal
 
 -- the arrays so far are bound
 abbrev pub invariant-loop-array : goal.invariant-loop-array
 invariant-loop-array g l =
-    map (λ r. list_layout (g.A.NestedArray.parts_in r.now)) l.bound.items ≡ take l.array-index (map (λ a. layout_of a.now) l.arrays)
+    map (λ r. g.A.NestedArray.layout_in r.now) l.bound.items ≡ take l.array-index (map (λ a. layout_of a.now) l.arrays)

@@ -1,20 +1,19 @@
-use Rattle.std.proofs.Common.{arith, ap, inl, inr, ◌∙◌}
-use Rattle.arrow_types.specs.ArrowType.{small, large, mapped, type_in}
-use Rattle.arrow_types.specs.TypeOf.{type_of, field_of}
-use Rattle.arrow_growable.proofs.GrowableLemmas.{fewer_wrappers, type_of-LargeList, type_of-List, type_of-Map, wrappers}
+use Rattle.std.proofs.Common.{arith, ap, rules, subst, sym}
+use Rattle.arrow_growable.specs.Growable.{IsGrowable}
+use Rattle.arrow_growable.proofs.GrowableLemmas.{AreGrowable-next, AreGrowable-read, fewer_of_field, wrappers}
 use Rattle.arrow_growable.proofs.growable.make.+is_growable.Goals as goal
 
-pub is_growable-requires-in-List : goal.is_growable-requires-in-List
-is_growable-requires-in-List t c =
-    let f = field_of c.in-List.field.value in
-    let item = ap wrappers (c.data_type-in-List.ensures ∙ ap (λ x. type_in (field_of x)) c.deref-in-List.ensures) in
-    elim c.in-List.is [
-      | inl is ↦ (omega (arith, item, ap wrappers (ap type_of is ∙ type_of-List c.in-List.field), fewer_wrappers small f, c.decreases), tt)
-      | inr is ↦ (omega (arith, item, ap wrappers (ap type_of is ∙ type_of-LargeList c.in-List.field), fewer_wrappers large f, c.decreases), tt)
-    ]
+pub are_growable-is_growable-requires : goal.are_growable-is_growable-requires
+are_growable-is_growable-requires t c =
+    let fewer = fewer_of_field c.args.fields.now c.loop-field.field-index c.field-item.result (omega arith) c.field-item.is in
+    (omega (arith, ap wrappers c.data_type.ensures, fewer, c.decreases), tt)
 
-pub is_growable-requires : goal.is_growable-requires
-is_growable-requires t c =
-    let f = field_of c.in-Map.field.value in
-    let item = ap wrappers (c.data_type.ensures ∙ ap (λ x. type_in (field_of x)) c.deref.ensures) in
-    (omega (arith, item, ap wrappers (ap type_of c.in-Map.is ∙ type_of-Map c.in-Map.field c.in-Map._sorted), fewer_wrappers (mapped c.in-Map._sorted) f, c.decreases), tt)
+pub are_growable-returns-then-not-is_growable : goal.are_growable-returns-then-not-is_growable
+are_growable-returns-then-not-is_growable t c =
+    let grows = AreGrowable-read c.args.fields.now c.loop-field.field-index c.field-item.result (omega arith) c.field-item.is in
+    (λ h. absurd (search rules), λ all. c.if-not-is_growable.ensures.1 (subst IsGrowable (sym c.data_type.ensures) (grows all)))
+
+pub are_growable-loop-field-preserved : goal.are_growable-loop-field-preserved
+are_growable-loop-field-preserved t c =
+    let grows = subst IsGrowable c.data_type.ensures (c.is_growable.ensures.0 (search rules)) in
+    AreGrowable-next c.args.fields.now c.loop-field.field-index c.field-item.result (omega arith) c.field-item.is c.loop-field.invariant grows

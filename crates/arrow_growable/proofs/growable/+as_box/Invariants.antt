@@ -1,0 +1,24 @@
+use Rattle.std.proofs.Common.{◌≡◌, ◌+◌, ◌*◌, ◌≤◌, ℕ, get_or, length, map, take}
+use Rattle.arrow_arrays.specs.Any.{any_array_rows, any_array_type}
+use Rattle.arrow_arrays.specs.TypeDepth.{deepest, type_depth}
+use Rattle.arrow_arrays.proofs.SliceLemmas.{ChangedUpTo}
+use Rattle.arrow_growable.specs.AnyGrowable.{grown_of}
+use Rattle.arrow_growable.specs.Child.{emptied_of}
+use Rattle.arrow_growable.proofs.growable.+as_box.Given as goal
+
+-- each call goes to a less deep growable, or comes nearer to one
+
+abbrev pub decreases-children::box_children : goal.decreases-children::box_children
+decreases-children::box_children l = 3 * deepest (map (λ g. g.arrow_type) (map grown_of l.children.now))
+
+abbrev pub decreases-any::AnyGrowableGrowable::as_box : goal.decreases-any::AnyGrowableGrowable::as_box
+decreases-any::AnyGrowableGrowable::as_box l = 3 * type_depth ((grown_of l.self.now).arrow_type) + 2
+
+abbrev pub decreases-nested::GrowableNestedGrowable::as_box : goal.decreases-nested::GrowableNestedGrowable::as_box
+decreases-nested::GrowableNestedGrowable::as_box l = 3 * type_depth l.self.now.arrow_type + 1
+
+-- the arrays so far are those of the children, which are left without rows; the others are as they were
+abbrev pub invariant-children::box_children-loop-child : goal.invariant-children::box_children-loop-child
+invariant-children::box_children-loop-child l =
+    let done = take l.child-index (map grown_of l.initial.child-items) in
+    ((length l.child-items ≡ length l.initial.child-items) × ((k : ℕ) (d : _) → l.child-index ≤ k → get_or l.child-items k d ≡ get_or l.initial.child-items k d)) × ChangedUpTo grown_of emptied_of l.child-items l.initial.child-items l.child-index × (map any_array_type l.arrays.items ≡ map (λ g. g.arrow_type) done) × (map any_array_rows l.arrays.items ≡ map (λ g. g.rows) done)

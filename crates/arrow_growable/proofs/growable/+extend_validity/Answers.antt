@@ -1,0 +1,169 @@
+use Rattle.std.proofs.Common.{arith, ◌≡◌, ◌+◌, ◌*◌, ◌<◌, ◌≤◌, ◌^◌, ◌++◌, ℕ, false, drop, length, map, replicate, take, Some, Err, refl, ap, sym, subst, ◌∙◌}
+use Rattle.std.proofs.lemmas.List.{length-map, length-replicate, length-set}
+use Rattle.std.proofs.lemmas.List.Elements.{All-map}
+use Rattle.arrow_types.specs.Fits.{Fits}
+use Rattle.arrow_types.specs.Slot.{null_slot}
+use Rattle.arrow_types.specs.TypeOf.{type_of}
+use Rattle.arrow_arrays.specs.TypeDepth.{deepest, type_depth}
+use Rattle.arrow_arrays.proofs.SliceLemmas.{all_changed, changed_next, changed_read, in_map, rest_as_was, written}
+use Rattle.arrow_flat_growable.specs.Grown.{Grown, FitsItself, FitsWith, null_rows_of}
+use Rattle.arrow_flat_growable.proofs.FlatLemmas.{too_many}
+use Rattle.arrow_flat_growable.proofs.ResultLemmas.{passed_on}
+use Rattle.arrow_growable.specs.AnyGrowable.{grown_of}
+use Rattle.arrow_growable.specs.Bound.{bound_layouts}
+use Rattle.arrow_growable.specs.Child.{AreBoundAs, IsWell, SomeCannotHoldNulls, grown_by_nulls}
+use Rattle.arrow_growable.specs.Form.{nested_rows}
+use Rattle.arrow_growable.specs.FormLaws.{deepest_child}
+use Rattle.arrow_growable.specs.GrowableSpans.{IsSoundForm, form_of, grown_arrays}
+use Rattle.arrow_growable.specs.Nested.{IsGrownNested, rows_of_all}
+use Rattle.arrow_growable.proofs.EvenLemmas.{no_grown}
+use Rattle.arrow_growable.proofs.GrownLemmas.{counts, nulls_refused, slots_refused}
+use Rattle.arrow_growable.proofs.LoopLemmas.{as_many_items, bound_after, deepest_at, holds_next, read_is}
+use Rattle.arrow_growable.proofs.StepLemmas.{Step, all_well, bits_counted, bound_map, failed_parts, fits_step, holds_of, lies_with, spans_lie, step_nulls}
+use Rattle.arrow_growable.proofs.growable.+extend_validity.Goals as goal
+use Rattle.arrow_growable.proofs.growable.+extend_validity.Goals.{nested::GrowableNestedGrowable::extend_validity-After-self-4-1}
+
+-- all children
+
+pub children::extend_all_nulls-extend_nulls-requires : goal.children::extend_all_nulls-extend_nulls-requires
+children::extend_all_nulls-extend_nulls-requires t c =
+    let was = c.args.children.now in
+    let k = c.loop-child.child-index in
+    let e = c.child-item.result in
+    let among : k < length was = omega (arith, c.loop-child-test.true, c.loop-child.invariant.0.0) in
+    let now = c.loop-child.invariant.0.1 k e (omega arith) in
+    rw now (omega (arith, c.decreases, deepest_at was k e among), in_map grown_of IsWell was k e c.requires.well among)
+
+pub children::extend_all_nulls-returns-in_err-extend_nulls-clause-kept : goal.children::extend_all_nulls-returns-in_err-extend_nulls-clause-kept
+children::extend_all_nulls-returns-in_err-extend_nulls-clause-kept t c =
+    let i = c.loop-child.invariant in
+    bound_after (grown_by_nulls c.args.count) (λ g. refl) (λ g. refl) c.loop-child.child-items c.args.children.now c.loop-child.child-index c.extend_nulls.new.child c.child-item.result i.0.0 (omega (arith, c.loop-child-test.true, i.0.0)) i.0.1 i.1 c.in_err-extend_nulls.ensures.kept
+
+pub children::extend_all_nulls-returns-in_err-extend_nulls-clause-overflow : goal.children::extend_all_nulls-returns-in_err-extend_nulls-clause-overflow
+children::extend_all_nulls-returns-in_err-extend_nulls-clause-overflow t c overflows =
+    let was = c.args.children.now in
+    let k = c.loop-child.child-index in
+    let e = c.child-item.result in
+    let among : k < length was = omega (arith, c.loop-child-test.true, c.loop-child.invariant.0.0) in
+    let now = c.loop-child.invariant.0.1 k e (omega arith) in
+    let refused = c.in_err-extend_nulls.ensures.overflow (ap Err (passed_on c.from_residual.result _ _ c.from_residual.ensures.1 overflows)) in
+    (k, omega (arith, among, length-map was grown_of), λ d. subst (λ g. FitsWith g (null_rows_of g c.args.count) → ⊥) (sym (read_is c.loop-child.child-items was k e d among now)) refused)
+
+pub children::extend_all_nulls-loop-child-preserved : goal.children::extend_all_nulls-loop-child-preserved
+children::extend_all_nulls-loop-child-preserved t c =
+    let was = c.args.children.now in
+    let items = c.loop-child.child-items in
+    let k = c.loop-child.child-index in
+    let x = c.extend_nulls.new.child in
+    let e = c.child-item.result in
+    let i = c.loop-child.invariant in
+    let change = grown_by_nulls c.args.count in
+    let among : k < length was = omega (arith, c.loop-child-test.true, i.0.0) in
+    let here : k < length items = omega (arith, among, i.0.0) in
+    let new = changed_read grown_of change items was k x e among (i.0.1 k e (omega arith)) c.in_ok-extend_nulls.ensures.ok.grown in
+    ((length-set items k x ∙ i.0.0, rest_as_was items was k x i.0.1), changed_next grown_of change items was k x here i.1 new, holds_next (λ y. FitsItself (grown_of y)) items k x here i.2 c.in_ok-extend_nulls.ensures.ok.fits)
+
+pub children::extend_all_nulls-returns-clause-ok : goal.children::extend_all_nulls-returns-clause-ok
+children::extend_all_nulls-returns-clause-ok t c =
+    let i = c.loop-child.invariant in
+    all_changed grown_of _ c.loop-child.child-items c.args.children.now i.0.0 (λ k d before. i.1 k d (omega (arith, before, c.loop-child-test.false, i.0.0)))
+
+pub children::extend_all_nulls-returns-clause-fits : goal.children::extend_all_nulls-returns-clause-fits
+children::extend_all_nulls-returns-clause-fits t c =
+    let i = c.loop-child.invariant in
+    All-map FitsItself grown_of c.loop-child.child-items (λ k d within. i.2 k d (omega (arith, within, c.loop-child-test.false)))
+
+pub children::extend_all_nulls-returns-clause-kept : goal.children::extend_all_nulls-returns-clause-kept
+children::extend_all_nulls-returns-clause-kept t c =
+    let i = c.loop-child.invariant in
+    let change = grown_by_nulls c.args.count in
+    let whole = all_changed grown_of change c.loop-child.child-items c.args.children.now i.0.0 (λ k d before. i.1 k d (omega (arith, before, c.loop-child-test.false, i.0.0))) in
+    subst (AreBoundAs (map grown_of c.args.children.now)) (sym whole) (bound_map change (map grown_of c.args.children.now) (λ g. refl) (λ g. refl))
+
+-- the growable
+
+pub nested::GrowableNestedGrowable::extend_validity-returns-in_default-clause-overflow : goal.nested::GrowableNestedGrowable::extend_validity-returns-in_default-clause-overflow
+nested::GrowableNestedGrowable::extend_validity-returns-in_default-clause-overflow t c same fits =
+    let inside = c.self.inside in
+    let u = type_of inside.data_type in
+    let n = c.args.additional in
+    let fit = subst (λ h. FitsWith h (null_rows_of h n)) (sym c.self.view_is) fits in
+    too_many u (nested_rows (form_of inside.spans) inside.validity (rows_of_all (map grown_of inside.children.items))) (replicate n (null_slot u)) inside.len n fit (counts _ _ _ _ _ (c.self.invariant.holds c.if-self.false)) (length-replicate n (null_slot u)) (omega (arith, c.in_default.ensures))
+
+pub nested::GrowableNestedGrowable::extend_validity-returns-in_default-checked_mul-clause-overflow : goal.nested::GrowableNestedGrowable::extend_validity-returns-in_default-checked_mul-clause-overflow
+nested::GrowableNestedGrowable::extend_validity-returns-in_default-checked_mul-clause-overflow t c same fits =
+    let inside = c.self.inside in
+    let n = c.args.additional in
+    let fit = subst (λ h. FitsWith h (null_rows_of h n)) (sym c.self.view_is) fits in
+    let holds = holds_of inside.spans (map grown_of inside.children.items) inside.validity inside.len (bound_layouts inside.arrays) (type_of inside.data_type) inside.has_failed c.self.invariant c.if-self.false c.null_slots.ensures.sound in
+    let slots = c.null_slots.ensures.count in
+    slots_refused _ _ _ _ _ _ n holds c.ranges.additional.fits (subst (λ w. 2 ^ 64 ≤ n * w) slots (omega (arith, c.in_default-checked_mul.ensures))) fit
+
+pub nested::GrowableNestedGrowable::extend_validity-returns-in_err-extend_nulls-clause-overflow : goal.nested::GrowableNestedGrowable::extend_validity-returns-in_err-extend_nulls-clause-overflow
+nested::GrowableNestedGrowable::extend_validity-returns-in_err-extend_nulls-clause-overflow t c overflows fits =
+    let passes = c.in_err-extend_nulls.ensures.overflow (ap Err (passed_on c.from_residual.result _ _ c.from_residual.ensures.1 overflows)) in
+    let counted = bits_counted _ _ _ _ (type_of c.self.inside.data_type) (c.self.invariant.holds c.if-self.false) in
+    omega (arith, passes, counted, c.in-Some.ensures)
+
+pub nested::GrowableNestedGrowable::extend_validity-invariant_of-self-in_err-extend_nulls-2 : goal.nested::GrowableNestedGrowable::extend_validity-invariant_of-self-in_err-extend_nulls-2
+nested::GrowableNestedGrowable::extend_validity-invariant_of-self-in_err-extend_nulls-2 t c =
+    failed_parts _ _ _ _ _ _ _ _ _ _ _ _ c.self.invariant c.in_err-extend_nulls-2.ensures.arrays c.in_err-extend_nulls-2.ensures.form (record { same_types = refl; same_sources = refl })
+
+pub nested::GrowableNestedGrowable::extend_validity-extend_all_nulls-requires : goal.nested::GrowableNestedGrowable::extend_validity-extend_all_nulls-requires
+nested::GrowableNestedGrowable::extend_validity-extend_all_nulls-requires t c =
+    let u = type_of c.self.inside.data_type in
+    let outer = ap (λ (g : Grown). type_depth g.arrow_type) c.self.view_is in
+    let inner = ap (λ xs. deepest (map (λ g. g.arrow_type) (map grown_of xs))) c.deref_mut.ensures.value ∙ ap deepest c.self.invariant.types in
+    let well = all_well _ _ _ _ _ (c.self.invariant.holds c.if-self.false) in
+    (omega (arith, inner, deepest_child u, outer, c.decreases), rw c.deref_mut.ensures.value well)
+
+pub nested::GrowableNestedGrowable::extend_validity-invariant_of-self-in_err-extend_all_nulls : goal.nested::GrowableNestedGrowable::extend_validity-invariant_of-self-in_err-extend_all_nulls
+nested::GrowableNestedGrowable::extend_validity-invariant_of-self-in_err-extend_all_nulls t c =
+    let kept = subst (λ xs. AreBoundAs (map grown_of xs) (map grown_of c.extend_all_nulls.new.children)) c.deref_mut.ensures.value c.in_err-extend_all_nulls.ensures.kept in
+    let back = written c.extend_all_nulls.new.children c.self.inside.children.items c.self.inside.children.len (as_many_items c.deref_mut.result.now c.extend_all_nulls.new.children c.in_err-extend_all_nulls.ensures.kept ∙ c.deref_mut.ensures.len) in
+    rw back (failed_parts _ _ _ _ _ _ _ _ _ _ _ _ c.self.invariant c.in_ok-extend_nulls-2.ensures.arrays c.in_ok-extend_nulls-2.ensures.form kept)
+
+pub nested::GrowableNestedGrowable::extend_validity-returns-in_err-extend_all_nulls-clause-overflow : goal.nested::GrowableNestedGrowable::extend_validity-returns-in_err-extend_all_nulls-clause-overflow
+nested::GrowableNestedGrowable::extend_validity-returns-in_err-extend_all_nulls-clause-overflow t c overflows fits =
+    let inside = c.self.inside in
+    let n = c.args.additional in
+    let fit = subst (λ h. FitsWith h (null_rows_of h n)) (sym c.self.view_is) fits in
+    let holds = holds_of inside.spans (map grown_of inside.children.items) inside.validity inside.len (bound_layouts inside.arrays) (type_of inside.data_type) inside.has_failed c.self.invariant c.if-self.false c.null_slots.ensures.sound in
+    let slots : c.in-Some-checked_mul.slots ≡ n * c.null_slots.result = omega (arith, c.in-Some-checked_mul.ensures) in
+    let refused = c.in_err-extend_all_nulls.ensures.overflow (ap Err (passed_on c.from_residual-in_err-extend_all_nulls.result _ _ c.from_residual-in_err-extend_all_nulls.ensures.1 overflows)) in
+    let some = subst (λ xs. SomeCannotHoldNulls c.in-Some-checked_mul.slots (map grown_of xs)) c.deref_mut.ensures.value refused in
+    let here = subst (λ k. SomeCannotHoldNulls k (map grown_of inside.children.items)) (slots ∙ ap (λ w. n * w) c.null_slots.ensures.count) some in
+    nulls_refused _ _ _ _ _ _ n holds here.0 no_grown here.1 (here.2 no_grown) fit
+
+-- the parts after the null rows are appended
+grown : (t : ℕ) (c : nested::GrowableNestedGrowable::extend_validity-After-self-4-1 t) → Step (grown_arrays c.self.inside.spans) (form_of c.self.inside.spans) (form_of c.extend_nulls-2.new.self) (map grown_of c.self.inside.children.items) (map grown_of c.extend_all_nulls.new.children) c.self.inside.validity c.extend_nulls.new.self c.in-Some.total (bound_layouts c.self.inside.arrays) (type_of c.self.inside.data_type) (replicate c.args.additional (null_slot (type_of c.self.inside.data_type)))
+grown t c =
+    let inside = c.self.inside in
+    let n = c.args.additional in
+    let slots : c.in-Some-checked_mul.slots ≡ n * c.null_slots.result = omega (arith, c.in-Some-checked_mul.ensures) in
+    let news = subst (λ xs. map grown_of c.extend_all_nulls.new.children ≡ map (grown_by_nulls c.in-Some-checked_mul.slots) (map grown_of xs)) c.deref_mut.ensures.value c.in_ok-extend_all_nulls.ensures.ok in
+    step_nulls inside.spans (map grown_of inside.children.items) inside.validity inside.len (bound_layouts inside.arrays) (type_of inside.data_type) inside.has_failed n c.self.invariant c.if-self.false c.null_slots.ensures.sound (form_of c.extend_nulls-2.new.self) (map grown_of c.extend_all_nulls.new.children) c.extend_nulls.new.self c.in-Some.total c.in-Some-checked_mul.slots (slots ∙ ap (λ w. n * w) c.null_slots.ensures.count) c.in_ok-extend_nulls-2.ensures.ok news c.in_ok-extend_nulls.ensures.ok (omega (arith, c.in-Some.ensures)) c.in_ok-extend_all_nulls.ensures.fits
+
+back_of : (t : ℕ) (c : nested::GrowableNestedGrowable::extend_validity-After-self-4-1 t) → take c.self.inside.children.len (c.extend_all_nulls.new.children ++ drop (length c.extend_all_nulls.new.children) c.self.inside.children.items) ≡ c.extend_all_nulls.new.children
+back_of t c =
+    written c.extend_all_nulls.new.children c.self.inside.children.items c.self.inside.children.len (as_many_items c.deref_mut.result.now c.extend_all_nulls.new.children c.in_ok-extend_all_nulls.ensures.kept ∙ c.deref_mut.ensures.len)
+
+pub nested::GrowableNestedGrowable::extend_validity-invariant_of-self-2 : goal.nested::GrowableNestedGrowable::extend_validity-invariant_of-self-2
+nested::GrowableNestedGrowable::extend_validity-invariant_of-self-2 t c =
+    rw (back_of t c) (subst (λ a. IsGrownNested a (form_of c.extend_nulls-2.new.self) (map grown_of c.extend_all_nulls.new.children) c.extend_nulls.new.self c.in-Some.total (bound_layouts c.self.inside.arrays) (type_of c.self.inside.data_type) false) (sym c.in_ok-extend_nulls-2.ensures.arrays) (grown t c).parts)
+
+pub nested::GrowableNestedGrowable::extend_validity-returns-clause-ok : goal.nested::GrowableNestedGrowable::extend_validity-returns-clause-ok
+nested::GrowableNestedGrowable::extend_validity-returns-clause-ok t c =
+    let s = grown t c in
+    let inside = c.self.inside in
+    let u = type_of inside.data_type in
+    let count : c.in-Some.total ≡ inside.len + length (replicate c.args.additional (null_slot u)) = omega (arith, c.in-Some.ensures, length-replicate c.args.additional (null_slot u)) in
+    let all = ap (λ xs. nested_rows (form_of c.extend_nulls-2.new.self) c.extend_nulls.new.self (rows_of_all (map grown_of xs))) (back_of t c) ∙ s.rows in
+    rw (← c.self.view_is) (λ j. record { arrow_type = u; sources = Some (bound_layouts inside.arrays); rows = all j; count = count j; failed = false })
+
+pub nested::GrowableNestedGrowable::extend_validity-returns-clause-fits : goal.nested::GrowableNestedGrowable::extend_validity-returns-clause-fits
+nested::GrowableNestedGrowable::extend_validity-returns-clause-fits t c =
+    let s = grown t c in
+    let sound = subst (λ a. IsSoundForm a (form_of c.extend_nulls-2.new.self)) c.in_ok-extend_nulls-2.ensures.arrays c.null_slots-new.ensures.sound in
+    let all = ap (λ xs. nested_rows (form_of c.extend_nulls-2.new.self) c.extend_nulls.new.self (rows_of_all (map grown_of xs))) (back_of t c) in
+    subst (Fits (type_of c.self.inside.data_type)) (sym all) (fits_step _ _ _ _ _ _ _ _ _ _ _ s (lies_with _ _ _ (spans_lie c.self.inside.spans) c.in_ok-extend_nulls-2.ensures.form) sound (omega (arith, c.in-Some.ensures)))

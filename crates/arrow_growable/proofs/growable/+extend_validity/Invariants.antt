@@ -1,0 +1,26 @@
+use Rattle.std.proofs.Common.{◌+◌, ◌*◌, ◌<◌, map, get_or}
+use Rattle.arrow_arrays.specs.TypeDepth.{deepest, type_depth}
+use Rattle.arrow_arrays.proofs.SliceLemmas.{ChangedUpTo}
+use Rattle.arrow_flat_growable.specs.Grown.{FitsItself}
+use Rattle.arrow_growable.specs.AnyGrowable.{grown_of}
+use Rattle.arrow_growable.specs.Child.{grown_by_nulls}
+use Rattle.arrow_growable.proofs.growable.+extend_validity.Given as goal
+
+-- each call goes to a less deep growable, or comes nearer to one
+
+abbrev pub decreases-children::extend_all_nulls : goal.decreases-children::extend_all_nulls
+decreases-children::extend_all_nulls l = 4 * deepest (map (λ g. g.arrow_type) (map grown_of l.children.now))
+
+abbrev pub decreases-children::extend_nulls : goal.decreases-children::extend_nulls
+decreases-children::extend_nulls l = 4 * type_depth ((grown_of l.child.now).arrow_type) + 3
+
+abbrev pub decreases-any::AnyGrowableGrowable::extend_validity : goal.decreases-any::AnyGrowableGrowable::extend_validity
+decreases-any::AnyGrowableGrowable::extend_validity l = 4 * type_depth ((grown_of l.self.now).arrow_type) + 2
+
+abbrev pub decreases-nested::GrowableNestedGrowable::extend_validity : goal.decreases-nested::GrowableNestedGrowable::extend_validity
+decreases-nested::GrowableNestedGrowable::extend_validity l = 4 * type_depth l.self.now.arrow_type + 1
+
+-- the children so far have grown, and fit; the others are as they were
+abbrev pub invariant-children::extend_all_nulls-loop-child : goal.invariant-children::extend_all_nulls-loop-child
+invariant-children::extend_all_nulls-loop-child l =
+    goal.unvisited-children::extend_all_nulls-loop-child l × ChangedUpTo grown_of (grown_by_nulls l.count) l.child-items l.initial.child-items l.child-index × ((k : _) (d : _) → k < l.child-index → FitsItself (grown_of (get_or l.child-items k d)))
