@@ -8,5 +8,6 @@ use arrow_types_fixture::check_again;
 #[test]
 fn growables(rt: HostRuntime) {
     check_again!(rt; any::check_shapes, any::check_elements);
-    check_again!(rt; typed::check_typed, typed::check_null_arrays, typed::check_lists);
+    check_again!(rt; typed::check_typed, typed::check_null_arrays, typed::check_nested);
+    check_again!(rt; typed::check_refused);
 }

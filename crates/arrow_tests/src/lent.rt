@@ -5,11 +5,14 @@ use arrow_arrays_fixture::arrays::{ListKind, Shape};
 use arrow_types_fixture::check;
 use std::process::Abort;
 
-/// Lists whose arrays can grow.
-pub const LISTS: [Shape; 3] = [
+/// The shapes with children whose arrays can grow.
+pub const NESTED: [Shape; 6] = [
     Shape::Lists(ListKind::Small),
     Shape::Lists(ListKind::Large),
     Shape::Lists(ListKind::Named),
+    Shape::Lists(ListKind::FixedSize),
+    Shape::Lists(ListKind::Map),
+    Shape::Pairs(None),
 ];
 
 /// That two arrays are equal.

@@ -5,7 +5,7 @@ ghost use Rattle.arrow_arrays.specs.Any.{any_array_type, layout_of};
 ghost use Rattle.arrow_growable.specs.AnyGrowable.{grown_of};
 ghost use Rattle.arrow_growable.specs.Growable.{IsGrowable};
 
-use crate::lent::{LISTS, from_row};
+use crate::lent::{NESTED, from_row};
 use arrow_arrays::array::{AnyArray, new_null_array};
 use arrow_arrays_fixture::arrays::{FLATS, Shape, array_of, boxed};
 use arrow_growable::growable::{AnyGrowable, Growable, is_growable, make_growable};
@@ -249,7 +249,7 @@ pub fn check_shapes(rt: &(impl Abort + Alloc<A = Global>)) -> Result<(), Error> 
         parts: [Part::Rows(0, 0, 193), Part::Nulls(0), Part::Nulls(0)],
         want: [&letters[7..], b"h"],
     };
-    for shape in FLATS.iter().chain(&LISTS) {
+    for shape in FLATS.iter().chain(&NESTED) {
         check_case(rt, Kind::Rows(*shape), ROWS, true)?;
         check_case(rt, Kind::Rows(*shape), ROWS, false)?;
         check_case(rt, Kind::Rows(*shape), long, false)?;

@@ -1,19 +1,23 @@
 //! Growables of one type each, and the arrays that they become.
 
-ghost use Rattle.std.specs.Prelude.{◌≡◌, ◌+◌, ◌≤◌, length, map, None};
+ghost use Rattle.std.specs.Prelude.{◌≡◌, ◌+◌, ◌≤◌, [], ◌∷◌, length, map, None, Some};
 ghost use Rattle.arrow_types.specs.Rows.{masked};
 ghost use Rattle.arrow_flat.specs.ByteRows.{byte_slots};
 ghost use Rattle.arrow_flat.specs.Parts.{rows_by};
+ghost use Rattle.arrow_arrays.specs.Layout.{rows};
+ghost use Rattle.arrow_arrays.specs.StructParts.{struct_layout};
 
-use crate::lent::{check_same, from_row};
-use arrow_arrays::array::{AnyArray, AnyOffset, ListArray};
-use arrow_arrays_fixture::arrays::{ListKind, Shape, array_of, boxed};
+use crate::lent::{NESTED, check_same, from_row};
+use arrow_arrays::array::{AnyArray, AnyOffset, StructArray};
+use arrow_arrays_fixture::arrays::{
+    ListKind, Shape, array_of, boxed, lists_of, make_structs,
+};
 use arrow_flat::array::{
     AnyElement, AnyPrimitive, ByteKind, ByteRows, FlatArray, NullArray, PrimitiveArray,
 };
 use arrow_growable::growable::{
     FlatGrowable, Growable, GrowableBits, GrowableBytes, GrowableFixedRows, GrowableKind,
-    GrowableList, GrowableNull, GrowableValues, is_growable,
+    GrowableNull, GrowableOf, GrowableStruct, GrowableValues, NestedArray, is_growable,
 };
 use arrow_types::datatypes::DataType;
 use arrow_types::error::Error;
@@ -179,27 +183,86 @@ pub fn check_null_arrays(rt: &(impl Abort + Alloc<A = Global>)) -> Result<(), Er
     Ok(())
 }
 
-/// The rows of an array of lists, twice.
-fn grow_twice(
+/// The rows of an array with children, twice.
+fn grow_twice<A: NestedArray>(
     rt: &(impl Abort + Alloc<A = Global>),
-    array: &ListArray,
-) -> Result<ListArray, Error> {
+    array: &A,
+    len: usize,
+) -> Result<A, Error>
+    requires { len ≡ length (rows (A.layout_in array.now)) }
+{
     assert!(rt; is_growable(array.data_type()));
-    let mut growable = GrowableList::new(rt.alloc(), vec![in rt.alloc(); array]?, false, 0)?;
-    growable.extend(0, 0, array.len())?;
-    growable.extend(0, 0, array.len())?;
+    let mut growable = GrowableOf::new(rt.alloc(), vec![in rt.alloc(); array]?, false, 0)?;
+    growable.extend(0, 0, len)?;
+    growable.extend(0, 0, len)?;
     growable.into_array()
 }
 
-/// A slice of lists that begins with a null, joined with itself.
-pub fn check_lists(rt: &(impl Abort + Alloc<A = Global>)) -> Result<(), Error> {
-    let shape = Shape::Lists(ListKind::Small);
-    let array = from_row(rt, array_of(rt.alloc(), shape, b"bCd")?, 1);
+/// The same of an array of any type.
+fn grow_nested(
+    rt: &(impl Abort + Alloc<A = Global>),
+    array: &AnyArray,
+) -> Result<AnyArray, Error> {
+    match array {
+        AnyArray::List(array) => Ok(AnyArray::List(grow_twice(rt, array, array.len())?)),
+        AnyArray::FixedSizeList(array) => {
+            Ok(AnyArray::FixedSizeList(grow_twice(rt, array, array.len())?))
+        }
+        AnyArray::Map(array) => Ok(AnyArray::Map(grow_twice(rt, array, array.len())?)),
+        AnyArray::Struct(array) => Ok(AnyArray::Struct(grow_twice(rt, array, array.len())?)),
+        _ => Err(Error::Failed),
+    }
+}
+
+/// A slice that begins with a null, joined with itself, of each shape with children.
+pub fn check_nested(rt: &(impl Abort + Alloc<A = Global>)) -> Result<(), Error> {
+    for shape in &NESTED {
+        let array = from_row(rt, array_of(rt.alloc(), *shape, b"bCd")?, 1);
+        let grown = boxed(rt.alloc(), grow_nested(rt, &array)?)?;
+        check_same(rt, &grown, &*array_of(rt.alloc(), *shape, b"CdCd")?);
+    }
+    Ok(())
+}
+
+/// Structs of a number and a list of as many items as lists can have: twice that is too many.
+fn wide_structs(rt: &impl Alloc<A = Global>) -> Result<Box<AnyArray>, Error> {
+    const MOST: usize = 2_147_483_647;
+    let items = AnyArray::Null(NullArray::try_new(DataType::Null, MOST)?);
+    let items = boxed(rt.alloc(), items)?;
+    let lists = lists_of(rt.alloc(), ListKind::Small, &[0, MOST], items, None)?;
+    let numbers = array_of(rt.alloc(), Shape::Number, b"1")?;
+    make_structs(rt.alloc(), b"a", numbers, lists)
+}
+
+/// A growable whose second child refuses: its rows are as many as before, and it has failed.
+fn check_failed(
+    rt: &impl Abort,
+    growable: &mut GrowableStruct,
+    array: &StructArray,
+) -> Result<(), Error>
+    requires { growable.old.sources ≡ Some (struct_layout array.now ∷ []) }
+{
+    assert!(rt; array.len() == 1);
+    growable.extend(0, 0, 1)?;
+    match growable.extend(0, 0, 1) {
+        Err(Error::OutOfMemory) => return Err(Error::OutOfMemory),
+        answer => check!(rt; answer == Err(Error::Overflow)),
+    }
+    check!(rt; growable.len() == 1);
+    check!(rt; growable.extend(0, 0, 1) == Err(Error::Failed));
+    check!(rt; growable.extend_validity(1) == Err(Error::Failed));
+    check!(rt; growable.as_box().err() == Some(Error::Failed));
+    Ok(())
+}
+
+pub fn check_refused(rt: &(impl Abort + Alloc<A = Global>)) -> Result<(), Error> {
+    let array = wide_structs(rt)?;
     match &*array {
-        AnyArray::List(array) => {
-            let grown = boxed(rt.alloc(), AnyArray::List(grow_twice(rt, array)?))?;
-            check_same(rt, &grown, &*array_of(rt.alloc(), shape, b"CdCd")?);
-            Ok(())
+        AnyArray::Struct(array) => {
+            assert!(rt; is_growable(array.data_type()));
+            let arrays = vec![in rt.alloc(); array]?;
+            let mut growable = GrowableStruct::new(rt.alloc(), arrays, false, 0)?;
+            check_failed(rt, &mut growable, array)
         }
         _ => Err(Error::Failed),
     }

@@ -1,6 +1,6 @@
 //! The rows at which a predicate is true.
 
-use crate::lent::{LISTS, from_row};
+use crate::lent::{NESTED, from_row};
 use crate::select::check_answer;
 use arrow_arrays::array::AnyArray;
 use arrow_arrays_fixture::arrays::{FLATS, Shape, array_of};
@@ -56,7 +56,7 @@ fn check_kept(
 }
 
 pub fn check_filter(rt: &(impl Abort + Alloc<A = Global>)) -> Result<(), Error> {
-    for shape in FLATS.iter().chain(&LISTS) {
+    for shape in FLATS.iter().chain(&NESTED) {
         for case in &CASES {
             check_rows(rt, *shape, *case)?;
         }

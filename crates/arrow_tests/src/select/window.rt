@@ -1,6 +1,6 @@
 //! Rows that are moved along an array.
 
-use crate::lent::{LISTS, from_row};
+use crate::lent::{NESTED, from_row};
 use crate::select::check_answer;
 use arrow_arrays::array::AnyArray;
 use arrow_arrays_fixture::arrays::{FLATS, Shape, array_of, boxed};
@@ -48,7 +48,7 @@ fn check_rows(rt: &(impl Abort + Alloc<A = Global>), shape: Shape) -> Result<(),
 }
 
 pub fn check_shift(rt: &(impl Abort + Alloc<A = Global>)) -> Result<(), Error> {
-    for shape in FLATS.iter().chain(&LISTS) {
+    for shape in FLATS.iter().chain(&NESTED) {
         check_rows(rt, *shape)?;
     }
     // As many rows as can be counted.
