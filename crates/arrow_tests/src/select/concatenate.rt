@@ -77,7 +77,14 @@ fn check_widest(rt: &(impl Abort + Alloc<A = Global>)) -> Result<(), Error> {
     const MOST: usize = 1 << 63;
     let data_type = DataType::FixedSizeList(item(rt.alloc(), DataType::Null)?, MOST);
     let items = nulls(rt, MOST)?;
-    let array = make_lists(rt.alloc(), ListKind::FixedSize, &data_type, &[], items, None)?;
+    let array = make_lists(
+        rt.alloc(),
+        ListKind::FixedSize,
+        &data_type,
+        &[],
+        items,
+        None,
+    )?;
     assert!(rt; is_growable(array.data_type()));
     let alone = boxed(rt.alloc(), concatenate(rt.alloc(), &[&array])?)?;
     check!(rt; *alone == *array);
@@ -150,6 +157,10 @@ pub fn check_concatenate(rt: &(impl Abort + Alloc<A = Global>)) -> Result<(), Er
     }
     let want = Error::InvalidArgumentError(ArgumentFault::ConcatenateEmpty);
     check_answer(rt, concatenate(rt.alloc(), &[]), Shape::Null, Err(want))?;
+    // A part before the whole.
+    let whole = array_of(rt.alloc(), Shape::Pairs(None), b"1_")?;
+    let part = from_row(rt, array_of(rt.alloc(), Shape::Pairs(None), b"1_")?, 1);
+    check_two(rt, &part, &whole, Shape::Pairs(None), Ok(b"_1_"))?;
     // More rows than can be counted.
     let (most, one) = (nulls(rt, usize::MAX)?, nulls(rt, 1)?);
     check_two(rt, &most, &one, Shape::Null, Err(Error::Overflow))?;
