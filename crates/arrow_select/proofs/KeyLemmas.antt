@@ -90,11 +90,11 @@ items_grow t grows shape =
 pub children_grow : (t : ArrowType) (arrays : List AnyArray) (children : List Layout) → IsGrowable t → shape_in t ≡ struct_shape → map layout_of arrays ≡ children → map type_of_layout children ≡ field_types t → All CanGrow arrays
 children_grow t arrays children grows shape same fields =
     λ k d within.
-        let types : map type_of_layout (map layout_of arrays) ≡ child_types t = ap (map type_of_layout) same ∙ (fields ∙ sym (struct_child_types t shape)) in
-        let there : k < length (map layout_of arrays) = omega (arith, within, length-map arrays layout_of) in
-        let among : k < length (child_types t) = omega (arith, there, ap length types, length-map (map layout_of arrays) type_of_layout) in
-        let read : get_or (child_types t) k (plain null) ≡ any_array_type (get_or arrays k d) = ap (λ ts. get_or ts k (plain null)) (sym types) ∙ (get_or-map type_of_layout (map layout_of arrays) k (layout_of d) (plain null) there ∙ ap type_of_layout (get_or-map layout_of arrays k d (layout_of d) within)) in
-        subst IsGrowable read (child_grows t k grows among)
+    let types : map type_of_layout (map layout_of arrays) ≡ child_types t = ap (map type_of_layout) same ∙ (fields ∙ sym (struct_child_types t shape)) in
+    let there : k < length (map layout_of arrays) = omega (arith, within, length-map arrays layout_of) in
+    let among : k < length (child_types t) = omega (arith, there, ap length types, length-map (map layout_of arrays) type_of_layout) in
+    let read : get_or (child_types t) k (plain null) ≡ any_array_type (get_or arrays k d) = ap (λ ts. get_or ts k (plain null)) (sym types) ∙ (get_or-map type_of_layout (map layout_of arrays) k (layout_of d) (plain null) there ∙ ap type_of_layout (get_or-map layout_of arrays k d (layout_of d) within)) in
+    subst IsGrowable read (child_grows t k grows among)
 
 -- each of several layouts holds none
 pub all_have_none : (ls : List Layout) → All HasNoKeys ls → HaveNoKeys (to_layouts ls)
