@@ -1,5 +1,5 @@
 -- Arrays that hold no dictionary: no row of theirs is crowded.
-use Rattle.std.proofs.Common.{arith, ◌≡◌, ◌+◌, ◌<◌, ◌≤◌, ◌⊎◌, ℕ, ℤ, inl, inr, suc, List, [], ◌∷◌, Option, Some, length, map, get_or, refl, ap, sym, subst, ◌∙◌, take, slice_index}
+use Rattle.std.proofs.Common.{arith, ◌≡◌, ◌+◌, ◌<◌, ◌⊎◌, ℕ, ℤ, inl, inr, suc, List, [], ◌∷◌, Option, Some, length, map, get_or, refl, ap, sym, subst, ◌∙◌, take, slice_index}
 use Rattle.std.specs.List.{All}
 use Rattle.std.proofs.Math.Nat.{eq-or-lt_of_le}
 use Rattle.std.proofs.lemmas.List.{get_or-map, get_or_default, length-map}

@@ -1,4 +1,4 @@
-use Rattle.std.proofs.Common.{arith, ◌≡◌, ◌<◌, All, map, ap, sym, subst, ◌∙◌}
+use Rattle.std.proofs.Common.{arith, All, ap, sym, subst, ◌∙◌}
 use Rattle.std.proofs.lemmas.List.Elements.{All-map}
 use Rattle.arrow_arrays.specs.Any.{layout_of}
 use Rattle.arrow_arrays.specs.Layout.{depth, depth_of_all, to_layouts, type_of_layout}
@@ -7,7 +7,7 @@ use Rattle.arrow_arrays.proofs.ShapeLemmas.{shape_of}
 use Rattle.arrow_growable.specs.Growable.{IsGrowable}
 use Rattle.arrow_growable.proofs.GrowableLemmas.{shape_of_lists, type_of_fixed_size_lists, type_of_maps, type_of_structs}
 use Rattle.arrow_select.specs.Arrays.{CanGrow}
-use Rattle.arrow_select.specs.Keys.{HasNoKeys, HaveNoKeys}
+use Rattle.arrow_select.specs.Keys.{HasNoKeys}
 use Rattle.arrow_select.proofs.KeyLemmas.{all_have_none, children_grow, flat_has_none, items_grow, next_has_none}
 use Rattle.arrow_select.proofs.keys.+keys.Goals as goal
 

@@ -1,4 +1,4 @@
-use Rattle.std.proofs.Common.{◌≡◌, ◌+◌, ◌*◌, ◌<◌, get_or, map}
+use Rattle.std.proofs.Common.{◌+◌, ◌*◌, ◌<◌, get_or, map}
 use Rattle.arrow_arrays.specs.Any.{layout_of}
 use Rattle.arrow_arrays.specs.Layout.{depth, depth_of_all, to_layouts}
 use Rattle.arrow_select.specs.Keys.{HasNoKeys}
