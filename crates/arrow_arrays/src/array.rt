@@ -6,9 +6,8 @@ mod dictionary;
 mod fixed_size_list;
 mod list;
 mod map;
-mod new;
 mod struct_;
-mod types;
+pub mod types;
 mod union;
 
 pub use any::AnyArray;
@@ -17,6 +16,5 @@ pub use dictionary::{AnyKeys, DictionaryArray};
 pub use fixed_size_list::FixedSizeListArray;
 pub use list::{AnyOffsetsBuffer, ListArray};
 pub use map::MapArray;
-pub use new::{new_empty_array, new_null_array};
 pub use struct_::StructArray;
 pub use union::UnionArray;

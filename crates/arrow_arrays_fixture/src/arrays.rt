@@ -61,6 +61,16 @@ pub const FLATS: [Shape; 9] = [
     Shape::FixedSizeBinary,
 ];
 
+/// The shapes with children whose arrays can grow.
+pub const NESTED: [Shape; 6] = [
+    Shape::Lists(ListKind::Small),
+    Shape::Lists(ListKind::Large),
+    Shape::Lists(ListKind::Named),
+    Shape::Lists(ListKind::FixedSize),
+    Shape::Lists(ListKind::Map),
+    Shape::Pairs(None),
+];
+
 /// The shapes whose rows are told apart by their letters, each with its physical type.
 pub const SHAPES: [(Shape, PhysicalType); 17] = [
     (Shape::Boolean, PhysicalType::Boolean),

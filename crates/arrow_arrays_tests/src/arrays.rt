@@ -7,28 +7,36 @@ mod refused;
 mod rows;
 mod unions;
 
-use arrow_types_fixture::check_again;
-
 #[test]
 fn rows_and_children(rt: HostRuntime) {
-    check_again!(rt; rows::check_shapes, rows::check_nulls);
-    check_again!(rt; children::check_parts, children::check_deep);
+    rows::check_shapes(&rt);
+    rows::check_nulls(&rt);
+    children::check_parts(&rt);
+    children::check_deep(&rt);
 }
 
 #[test]
 fn keys_and_unions(rt: HostRuntime) {
-    check_again!(rt; dictionaries::check_keys, dictionaries::check_equality);
-    check_again!(rt; unions::check_sparse, unions::check_dense);
+    dictionaries::check_keys(&rt);
+    dictionaries::check_equality(&rt);
+    unions::check_sparse(&rt);
+    unions::check_dense(&rt);
 }
 
 #[test]
 fn refused_parts(rt: HostRuntime) {
-    check_again!(rt; refused::check_order, refused::check_lengths, refused::check_fields);
-    check_again!(rt; dictionaries::check_refused, unions::check_refused);
+    refused::check_order(&rt);
+    refused::check_lengths(&rt);
+    refused::check_fields(&rt);
+    dictionaries::check_refused(&rt);
+    unions::check_refused(&rt);
 }
 
 #[test]
 fn new_arrays(rt: HostRuntime) {
-    check_again!(rt; new::check_types, new::check_equal, new::check_overflow);
-    check_again!(rt; new::check_unions, new::check_built);
+    new::check_types(&rt);
+    new::check_equal(&rt);
+    new::check_overflow(&rt);
+    new::check_unions(&rt);
+    new::check_built(&rt);
 }

@@ -149,7 +149,8 @@ fn check_run(
         if outcome == want.0 && output.as_slice() == want.1 {
             return;
         }
-        check!(rt; attempt == 0 && is_out_of_memory(outcome, &output, want), name);
+        check!(rt; attempt == 0, name);
+        check!(rt; is_out_of_memory(outcome, &output, want), name);
     }
 }
 

@@ -42,8 +42,10 @@ impl Write for Full {
 fn reads(rt: HostRuntime) {
     let mut buffer = [0; 4];
     let mut reader = Guarded::new(b"abcdef".as_slice());
-    check!(&rt; reader.read(&mut buffer) == Ok(4) && buffer.as_slice() == b"abcd".as_slice());
-    check!(&rt; reader.read(&mut buffer) == Ok(2) && reader.read(&mut buffer) == Ok(0));
+    check!(&rt; reader.read(&mut buffer) == Ok(4));
+    check!(&rt; buffer.as_slice() == b"abcd".as_slice());
+    check!(&rt; reader.read(&mut buffer) == Ok(2));
+    check!(&rt; reader.read(&mut buffer) == Ok(0));
     check!(&rt; !Source::failed(&reader));
     let mut broken = Guarded::new(Broken);
     check!(&rt; !Source::failed(&broken));

@@ -18,3 +18,15 @@ pub fn check_case(rt: &impl Abort, holds: bool, case: impl Copy + Debug)
 {
     assert!(rt; holds, "{case:?}");
 }
+
+/// The first of two that were made alike or, where a request for memory was refused then, the second.
+pub fn either<T: Drop, E: Debug + Drop>(
+    rt: &impl Abort,
+    first: Result<T, E>,
+    second: Result<T, E>,
+) -> T {
+    match first {
+        Ok(made) => made,
+        Err(_) => second.expect(rt, "it is made where memory is there"),
+    }
+}

@@ -6,22 +6,30 @@ mod nulls;
 mod numbers;
 mod scalars;
 
-use arrow_types_fixture::check_again;
-
 #[test]
 fn flat_arrays(rt: HostRuntime) {
-    check_again!(rt; letters::check_kinds, nulls::check_counts);
-    check_again!(rt; nulls::check_named, nulls::check_types);
-    check_again!(rt; numbers::check_integers, numbers::check_wide);
-    check_again!(rt; numbers::check_others, numbers::check_equality);
-    check_again!(rt; numbers::check_ranges);
-    check_again!(rt; bytes::check_texts, bytes::check_binary, bytes::check_layouts);
-    check_again!(rt; bytes::check_faults, bytes::check_refused_sizes, bytes::check_sizes);
+    letters::check_kinds(&rt);
+    nulls::check_counts(&rt);
+    nulls::check_named(&rt);
+    nulls::check_types(&rt);
+    numbers::check_integers(&rt);
+    numbers::check_wide(&rt);
+    numbers::check_others(&rt);
+    numbers::check_equality(&rt);
+    numbers::check_ranges(&rt);
+    bytes::check_texts(&rt);
+    bytes::check_binary(&rt);
+    bytes::check_layouts(&rt);
+    bytes::check_faults(&rt);
+    bytes::check_refused_sizes(&rt);
+    bytes::check_sizes(&rt);
 }
 
 #[test]
 fn scalars_of_each_type(rt: HostRuntime) {
     scalars::check_without_memory(&rt);
-    check_again!(rt; scalars::check_texts_and_bytes, scalars::check_refused);
-    check_again!(rt; scalars::check_entries, scalars::check_nested);
+    scalars::check_texts_and_bytes(&rt);
+    scalars::check_refused(&rt);
+    scalars::check_entries(&rt);
+    scalars::check_nested(&rt);
 }

@@ -1,5 +1,5 @@
 -- A child that grows by rows that are named, one call behind the other.
-use Rattle.std.proofs.Common.{arith, ◌≡◌, ◌+◌, ◌*◌, ◌-◌, ◌<◌, ◌≤◌, ◌⊎◌, inl, inr, ℕ, zero, suc, Bool, true, false, List, [], ◌++◌, Option, Some, None, length, replicate, refl, ap, sym, subst, ◌∙◌}
+use Rattle.std.proofs.Common.{arith, ◌≡◌, ◌+◌, ◌*◌, ◌-◌, ◌<◌, ◌≤◌, ◌⊎◌, inl, inr, ℕ, zero, suc, Bool, true, false, List, [], ◌∷◌, ◌++◌, Option, Some, None, length, replicate, refl, ap, sym, subst, ◌∙◌}
 use Rattle.std.specs.Prelude.{Result, Ok, Err, OnOk, IsOkUnless, ◌↔◌}
 use Rattle.std.specs.Result.{IsErrAnd}
 use Rattle.std.proofs.lemmas.List.{append_assoc, append-nil, length-append}
@@ -12,7 +12,7 @@ use Rattle.arrow_types.proofs.FitsLemmas.{Fits-beginning}
 use Rattle.arrow_memory.specs.Sliced.{sliced}
 use Rattle.arrow_arrays.specs.Layout.{Layout}
 use Rattle.arrow_flat_growable.specs.Grown.{Grown, AreThere, CannotHold, FitsItself, FitsWith, IsFailedOrMemory, NamesRows, RefusedBy, appended, named_rows, null_rows_of, rows_among}
-use Rattle.arrow_growable.specs.Child.{BindsRows, CannotGrow, CrowdsIn, GrownBy, IsWell, LiesIn, Rises, SameBound, bound_rows, source_rows, spread}
+use Rattle.arrow_growable.specs.Child.{BindsRows, CannotGrow, CrowdsIn, GrownBy, IsWell, LiesIn, NoneBeneath, Rises, SameBound, bound_rows, source_rows, spread}
 use Rattle.arrow_growable.proofs.SpreadLemmas.{spread_run}
 
 -- rows behind rows
@@ -109,6 +109,21 @@ lies_behind (suc n) b bits place i j lies =
 pub lies_in_all : (n : ℕ) (place : ℕ → ℕ) (i j : ℕ) → (place i ≤ j) × (j < place (i + n)) → LiesIn (replicate n true) place i j
 lies_in_all n place i j within =
     subst (λ bits. LiesIn bits place i j) (append-nil (replicate n true)) (lies_set n [] place i j within.0 within.1)
+
+-- of rows of which those that are null have nothing
+pub lies_bare : (bits : List Bool) (place : ℕ → ℕ) (i j : ℕ) → NoneBeneath bits place i → (place i ≤ j) × (j < place (i + length bits)) → LiesIn bits place i j
+lies_bare [] place i j bare within =
+    let same : i + 0 ≡ i = omega arith in
+    absurd (omega (arith, within.0, within.1, ap place same))
+lies_bare (true ∷ bits) place i j bare within =
+    let next : i + 1 + length bits ≡ i + suc (length bits) = omega arith in
+    elim (before_or j (place (i + 1))) [
+      | inl less ↦ inl (refl, within.0, less)
+      | inr more ↦ inr (lies_bare bits place (i + 1) j bare.1 (more, omega (arith, within.1, ap place next)))
+    ]
+lies_bare (false ∷ bits) place i j bare within =
+    let next : i + 1 + length bits ≡ i + suc (length bits) = omega arith in
+    inr (lies_bare bits place (i + 1) j bare.1 (omega (arith, within.0, bare.0 refl), omega (arith, within.1, ap place next)))
 
 -- and of a run of them
 module _ (nulls count : ℕ) (old bits : List Bool) (place : ℕ → ℕ) (i j : ℕ) (is : old ≡ replicate nulls false ++ (replicate count true ++ bits)) where

@@ -1,5 +1,5 @@
 -- What rows name of a child, a run at a time.
-use Rattle.std.proofs.Common.{arith, ◌≡◌, ◌+◌, ◌-◌, ◌*◌, ◌<◌, ◌≤◌, pos, ℕ, zero, suc, Bool, true, false, List, [], ◌∷◌, ◌++◌, length, replicate, slice_index, if◌then◌else◌, refl, ap, sym, ◌∙◌}
+use Rattle.std.proofs.Common.{arith, ◌≡◌, ◌+◌, ◌-◌, ◌*◌, ◌<◌, ◌≤◌, pos, ℕ, zero, suc, Bool, true, false, List, [], ◌∷◌, ◌++◌, length, replicate, slice_index, if◌then◌else◌, refl, ap, sym, subst, ◌∙◌}
 use Rattle.std.proofs.Math.Nat.{mul-le-mul_right}
 use Rattle.std.proofs.lemmas.List.{append_assoc, append-nil, length-append, length-map, length-replicate, replicate-append-replicate}
 use Rattle.arrow_types.specs.Slot.{Slot}
@@ -10,7 +10,7 @@ use Rattle.arrow_memory.proofs.SlicedLemmas.{length-sliced}
 use Rattle.arrow_flat_growable.specs.GrownRows.{valid_values}
 use Rattle.arrow_flat_growable.proofs.GrownRowLemmas.{sliced-cut}
 use Rattle.arrow_flat_growable.proofs.ValidRowLemmas.{run_long}
-use Rattle.arrow_growable.specs.Child.{Rises, spread}
+use Rattle.arrow_growable.specs.Child.{NoneBeneath, Rises, spread}
 
 module _ (w : ℕ) (none : Slot) (place : ℕ → ℕ) (xs : List Slot) where
   -- a run of rows that are null
@@ -58,6 +58,26 @@ module _ (w : ℕ) (none : Slot) (place : ℕ → ℕ) (xs : List Slot) where
     spread_all k i inside =
         ap (λ bs. spread w none bs place xs i) (sym (append-nil (replicate k true))) ∙ (spread_set k [] i inside ∙ append-nil (sliced xs (place i) (place (i + k) - place i)))
 
+    -- rows of which those that are null have nothing
+    pub spread_bare : (bits : List Bool) (i : ℕ) → i + length bits ≤ n → w ≡ 0 → NoneBeneath bits place i → spread w none bits place xs i ≡ sliced xs (place i) (place (i + length bits) - place i)
+    spread_bare [] i inside no_slots bare =
+        let same : i + 0 ≡ i = omega arith in
+        let nothing : place i - place i ≡ 0 = omega arith in
+        rw (same, nothing) refl
+    spread_bare (true ∷ bits) i inside no_slots bare =
+        let next : i + 1 + length bits ≡ i + suc (length bits) = omega arith in
+        let here = place i in
+        let behind = place (i + 1) in
+        let end = place (i + suc (length bits)) in
+        let low = rises.up i (i + 1) (omega arith) (omega (arith, inside)) in
+        let high = rises.up (i + 1) (i + suc (length bits)) (omega arith) inside in
+        let tail = spread_bare bits (i + 1) (omega (arith, inside)) no_slots bare.1 ∙ ap (λ j. sliced xs behind (place j - behind)) next in
+        ap (λ ys. sliced xs here (behind - here) ++ ys) tail ∙ sliced-cut xs here behind end low high
+    spread_bare (false ∷ bits) i inside no_slots bare =
+        let next : i + 1 + length bits ≡ i + suc (length bits) = omega arith in
+        let here = bare.0 refl in
+        ap (λ m. replicate m none ++ spread w none bits place xs (i + 1)) no_slots ∙ (spread_bare bits (i + 1) (omega (arith, inside)) no_slots bare.1 ∙ (λ t. sliced xs (here t) (place (next t) - here t)))
+
     -- how many, where each row has as many as a null one
     module _ (even : (k : ℕ) → k < n → place (k + 1) ≡ place k + w) where
       length-row : (bit : Bool) (i : ℕ) → i < n → length (if bit then sliced xs (place i) (place (i + 1) - place i) else replicate w none) ≡ w
@@ -70,6 +90,33 @@ module _ (w : ℕ) (none : Slot) (place : ℕ → ℕ) (xs : List Slot) where
       length-spread [] i inside = omega arith
       length-spread (bit ∷ bits) i inside =
           omega (arith, length-append (if bit then sliced xs (place i) (place (i + 1) - place i) else replicate w none) (spread w none bits place xs (i + 1)), length-row bit i (omega (arith, inside)), length-spread bits (i + 1) (omega (arith, inside)))
+
+module _ (place : ℕ → ℕ) (n high : ℕ) (rises : Rises place n high) where
+  -- a run of null rows that have nothing, and one of valid rows
+  bare_unset : (k : ℕ) (bits : List Bool) (i : ℕ) → i + k ≤ n → place (i + k) ≤ place i → NoneBeneath bits place (i + k) → NoneBeneath (replicate k false ++ bits) place i
+  bare_unset zero bits i inside empty bare =
+      let same : i + 0 ≡ i = omega arith in
+      subst (NoneBeneath bits place) same bare
+  bare_unset (suc k) bits i inside empty bare =
+      let next : i + suc k ≡ i + 1 + k = omega arith in
+      let at = ap place next in
+      let low = rises.up i (i + 1) (omega arith) (omega (arith, inside)) in
+      let high = rises.up (i + 1) (i + 1 + k) (omega arith) (omega (arith, inside)) in
+      (λ unset. omega (arith, low, high, empty, at), bare_unset k bits (i + 1) (omega (arith, inside)) (omega (arith, low, empty, at)) (subst (NoneBeneath bits place) next bare))
+
+  bare_set : (k : ℕ) (bits : List Bool) (i : ℕ) → NoneBeneath bits place (i + k) → NoneBeneath (replicate k true ++ bits) place i
+  bare_set zero bits i bare =
+      let same : i + 0 ≡ i = omega arith in
+      subst (NoneBeneath bits place) same bare
+  bare_set (suc k) bits i bare =
+      let next : i + suc k ≡ i + 1 + k = omega arith in
+      (λ unset. absurd cc, bare_set k bits (i + 1) (subst (NoneBeneath bits place) next bare))
+
+  pub bare_run : (nulls count : ℕ) (old bits : List Bool) (i : ℕ) → old ≡ replicate nulls false ++ (replicate count true ++ bits) → i + length old ≤ n → place (i + nulls) ≤ place i → NoneBeneath bits place (i + (nulls + count)) → NoneBeneath old place i
+  bare_run nulls count old bits i is inside empty bare =
+      let long = run_long nulls count old bits is in
+      let at : i + (nulls + count) ≡ i + nulls + count = omega arith in
+      subst (λ bs. NoneBeneath bs place i) (sym is) (bare_unset nulls (replicate count true ++ bits) i (omega (arith, inside, long)) empty (bare_set count bits (i + nulls) (subst (NoneBeneath bits place) at bare)))
 
 -- of lists: no null row has an item
 pub spread-valid : (none : Slot) (bits : List Bool) (os : List ℕ) (xs : List Slot) (i : ℕ) → spread 0 none bits (slice_index os) xs i ≡ valid_values bits os xs i

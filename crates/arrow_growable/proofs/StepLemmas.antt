@@ -1,5 +1,5 @@
 -- What a growable of arrays with children and the array that is named say together, and what it is after a call.
-use Rattle.std.proofs.Common.{arith, ◌≡◌, ◌+◌, ◌*◌, ◌/◌, ◌<◌, ◌^◌, inl, inr, ℕ, zero, suc, Bool, true, false, List, [], ◌∷◌, ◌++◌, None, Some, length, map, replicate, get_or, refl, ap, sym, subst, ◌∙◌}
+use Rattle.std.proofs.Common.{arith, ◌≡◌, ◌+◌, ◌-◌, ◌*◌, ◌/◌, ◌<◌, ◌≤◌, ◌^◌, inl, inr, ℕ, zero, suc, Bool, true, false, List, [], ◌∷◌, ◌++◌, None, Some, length, map, replicate, get_or, refl, ap, sym, subst, ◌∙◌}
 use Rattle.std.specs.List.{All}
 use Rattle.std.proofs.lemmas.List.{get_or-map, length-map}
 use Rattle.std.proofs.lemmas.List.Elements.{All-map}
@@ -12,18 +12,19 @@ use Rattle.arrow_types.specs.Fits.{Fits}
 use Rattle.arrow_types.specs.Physical.{physical_type_of}
 use Rattle.arrow_types.specs.Slot.{Slot, null_slot}
 use Rattle.arrow_memory.specs.Sliced.{sliced}
+use Rattle.arrow_memory.proofs.SlicedLemmas.{length-sliced}
 use Rattle.arrow_flat.specs.Faults.{IsCarriedAs}
 use Rattle.arrow_flat.specs.Parts.{bits_of_slice}
 use Rattle.arrow_arrays.specs.Layout.{Layout, listed, rows, type_of_layout}
 use Rattle.arrow_flat_growable.specs.Grown.{Grown, AreOfOneType, AreThere, CannotHold, FitsItself, bound_to, empty_over, first_type, source_at}
-use Rattle.arrow_growable.specs.Child.{AreBoundAs, BindsRows, CrowdsIn, IsWell, LiesIn, Rises, SomeCannotGrow, bound_rows, emptied_of, grown_by, grown_by_nulls}
+use Rattle.arrow_growable.specs.Child.{AreBoundAs, BindsRows, CrowdsIn, IsWell, LiesIn, NoneBeneath, Rises, SomeCannotGrow, bound_rows, emptied_of, grown_by, grown_by_nulls, spread}
 use Rattle.arrow_growable.specs.Form.{Form, by_fields, by_offsets, by_size, child_types, nested_rows, null_slots_by}
 use Rattle.arrow_growable.specs.GrowableSpans.{IsFormOf, IsFresh, IsSoundForm, emptied, form_of, form_with, form_with_nulls, grown_arrays}
 use Rattle.arrow_growable.specs.Lies.{Lies}
 use Rattle.arrow_growable.specs.Lists.{HoldsLists}
 use Rattle.arrow_growable.specs.Nested.{AreWhole, HoldsNested, IsGrownNested, fresh_children, rows_of_all}
 use Rattle.arrow_growable.specs.Source.{IsOfForm, children_in, nth_child, nulls_in, offsets_in, place_in, validity_in}
-use Rattle.arrow_growable.specs.Spans.{AreSpans, span_count, span_place}
+use Rattle.arrow_growable.specs.Spans.{AreSpans, span_count, span_nulls, span_place}
 use Rattle.arrow_growable.specs.declared.growable.grown_spans.GrowableSpans.{GrowableSpans}
 use Rattle.arrow_growable.specs.declared.growable.grown_spans.GrowableSpans.TheVariants.{Small, Large, Map, FixedSize, Fields}
 use Rattle.arrow_growable.specs.declared.growable.spans.Spans.{Spans}
@@ -33,7 +34,7 @@ use Rattle.arrow_growable.proofs.CrowdLemmas.{crowded_named}
 use Rattle.arrow_growable.proofs.EvenLemmas.{no_grown}
 use Rattle.arrow_growable.proofs.GrownLemmas.{AreEmpty, Grows, Holds, LiesSo, Names, child_refused, fits_rows, grows, grows_nulls, holds_nothing}
 use Rattle.arrow_growable.proofs.NestedLemmas.{as_many, binds_child, bits_long, bound_child}
-use Rattle.arrow_growable.proofs.SpreadLemmas.{offset_places, row_places, size_places}
+use Rattle.arrow_growable.proofs.SpreadLemmas.{offset_places, row_places, size_places, spread_bare}
 
 -- how rows lie, whatever rows there are
 
@@ -70,17 +71,28 @@ one_well os child bits len t holds zero d within = holds.child
 one_well os child bits len t holds (suc f) d within = absurd (omega (arith, within))
 
 -- places of rows rise, and lie in the rows of a child that is bound
+pub places_rise : (spans : Spans) → AreSpans spans → Rises (span_place spans) (span_count spans) (span_place spans (span_count spans))
+places_rise (places.Small offsets) sound =
+    record { up = (offset_places offsets.now sound).up; within = omega arith }
+places_rise (places.Large offsets) sound =
+    record { up = (offset_places offsets.now sound).up; within = omega arith }
+places_rise (places.Map offsets) sound =
+    record { up = (offset_places offsets.now sound).up; within = omega arith }
+places_rise (places.FixedSize size items) sound =
+    record { up = (size_places size (items / size) (items / size * size) (omega arith)).up; within = omega arith }
+places_rise (places.Fields count) sound =
+    record { up = (row_places count count (omega arith)).up; within = omega arith }
+
 pub rises_in : (spans : Spans) (g : Grown) (index : ℕ) → AreSpans spans → BindsRows g index (span_place spans (span_count spans)) → Rises (span_place spans) (span_count spans) (length (bound_rows g index))
-rises_in (places.Small offsets) g index sound binds =
-    record { up = (offset_places offsets.now sound).up; within = rows_there g index _ binds }
-rises_in (places.Large offsets) g index sound binds =
-    record { up = (offset_places offsets.now sound).up; within = rows_there g index _ binds }
-rises_in (places.Map offsets) g index sound binds =
-    record { up = (offset_places offsets.now sound).up; within = rows_there g index _ binds }
-rises_in (places.FixedSize size items) g index sound binds =
-    record { up = (size_places size (items / size) (items / size * size) (omega arith)).up; within = rows_there g index _ binds }
-rises_in (places.Fields count) g index sound binds =
-    record { up = (row_places count count (omega arith)).up; within = rows_there g index _ binds }
+rises_in spans g index sound binds =
+    record { up = (places_rise spans sound).up; within = rows_there g index _ binds }
+
+-- where rows that are null have nothing of a child, all name one part of it
+pub spread_part : (spans : Spans) (g : Grown) (index start n : ℕ) (valid : List Bool) → AreSpans spans → BindsRows g index (span_place spans (span_count spans)) → start + n ≤ span_count spans → start + n ≤ length valid → span_nulls spans ≡ 0 → NoneBeneath (sliced valid start n) (span_place spans) start → spread (span_nulls spans) (null_slot g.arrow_type) (sliced valid start n) (span_place spans) (bound_rows g index) start ≡ sliced (bound_rows g index) (span_place spans start) (span_place spans (start + n) - span_place spans start)
+spread_part spans g index start n valid sound bound part covered no_slots bare =
+    let many = length-sliced valid start n covered in
+    let whole = spread_bare (span_nulls spans) (null_slot g.arrow_type) (span_place spans) (bound_rows g index) (span_count spans) (rises_in spans g index sound bound) (sliced valid start n) start (omega (arith, many, part)) no_slots bare in
+    whole ∙ ap (λ k. sliced (bound_rows g index) (span_place spans start) (span_place spans (start + k) - span_place spans start)) many
 
 lies_by : (arrays : PhysicalType) (os ns : List ℕ) → LiesSo arrays (by_offsets os) → LiesSo arrays (by_offsets ns)
 lies_by physical.List os ns lies = tt

@@ -52,6 +52,11 @@ abbrev pub LiesIn : List Bool → (ℕ → ℕ) → ℕ → ℕ → Type 0
 LiesIn [] place i j = ⊥
 LiesIn (bit ∷ bits) place i j = ((bit ≡ true) × (place i ≤ j) × (j < place (i + 1))) ⊎ LiesIn bits place (i + 1) j
 
+-- no row whose bit is not set has a row of the child, of those from row i on, one for each bit
+abbrev pub NoneBeneath : List Bool → (ℕ → ℕ) → ℕ → Type 0
+NoneBeneath [] place i = Unit {0}
+NoneBeneath (bit ∷ bits) place i = (bit ≡ false → place (i + 1) ≡ place i) × NoneBeneath bits place (i + 1)
+
 -- a row of the child that is named is crowded behind the arrays before its own
 abbrev pub CrowdsIn : Option (List Layout) → ℕ → (ℕ → Type 0) → Type 0
 CrowdsIn None i Names = ⊥

@@ -4,12 +4,14 @@ mod bitmaps;
 mod buffers;
 mod offsets;
 
-use arrow_types_fixture::check_again;
-
 #[test]
 fn bits_values_and_offsets(rt: HostRuntime) {
-    check_again!(rt; bitmaps::check_runs, bitmaps::check_example, bitmaps::check_room);
-    check_again!(rt; buffers::check_parts);
-    check_again!(rt; offsets::check_places, offsets::check_numbers, offsets::check_appended);
-    check_again!(rt; offsets::check_valid);
+    bitmaps::check_runs(&rt);
+    bitmaps::check_example(&rt);
+    bitmaps::check_room(&rt);
+    buffers::check_parts(&rt);
+    offsets::check_places(&rt);
+    offsets::check_numbers(&rt);
+    offsets::check_appended(&rt);
+    offsets::check_valid(&rt);
 }

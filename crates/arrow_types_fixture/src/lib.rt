@@ -17,12 +17,12 @@ macro_rules! check {
     };
 }
 
-/// Makes each check, and once more where it fails: then a request for memory may have been refused.
+/// What an expression makes. It is made twice, since one request for memory may have been refused: then
+/// the other is taken. So a test has no way out at each call, on which all that it owns is dropped, and
+/// which a proof of it would have to walk. A crate of tests has `either` of its own.
 #[macro_export]
-macro_rules! check_again {
-    ($rt:ident; $($check:path),+) => {
-        $(
-            assert!($rt; $check(&$rt).is_ok() || $check(&$rt).is_ok());
-        )+
+macro_rules! made {
+    ($rt:expr; $made:expr) => {
+        crate::check::either($rt, $made, $made)
     };
 }

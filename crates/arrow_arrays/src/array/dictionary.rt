@@ -275,9 +275,9 @@ impl Clone for DictionaryArray {
     #[cycle(clone)]
     fn clone(&self) -> Result<DictionaryArray, AllocError> {
         Ok(DictionaryArray {
-            data_type: self.data_type.clone()?,
             keys: self.keys.clone()?,
             values: clone_boxed(&self.values)?,
+            data_type: self.data_type.clone()?,
         })
     }
 }

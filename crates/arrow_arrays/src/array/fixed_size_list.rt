@@ -304,10 +304,10 @@ impl Clone for FixedSizeListArray {
     #[cycle(clone)]
     fn clone(&self) -> Result<FixedSizeListArray, AllocError> {
         Ok(FixedSizeListArray {
-            data_type: self.data_type.clone()?,
             size: self.size,
             values: clone_boxed(&self.values)?,
             validity: self.validity.clone()?,
+            data_type: self.data_type.clone()?,
         })
     }
 }

@@ -398,10 +398,10 @@ impl Clone for ListArray {
     #[cycle(clone)]
     fn clone(&self) -> Result<ListArray, AllocError> {
         Ok(ListArray {
-            data_type: self.data_type.clone()?,
             offsets: self.offsets.clone()?,
             values: clone_boxed(&self.values)?,
             validity: self.validity.clone()?,
+            data_type: self.data_type.clone()?,
         })
     }
 }

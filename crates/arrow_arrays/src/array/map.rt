@@ -286,10 +286,10 @@ impl Clone for MapArray {
     #[cycle(clone)]
     fn clone(&self) -> Result<MapArray, AllocError> {
         Ok(MapArray {
-            data_type: self.data_type.clone()?,
             offsets: self.offsets.clone()?,
             field: clone_boxed(&self.field)?,
             validity: self.validity.clone()?,
+            data_type: self.data_type.clone()?,
         })
     }
 }

@@ -333,9 +333,9 @@ impl Clone for StructArray {
     #[cycle(clone)]
     fn clone(&self) -> Result<StructArray, AllocError> {
         Ok(StructArray {
-            data_type: self.data_type.clone()?,
             values: clone_all(&self.values)?,
             validity: self.validity.clone()?,
+            data_type: self.data_type.clone()?,
         })
     }
 }

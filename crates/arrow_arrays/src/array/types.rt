@@ -16,7 +16,7 @@ use arrow_types::datatypes::{DataType, Field, UnionMode};
 use arrow_types::types::Index;
 
 /// The type of the items of a list or of the entries of a map; of another type, the type itself.
-pub(crate) fn item_type(data_type: &DataType) -> &DataType
+pub fn item_type(data_type: &DataType) -> &DataType
     ensures { type_of result.now ≡ item_type (type_of data_type.now) }
 {
     match data_type {
@@ -29,7 +29,7 @@ pub(crate) fn item_type(data_type: &DataType) -> &DataType
 }
 
 /// How many items a row of a fixed-size list has; of another type, 0.
-pub(crate) fn list_size(data_type: &DataType) -> usize
+pub fn list_size(data_type: &DataType) -> usize
     ensures { result ≡ list_size (type_of data_type.now) }
 {
     match data_type {
@@ -40,7 +40,7 @@ pub(crate) fn list_size(data_type: &DataType) -> usize
 }
 
 /// The fields of a struct or a union; of another type, none.
-pub(crate) fn fields_of(data_type: &DataType) -> &[Field]
+pub fn fields_of(data_type: &DataType) -> &[Field]
     ensures { map (λ field. type_in (field_of field)) result.now ≡ field_types (type_of data_type.now) }
 {
     match data_type {
@@ -51,7 +51,7 @@ pub(crate) fn fields_of(data_type: &DataType) -> &[Field]
 }
 
 /// The type of the values of a dictionary; of another type, the type itself.
-pub(crate) fn values_type(data_type: &DataType) -> &DataType
+pub fn values_type(data_type: &DataType) -> &DataType
     ensures { type_of result.now ≡ values_in (type_of data_type.now) }
 {
     match data_type {
@@ -62,7 +62,7 @@ pub(crate) fn values_type(data_type: &DataType) -> &DataType
 }
 
 /// The mode of a union; of another type, sparse.
-pub(crate) fn mode(data_type: &DataType) -> UnionMode
+pub fn mode(data_type: &DataType) -> UnionMode
     ensures { result ≡ mode_in (type_of data_type.now) }
 {
     match data_type {

@@ -440,11 +440,11 @@ impl Clone for UnionArray {
     #[cycle(clone)]
     fn clone(&self) -> Result<UnionArray, AllocError> {
         Ok(UnionArray {
-            data_type: self.data_type.clone()?,
             types: self.types.clone()?,
             fields: clone_all(&self.fields)?,
             offsets: clone_offsets(&self.offsets)?,
             start: self.start,
+            data_type: self.data_type.clone()?,
         })
     }
 }

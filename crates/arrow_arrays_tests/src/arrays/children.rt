@@ -9,7 +9,7 @@ use arrow_arrays_fixture::arrays::{ListKind, Shape, array_of, boxed, lists_of, m
 use arrow_memory::bitmap::Bitmap;
 use arrow_types::datatypes::UnionMode;
 use arrow_types::error::Error;
-use arrow_types_fixture::check;
+use arrow_types_fixture::{check, made};
 use std::alloc::Global;
 use std::process::Abort;
 
@@ -22,56 +22,41 @@ fn check_spans(rt: &impl Abort, offsets: &AnyOffsetsBuffer, spans: &[(usize, usi
 }
 
 /// The items of a list, where each row lies among them, and the same of clones.
-fn check_list(
-    rt: &impl Abort,
-    array: &ListArray,
-    spans: &[(usize, usize)],
-    items: &AnyArray,
-) -> Result<(), Error> {
-    check!(rt; array.clone()? == *array && array.values() == items);
+fn check_list(rt: &impl Abort, array: &ListArray, spans: &[(usize, usize)], items: &AnyArray) {
+    check!(rt; made!(rt; array.clone()) == *array);
+    check!(rt; array.values() == items);
     check_spans(rt, array.offsets(), spans);
-    check_spans(rt, &array.offsets().clone()?, spans);
-    Ok(())
+    check_spans(rt, &made!(rt; array.offsets().clone()), spans);
 }
 
 /// The same of a map.
-fn check_map(
-    rt: &impl Abort,
-    array: &MapArray,
-    spans: &[(usize, usize)],
-    items: &AnyArray,
-) -> Result<(), Error> {
-    check!(rt; array.clone()? == *array && array.field() == items);
+fn check_map(rt: &impl Abort, array: &MapArray, spans: &[(usize, usize)], items: &AnyArray) {
+    check!(rt; made!(rt; array.clone()) == *array);
+    check!(rt; array.field() == items);
     for (i, span) in spans.iter().enumerate() {
         check!(rt; i < array.len() && array.offsets().start_end(i) == *span);
     }
-    Ok(())
 }
 
 /// The same of lists of two items each.
-fn check_fixed(rt: &impl Abort, array: &FixedSizeListArray, items: &AnyArray) -> Result<(), Error> {
-    check!(rt; array.clone()? == *array && array.values() == items && array.size() == 2);
-    Ok(())
+fn check_fixed(rt: &impl Abort, array: &FixedSizeListArray, items: &AnyArray) {
+    check!(rt; made!(rt; array.clone()) == *array);
+    check!(rt; array.values() == items);
+    check!(rt; array.size() == 2);
 }
 
 /// The fields of a struct, which are those of another, and the same of a clone.
-fn check_struct(rt: &impl Abort, array: &StructArray, items: &AnyArray) -> Result<(), Error> {
-    check!(rt; array.clone()? == *array);
+fn check_struct(rt: &impl Abort, array: &StructArray, items: &AnyArray) {
+    check!(rt; made!(rt; array.clone()) == *array);
     match items {
         AnyArray::Struct(items) => check!(rt; array.values() == items.values()),
         _ => panic!(rt; "no struct"),
     }
-    Ok(())
 }
 
 /// The children of lists or of a struct and, but for those of a fixed size, where each list lies among
 /// them.
-fn check_items(
-    rt: &impl Abort,
-    array: &AnyArray,
-    spans: &[(usize, usize)],
-    items: &AnyArray,
-) -> Result<(), Error> {
+fn check_items(rt: &impl Abort, array: &AnyArray, spans: &[(usize, usize)], items: &AnyArray) {
     match array {
         AnyArray::List(array) => check_list(rt, array, spans, items),
         AnyArray::Map(array) => check_map(rt, array, spans, items),
@@ -114,11 +99,19 @@ const ITEMS: [(ListKind, &[u8]); 5] = [
     (ListKind::FixedSize, b"aaccdd"),
 ];
 
-fn check_under(rt: &(impl Abort + Alloc<A = Global>), shape: Shape) -> Result<(), Error> {
+/// The rows abCd under another validity, by which the first and the third are null.
+fn first_and_third_null(
+    rt: &(impl Abort + Alloc<A = Global>),
+    shape: Shape,
+) -> Result<Box<AnyArray>, Error> {
     let validity = Bitmap::from_bools(rt.alloc(), &[false, true, false, true])?;
     let array = array_of(rt.alloc(), shape, b"abCd")?;
-    let array = boxed(rt.alloc(), under(rt, array, validity))?;
-    check_rows(rt, &array, shape, b"AbCd")
+    boxed(rt.alloc(), under(rt, array, validity))
+}
+
+fn check_under(rt: &(impl Abort + Alloc<A = Global>), shape: Shape) {
+    let array = made!(rt; first_and_third_null(rt, shape));
+    check_rows(rt, &array, shape, b"AbCd");
 }
 
 /// The children of the rows from row 1 on, and another validity over the same children.
@@ -128,16 +121,16 @@ fn check_children(
     rows: &[u8],
     item: Shape,
     items: &[u8],
-) -> Result<(), Error> {
-    let array = from_row(rt, array_of(rt.alloc(), shape, rows)?, 1);
-    let items = array_of(rt.alloc(), item, items)?;
-    check_items(rt, &array, &[(1, 1), (1, 3), (3, 6)], &items)?;
-    check_under(rt, shape)
+) {
+    let array = from_row(rt, made!(rt; array_of(rt.alloc(), shape, rows)), 1);
+    let items = made!(rt; array_of(rt.alloc(), item, items));
+    check_items(rt, &array, &[(1, 1), (1, 3), (3, 6)], &items);
+    check_under(rt, shape);
 }
 
 /// The children of slices, those of a struct and of lists of a fixed size slices too, and other
 /// validities over the same children.
-pub fn check_parts(rt: &(impl Abort + Alloc<A = Global>)) -> Result<(), Error> {
+pub fn check_parts(rt: &(impl Abort + Alloc<A = Global>)) {
     let pairs = Shape::Pairs(None);
     for (kind, items) in &ITEMS {
         let item = if *kind == ListKind::Map {
@@ -145,9 +138,9 @@ pub fn check_parts(rt: &(impl Abort + Alloc<A = Global>)) -> Result<(), Error> {
         } else {
             Shape::Utf8
         };
-        check_children(rt, Shape::Lists(*kind), b"bAcd", item, items)?;
+        check_children(rt, Shape::Lists(*kind), b"bAcd", item, items);
     }
-    check_children(rt, pairs, b"abCd", pairs, b"bcd")
+    check_children(rt, pairs, b"abCd", pairs, b"bcd");
 }
 
 /// Letters without their bar, and how many stand before it.
@@ -159,44 +152,70 @@ fn marked(alloc: Global, text: &str) -> Result<(Vec<u8>, usize), Error> {
 }
 
 /// The rows of these letters behind the bar.
-fn part_of(
-    rt: &(impl Abort + Alloc<A = Global>),
-    shape: Shape,
-    text: &str,
-) -> Result<Box<AnyArray>, Error> {
-    let (letters, start) = marked(rt.alloc(), text)?;
-    Ok(from_row(rt, array_of(rt.alloc(), shape, &letters)?, start))
+fn part_of(rt: &(impl Abort + Alloc<A = Global>), shape: Shape, text: &str) -> Box<AnyArray> {
+    let (letters, start) = made!(rt; marked(rt.alloc(), text));
+    from_row(rt, made!(rt; array_of(rt.alloc(), shape, &letters)), start)
 }
 
 /// Structs of a dictionary of these keys and a union of these values.
+fn structs_of(
+    rt: &(impl Abort + Alloc<A = Global>),
+    letters: &[u8],
+    keys: &str,
+    values: &str,
+) -> Result<Box<AnyArray>, Error> {
+    let left = part_of(rt, Shape::Dictionary, keys);
+    let right = part_of(rt, Shape::Pairs(Some(UnionMode::Sparse)), values);
+    make_structs(rt.alloc(), letters, left, right)
+}
+
+/// Such structs, of the letters behind the bar.
 fn deep_structs(
     rt: &(impl Abort + Alloc<A = Global>),
     rows: &str,
     keys: &str,
     values: &str,
-) -> Result<Box<AnyArray>, Error> {
-    let left = part_of(rt, Shape::Dictionary, keys)?;
-    let right = part_of(rt, Shape::Pairs(Some(UnionMode::Sparse)), values)?;
-    let (letters, start) = marked(rt.alloc(), rows)?;
-    Ok(from_row(rt, make_structs(rt.alloc(), &letters, left, right)?, start))
+) -> Box<AnyArray> {
+    let (letters, start) = made!(rt; marked(rt.alloc(), rows));
+    from_row(rt, made!(rt; structs_of(rt, &letters, keys, values)), start)
 }
 
-/// Lists of such structs, from each end to the next.
-fn deep_lists(
-    rt: &(impl Abort + Alloc<A = Global>),
-    structs: Box<AnyArray>,
-    ends: &str,
-) -> Result<Box<AnyArray>, Error> {
-    let (digits, start) = marked(rt.alloc(), ends)?;
-    let mut ends = Vec::with_capacity(rt.alloc(), digits.len())?;
+/// The ends that these digits are, without their bar, and how many stand before it.
+fn ends_of(alloc: Global, text: &str) -> Result<(Vec<usize>, usize), Error> {
+    let (digits, start) = marked(alloc, text)?;
+    let mut ends = Vec::with_capacity(alloc, digits.len())?;
     for digit in &digits {
         ends.push(usize::from(digit.saturating_sub(b'0')))?;
     }
-    Ok(from_row(
+    Ok((ends, start))
+}
+
+/// Lists of such structs, from each end to the next.
+fn lists_over(
+    rt: &(impl Abort + Alloc<A = Global>),
+    ends: &[usize],
+    rows: &str,
+    keys: &str,
+    values: &str,
+) -> Result<Box<AnyArray>, Error> {
+    let structs = deep_structs(rt, rows, keys, values);
+    lists_of(rt.alloc(), ListKind::Small, ends, structs, None)
+}
+
+/// Such lists, of the ends behind the bar.
+fn deep_lists(
+    rt: &(impl Abort + Alloc<A = Global>),
+    ends: &str,
+    rows: &str,
+    keys: &str,
+    values: &str,
+) -> Box<AnyArray> {
+    let (ends, start) = made!(rt; ends_of(rt.alloc(), ends));
+    from_row(
         rt,
-        lists_of(rt.alloc(), ListKind::Small, &ends, structs, None)?,
+        made!(rt; lists_over(rt, &ends, rows, keys, values)),
         start,
-    ))
+    )
 }
 
 /// The ends of lists, and the letters of structs, of their keys and of their union. As many rows as stand before a
@@ -221,13 +240,11 @@ const DEEP: [(&str, &str, &str, &str, bool); 14] = [
 ];
 
 /// Slices at each level hold the same rows, and a row that differs below tells the lists apart.
-pub fn check_deep(rt: &(impl Abort + Alloc<A = Global>)) -> Result<(), Error> {
-    let structs = deep_structs(rt, "abCde", "abcDe", "abcdE")?;
-    let array = deep_lists(rt, structs, "0225")?;
+pub fn check_deep(rt: &(impl Abort + Alloc<A = Global>)) {
+    let array = deep_lists(rt, "0225", "abCde", "abcDe", "abcdE");
     for (ends, rows, keys, values, want) in &DEEP {
-        let other = deep_lists(rt, deep_structs(rt, rows, keys, values)?, ends)?;
+        let other = deep_lists(rt, ends, rows, keys, values);
         let found = [*array == *other, *other == *array];
         check!(rt; found == [*want; 2], (*ends, *rows, *keys, *values));
     }
-    Ok(())
 }

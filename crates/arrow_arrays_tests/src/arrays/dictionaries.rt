@@ -7,9 +7,9 @@ use arrow_flat_fixture::arrays::marks_of;
 use arrow_memory::buffer::Buffer;
 use arrow_types::datatypes::DataType;
 use arrow_types::error::{Error, SpecPart};
-use arrow_types_fixture::check;
 use arrow_types_fixture::read::read;
 use arrow_types_fixture::types::refusal;
+use arrow_types_fixture::{check, made};
 use std::alloc::Global;
 use std::process::Abort;
 
@@ -62,7 +62,8 @@ fn are_same(keys: &AnyKeys, others: &AnyKeys) -> bool {
 
 /// The key of each row, as a digit, or `_` for a null.
 fn check_each(rt: &impl Abort, array: &DictionaryArray, want: &[u8]) {
-    check!(rt; array.len() == want.len() && array.is_empty() == want.is_empty());
+    check!(rt; array.len() == want.len());
+    check!(rt; array.is_empty() == want.is_empty());
     let keys = array.keys();
     let mut nulls = 0usize;
     for (i, digit) in want.iter().enumerate() {
@@ -77,36 +78,40 @@ fn check_each(rt: &impl Abort, array: &DictionaryArray, want: &[u8]) {
 }
 
 /// The rows, over two values, and whether there is a validity. Clones are the same.
-fn check_rows(
-    rt: &impl Abort,
-    array: &DictionaryArray,
-    has_validity: bool,
-    want: &[u8],
-) -> Result<(), Error> {
+fn check_rows(rt: &impl Abort, array: &DictionaryArray, has_validity: bool, want: &[u8]) {
     check_each(rt, array, want);
     match array.validity() {
         None => check!(rt; !has_validity),
-        Some(bits) => check!(rt; has_validity && bits.len() == want.len()),
+        Some(bits) => {
+            check!(rt; has_validity);
+            check!(rt; bits.len() == want.len());
+        }
     }
-    check!(rt; array.clone()? == *array && array.values().len() == 2);
-    check!(rt; are_same(array.keys(), &array.keys().clone()?));
-    Ok(())
+    check!(rt; made!(rt; array.clone()) == *array);
+    check!(rt; array.values().len() == 2);
+    check!(rt; are_same(array.keys(), &made!(rt; array.keys().clone())));
+}
+
+/// So many rows from one on.
+fn part_of(rt: &impl Abort, array: DictionaryArray, offset: usize, len: usize) -> DictionaryArray {
+    assert!(rt; offset <= array.len() && len <= array.len() - offset);
+    array.sliced(offset, len)
 }
 
 /// Slices of an array, over the same values.
-fn check_slices(
-    rt: &impl Abort,
-    array: &mut DictionaryArray,
-    slices: &[(usize, usize, &[u8])],
-) -> Result<(), Error> {
+fn check_slices(rt: &impl Abort, array: &mut DictionaryArray, slices: &[(usize, usize, &[u8])]) {
     for (offset, len, rows) in slices {
         let (offset, len) = (*offset, *len);
         assert!(rt; offset <= array.len() && len <= array.len() - offset);
-        check_rows(rt, &array.clone()?.sliced(offset, len), true, rows)?;
+        check_rows(
+            rt,
+            &part_of(rt, made!(rt; array.clone()), offset, len),
+            true,
+            rows,
+        );
         array.slice(offset, len);
-        check_rows(rt, array, true, rows)?;
+        check_rows(rt, array, true, rows);
     }
-    Ok(())
 }
 
 /// Where each slice begins in the one before, its length, and the key of each row.
@@ -131,15 +136,14 @@ const KEYS: [(&[i8], &str, &[u8], &[u8], Slices); 7] = [
 
 /// The keys of each row, and of slices. A key that names no value lies beneath a null, and one that
 /// names a null value is valid.
-pub fn check_keys(rt: &(impl Abort + Alloc<A = Global>)) -> Result<(), Error> {
+pub fn check_keys(rt: &(impl Abort + Alloc<A = Global>)) {
     for (keys, validity, letters, rows, slices) in &KEYS {
-        let mut array = dictionary_of(rt.alloc(), NARROW, keys, validity, letters)?;
-        check_rows(rt, &array, *validity != "-", rows)?;
+        let mut array = made!(rt; dictionary_of(rt.alloc(), NARROW, keys, validity, letters));
+        check_rows(rt, &array, *validity != "-", rows);
         let nulls = usize::from(*letters == b"aB".as_slice());
         check!(rt; array.values().null_count() == nulls);
-        check_slices(rt, &mut array, slices)?;
+        check_slices(rt, &mut array, slices);
     }
-    Ok(())
 }
 
 const KIND: Option<SpecPart> = Some(SpecPart::Kind);
@@ -163,12 +167,11 @@ const REFUSED: [(&str, &[i8], &str, Option<SpecPart>); 11] = [
 
 /// Types of another kind, keys of another width and values of another type. Keys below 0, the last one
 /// that names a value, and one past it. Keys of 64 bits, the greatest of which names no value.
-pub fn check_refused(rt: &(impl Abort + Alloc<A = Global>)) -> Result<(), Error> {
+pub fn check_refused(rt: &(impl Abort + Alloc<A = Global>)) {
     for (words, keys, validity, want) in &REFUSED {
-        let made = dictionary_of(rt.alloc(), words, keys, validity, b"ab");
-        check!(rt; refusal(made)? == *want, (keys, words));
+        let found = made!(rt; refusal(dictionary_of(rt.alloc(), words, keys, validity, b"ab")));
+        check!(rt; found == *want, (keys, words));
     }
-    Ok(())
 }
 
 /// The validity of the keys 0 and 1 over a and b, other keys, and whether they say the same.
@@ -185,11 +188,10 @@ const EQUAL: [(&str, &str, &[i8], &str, &[u8], bool); 8] = [
 
 /// Equal to the keys 0 and 1 over a and b are arrays whose keys name the same values, wherever these lie,
 /// whatever lies beneath nulls, but not under another type.
-pub fn check_equality(rt: &(impl Abort + Alloc<A = Global>)) -> Result<(), Error> {
+pub fn check_equality(rt: &(impl Abort + Alloc<A = Global>)) {
     for (marks, words, keys, validity, letters, want) in &EQUAL {
-        let array = dictionary_of(rt.alloc(), NARROW, &[0, 1], marks, b"ab")?;
-        let other = dictionary_of(rt.alloc(), words, keys, validity, letters)?;
+        let array = made!(rt; dictionary_of(rt.alloc(), NARROW, &[0, 1], marks, b"ab"));
+        let other = made!(rt; dictionary_of(rt.alloc(), words, keys, validity, letters));
         check!(rt; (array == other) == *want, (keys, letters));
     }
-    Ok(())
 }

@@ -1,13 +1,14 @@
 //! Arrays of nulls and arrays without rows.
 
-use crate::arrays::refused::check_refused;
 use crate::lent::check_same;
-use arrow_arrays::array::{AnyArray, new_empty_array, new_null_array};
+use arrow_arrays::array::AnyArray;
 use arrow_arrays_fixture::arrays::{Shape, both, boxed, flat, make_union};
+use arrow_new_arrays::array::{new_empty_array, new_null_array};
 use arrow_types::datatypes::DataType;
 use arrow_types::error::{Error, SpecPart};
-use arrow_types_fixture::check;
 use arrow_types_fixture::read::read;
+use arrow_types_fixture::types::refusal;
+use arrow_types_fixture::{check, made};
 use std::alloc::Global;
 use std::process::Abort;
 
@@ -36,44 +37,56 @@ const TYPES: [(&str, usize); 20] = [
     ("i8 utf8 union:dense:5,7", 0),
 ];
 
-/// No row of a type, and two, of which so many are null.
-fn check_type(
+/// No row of a type.
+fn no_rows(
     rt: &(impl Abort + Alloc<A = Global>),
     data_type: &DataType,
-    null_count: usize,
-) -> Result<(), Error> {
+) -> Result<Box<AnyArray>, Error> {
     assert!(rt; data_type.is_carried());
-    let empty = boxed(rt.alloc(), new_empty_array(rt.alloc(), data_type.clone()?)?)?;
-    check!(rt; empty.len() == 0 && empty.data_type() == data_type);
-    let nulls = boxed(
-        rt.alloc(),
-        new_null_array(rt.alloc(), data_type.clone()?, 2)?,
-    )?;
-    check!(rt; nulls.len() == 2 && nulls.null_count() == null_count);
-    check!(rt; nulls.data_type() == data_type);
-    Ok(())
-}
-
-pub fn check_types(rt: &(impl Abort + Alloc<A = Global>)) -> Result<(), Error> {
-    for (text, null_count) in &TYPES {
-        check_type(rt, &read(rt.alloc(), text)?, *null_count)?;
-    }
-    Ok(())
+    boxed(rt.alloc(), new_empty_array(rt.alloc(), data_type.clone()?)?)
 }
 
 /// So many null rows of a type.
+fn null_rows(
+    rt: &(impl Abort + Alloc<A = Global>),
+    data_type: &DataType,
+    count: usize,
+) -> Result<Box<AnyArray>, Error> {
+    assert!(rt; data_type.is_carried());
+    boxed(
+        rt.alloc(),
+        new_null_array(rt.alloc(), data_type.clone()?, count)?,
+    )
+}
+
+/// No row of a type, and two, of which so many are null.
+fn check_type(rt: &(impl Abort + Alloc<A = Global>), data_type: &DataType, null_count: usize) {
+    let empty = made!(rt; no_rows(rt, data_type));
+    check!(rt; empty.len() == 0);
+    check!(rt; empty.data_type() == data_type);
+    let nulls = made!(rt; null_rows(rt, data_type, 2));
+    check!(rt; nulls.len() == 2);
+    check!(rt; nulls.null_count() == null_count);
+    check!(rt; nulls.data_type() == data_type);
+}
+
+pub fn check_types(rt: &(impl Abort + Alloc<A = Global>)) {
+    for (text, null_count) in &TYPES {
+        check_type(rt, &made!(rt; read(rt.alloc(), text)), *null_count);
+    }
+}
+
+/// The same of a type by its words.
 fn nulls(
     rt: &(impl Abort + Alloc<A = Global>),
     text: &str,
     count: usize,
 ) -> Result<Box<AnyArray>, Error> {
-    let data_type = read(rt.alloc(), text)?;
-    assert!(rt; data_type.is_carried());
-    boxed(rt.alloc(), new_null_array(rt.alloc(), data_type, count)?)
+    null_rows(rt, &read(rt.alloc(), text)?, count)
 }
 
 /// Null rows are equal to rows that are null, whatever lies beneath.
-pub fn check_equal(rt: &(impl Abort + Alloc<A = Global>)) -> Result<(), Error> {
+pub fn check_equal(rt: &(impl Abort + Alloc<A = Global>)) {
     for (text, shape) in [
         ("null", Shape::Null),
         ("bool", Shape::Boolean),
@@ -81,40 +94,48 @@ pub fn check_equal(rt: &(impl Abort + Alloc<A = Global>)) -> Result<(), Error> {
         ("utf8", Shape::Utf8),
         ("fixed_binary:3", Shape::FixedSizeBinary),
     ] {
-        let rows = flat(rt.alloc(), shape, b"AB")?;
-        check_same(rt, &*nulls(rt, text, 2)?, &rows);
+        let rows = made!(rt; flat(rt.alloc(), shape, b"AB"));
+        let nulls = made!(rt; nulls(rt, text, 2));
+        check_same(rt, &nulls, &rows);
     }
-    Ok(())
+}
+
+/// Whether so many null rows of a type are refused, as what they hold is not counted.
+fn overflows(
+    rt: &(impl Abort + Alloc<A = Global>),
+    text: &str,
+    count: usize,
+) -> Result<bool, Error> {
+    match nulls(rt, text, count) {
+        Ok(_) => Ok(false),
+        Err(Error::Overflow) => Ok(true),
+        Err(error) => Err(error),
+    }
 }
 
 /// Items that are not counted: at two rows, and not at one.
-pub fn check_overflow(rt: &(impl Abort + Alloc<A = Global>)) -> Result<(), Error> {
+pub fn check_overflow(rt: &(impl Abort + Alloc<A = Global>)) {
     let half = "null fixed_list:9223372036854775808";
-    check!(rt; nulls(rt, half, 1)?.len() == 1);
+    check!(rt; made!(rt; nulls(rt, half, 1)).len() == 1);
     for text in [half, "fixed_binary:9223372036854775808"] {
-        match nulls(rt, text, 2) {
-            Err(Error::Overflow) => {}
-            Err(error) => return Err(error),
-            Ok(_) => rt.panic("no overflow"),
-        }
+        check!(rt; made!(rt; overflows(rt, text, 2)), text);
     }
-    Ok(())
 }
 
 /// Null rows of a union are null rows of its first field, by the type id of that: as these rows of its child.
-pub fn check_unions(rt: &(impl Abort + Alloc<A = Global>)) -> Result<(), Error> {
+pub fn check_unions(rt: &(impl Abort + Alloc<A = Global>)) {
     for (text, row) in [
         ("i8 utf8 union:sparse:5,7", 1),
         ("i8 utf8 union:dense:5,7", 0),
     ] {
-        let nulls = nulls(rt, text, 2)?;
+        let nulls = made!(rt; nulls(rt, text, 2));
         let AnyArray::Union(array) = &*nulls else {
             rt.panic("no union");
         };
         assert!(rt; array.len() == 2);
-        check!(rt; array.index(0) == (0, 0) && array.index(1) == (0, row));
+        check!(rt; array.index(0) == (0, 0));
+        check!(rt; array.index(1) == (0, row));
     }
-    Ok(())
 }
 
 /// A sparse union of numbers and texts, with these type ids and numbers. No text is null.
@@ -126,8 +147,10 @@ fn union_of(alloc: Global, ids: &[i8], letters: &[u8]) -> Result<Box<AnyArray>, 
 }
 
 /// The same rows, built from parts. A type id that no field has makes no union.
-pub fn check_built(rt: &(impl Abort + Alloc<A = Global>)) -> Result<(), Error> {
-    let rows = union_of(rt.alloc(), &[5, 5], b"AB")?;
-    check_same(rt, &*nulls(rt, "i32 utf8 union:sparse:5,7", 2)?, &rows);
-    check_refused(rt, union_of(rt.alloc(), &[6], b"A"), SpecPart::TypeId)
+pub fn check_built(rt: &(impl Abort + Alloc<A = Global>)) {
+    let rows = made!(rt; union_of(rt.alloc(), &[5, 5], b"AB"));
+    let nulls = made!(rt; nulls(rt, "i32 utf8 union:sparse:5,7", 2));
+    check_same(rt, &nulls, &rows);
+    let refused = made!(rt; refusal(union_of(rt.alloc(), &[6], b"A")));
+    check!(rt; refused == Some(SpecPart::TypeId));
 }

@@ -8,8 +8,8 @@ use arrow_arrays_fixture::arrays::{
 use arrow_flat_fixture::arrays::validity_of;
 use arrow_types::datatypes::{DataType, UnionMode};
 use arrow_types::error::{Error, SpecPart};
-use arrow_types_fixture::check;
 use arrow_types_fixture::types::refusal;
+use arrow_types_fixture::{check, made};
 use std::alloc::Global;
 use std::process::Abort;
 
@@ -123,34 +123,34 @@ const ORDERS: [(Shape, &[Option<SpecPart>]); 8] = [
     (Shape::Pairs(Some(UnionMode::Dense)), DENSE),
 ];
 
+/// Two rows of a shape, with parts that are wrong.
+fn wrong_array(alloc: Global, shape: Shape, wrong: Wrong) -> Result<Box<AnyArray>, Error> {
+    match shape {
+        Shape::Lists(kind) => wrong_lists(alloc, kind, wrong),
+        Shape::Pairs(mode) => wrong_pairs(alloc, mode, wrong),
+        shape => array_of(alloc, shape, b"aB"),
+    }
+}
+
 /// Of two parts that are wrong the first is named, and each where it alone is wrong; with none an array
 /// is made.
-pub fn check_order(rt: &(impl Abort + Alloc<A = Global>)) -> Result<(), Error> {
+pub fn check_order(rt: &(impl Abort + Alloc<A = Global>)) {
     for (shape, parts) in &ORDERS {
         for (i, first) in parts.iter().enumerate() {
             for second in parts.iter().skip(i) {
                 let wrong = [*first, *second];
-                let made = match *shape {
-                    Shape::Lists(kind) => wrong_lists(rt.alloc(), kind, wrong),
-                    Shape::Pairs(mode) => wrong_pairs(rt.alloc(), mode, wrong),
-                    shape => array_of(rt.alloc(), shape, b"aB"),
-                };
-                check!(rt; refusal(made)? == *first, (wrong, *shape));
+                let found = made!(rt; refusal(wrong_array(rt.alloc(), *shape, wrong)));
+                check!(rt; found == *first, (wrong, *shape));
             }
         }
     }
-    Ok(())
 }
 
-/// That the parts of an array were refused, and for which.
-pub fn check_refused(
-    rt: &impl Abort,
-    made: Result<Box<AnyArray>, Error>,
-    part: SpecPart,
-) -> Result<(), Error> {
-    let refused = refusal(made)?;
-    check!(rt; refused == Some(part));
-    Ok(())
+/// Lists of two items each, over three.
+fn uneven_lists(alloc: Global) -> Result<Box<AnyArray>, Error> {
+    let data_type = list_type(alloc, ListKind::FixedSize, DataType::Utf8)?;
+    let items = flat(alloc, Shape::Utf8, b"abc")?;
+    make_lists(alloc, ListKind::FixedSize, &data_type, &[], items, None)
 }
 
 /// Two texts and a number, as the fields of a struct.
@@ -160,33 +160,29 @@ fn uneven_pairs(alloc: Global) -> Result<Box<AnyArray>, Error> {
 }
 
 /// Children that are no whole rows, and of unequal lengths.
-pub fn check_lengths(rt: &(impl Abort + Alloc<A = Global>)) -> Result<(), Error> {
-    let alloc = rt.alloc();
-    let data_type = list_type(alloc, ListKind::FixedSize, DataType::Utf8)?;
-    let items = flat(alloc, Shape::Utf8, b"abc")?;
-    let made = make_lists(alloc, ListKind::FixedSize, &data_type, &[], items, None);
-    check_refused(rt, made, SpecPart::Length)?;
-    check_refused(rt, uneven_pairs(alloc), SpecPart::Length)
+pub fn check_lengths(rt: &(impl Abort + Alloc<A = Global>)) {
+    let found = made!(rt; refusal(uneven_lists(rt.alloc())));
+    check!(rt; found == LENGTH);
+    let found = made!(rt; refusal(uneven_pairs(rt.alloc())));
+    check!(rt; found == LENGTH);
+}
+
+/// A struct of two fields over one child.
+fn one_child(alloc: Global) -> Result<StructArray, Error> {
+    let data_type = pair_type(alloc, None, DataType::Utf8, DataType::Utf8)?;
+    let fields = vec![in alloc; Box::into_inner(flat(alloc, Shape::Utf8, b"ab")?)]?;
+    StructArray::try_new(data_type, fields, None)
+}
+
+/// A struct of no field.
+fn no_field(alloc: Global) -> Result<StructArray, Error> {
+    StructArray::try_new(DataType::Struct(Vec::new(alloc)), Vec::new(alloc), None)
 }
 
 /// A struct of too few children, and one of no field.
-pub fn check_fields(rt: &(impl Abort + Alloc<A = Global>)) -> Result<(), Error> {
-    let alloc = rt.alloc();
-    let data_type = pair_type(alloc, None, DataType::Utf8, DataType::Utf8)?;
-    let fields = vec![in alloc; Box::into_inner(flat(alloc, Shape::Utf8, b"ab")?)]?;
-    check_struct(rt, data_type, fields, SpecPart::Child)?;
-    let data_type = DataType::Struct(Vec::new(alloc));
-    check_struct(rt, data_type, Vec::new(alloc), SpecPart::Kind)
-}
-
-/// The same of a struct of these fields.
-fn check_struct(
-    rt: &impl Abort,
-    data_type: DataType,
-    fields: Vec<AnyArray>,
-    part: SpecPart,
-) -> Result<(), Error> {
-    let refused = refusal(StructArray::try_new(data_type, fields, None))?;
-    check!(rt; refused == Some(part));
-    Ok(())
+pub fn check_fields(rt: &(impl Abort + Alloc<A = Global>)) {
+    let found = made!(rt; refusal(one_child(rt.alloc())));
+    check!(rt; found == CHILD);
+    let found = made!(rt; refusal(no_field(rt.alloc())));
+    check!(rt; found == KIND);
 }

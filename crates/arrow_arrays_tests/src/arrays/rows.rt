@@ -7,7 +7,7 @@ use arrow_flat_fixture::arrays::EQUAL;
 use arrow_types::datatypes::{DataType, PhysicalType};
 use arrow_types::error::Error;
 use arrow_types::laws::{equals_both_ways, equals_itself, equals_through};
-use arrow_types_fixture::check;
+use arrow_types_fixture::{check, made};
 use std::alloc::Global;
 use std::process::Abort;
 
@@ -17,9 +17,10 @@ pub fn check_rows(
     array: &AnyArray,
     shape: Shape,
     letters: &[u8],
-) -> Result<(), Error> {
-    check!(rt; *array == *array_of(rt.alloc(), shape, letters)?, shape);
-    check!(rt; array.len() == letters.len() && array.is_empty() == letters.is_empty());
+) {
+    check!(rt; *array == *made!(rt; array_of(rt.alloc(), shape, letters)), shape);
+    check!(rt; array.len() == letters.len());
+    check!(rt; array.is_empty() == letters.is_empty());
     let is_union = matches!(&shape, Shape::Pairs(Some(_)));
     let mut nulls = 0usize;
     for (i, letter) in letters.iter().enumerate() {
@@ -33,7 +34,6 @@ pub fn check_rows(
         nulls = nulls.saturating_add(usize::from(!is_set));
     }
     check!(rt; array.null_count() == nulls);
-    Ok(())
 }
 
 /// Whether a row is valid, as its own kind of array says.
@@ -71,29 +71,34 @@ fn slice(rt: &impl Abort, array: &mut AnyArray, offset: usize, len: usize) {
     array.slice(offset, len);
 }
 
+/// A clone, in a box of its own.
+fn copied(alloc: Global, array: &AnyArray) -> Result<Box<AnyArray>, Error> {
+    boxed(alloc, array.clone()?)
+}
+
 /// Slices, each of the one before: the same as one slice of all rows, and as an array of the rows alone.
 fn check_parts(
     rt: &(impl Abort + Alloc<A = Global>),
     shape: Shape,
     array: &AnyArray,
     part: &mut AnyArray,
-) -> Result<(), Error> {
+) {
     let mut start = 0usize;
     for (offset, len, rows) in &SLICES {
         start = start.saturating_add(*offset);
         slice(rt, part, *offset, *len);
-        check_rows(rt, part, shape, rows)?;
-        let whole = boxed(rt.alloc(), array.clone()?)?;
+        check_rows(rt, part, shape, rows);
+        let whole = made!(rt; copied(rt.alloc(), array));
         check_sliced(rt, whole, start, *len, part);
     }
-    Ok(())
 }
 
 /// Slices of the rows baCDabb.
-fn check_slices(rt: &(impl Abort + Alloc<A = Global>), shape: Shape) -> Result<(), Error> {
-    let array = array_of(rt.alloc(), shape, b"baCDabb")?;
-    check_parts(rt, shape, &array, &mut AnyArray::clone(&array)?)?;
-    check_rows(rt, &array, shape, b"baCDabb")
+fn check_slices(rt: &(impl Abort + Alloc<A = Global>), shape: Shape) {
+    let array = made!(rt; array_of(rt.alloc(), shape, b"baCDabb"));
+    let mut part = made!(rt; copied(rt.alloc(), &array));
+    check_parts(rt, shape, &array, &mut part);
+    check_rows(rt, &array, shape, b"baCDabb");
 }
 
 /// Whether rows are the same as others but their first letter.
@@ -103,28 +108,27 @@ fn check_pair(
     left: &[u8],
     right: &[u8],
     want: bool,
-) -> Result<(), Error> {
-    let array = array_of(rt.alloc(), shape, left)?;
-    check_rows(rt, &array, shape, left)?;
-    let other = from_row(rt, array_of(rt.alloc(), shape, right)?, 1);
+) {
+    let array = made!(rt; array_of(rt.alloc(), shape, left));
+    check_rows(rt, &array, shape, left);
+    let other = from_row(rt, made!(rt; array_of(rt.alloc(), shape, right)), 1);
     check!(rt; [*array == *other, *other == *array] == [want; 2], (left, right, shape));
     check_laws(rt, &array, &other, want);
-    Ok(())
 }
 
 /// The laws of equality, of two arrays.
 fn check_laws(rt: &impl Abort, array: &AnyArray, other: &AnyArray, want: bool) {
-    check!(rt; equals_itself(array) && equals_both_ways(array, other) == want);
+    check!(rt; equals_itself(array));
+    check!(rt; equals_both_ways(array, other) == want);
     check!(rt; equals_through(array, other, other) == want);
 }
 
 /// Equal are the same rows, whatever is stored beneath nulls, wherever they begin, and under a validity
 /// or none. The first letter of the other rows is sliced off.
-fn check_equality(rt: &(impl Abort + Alloc<A = Global>), shape: Shape) -> Result<(), Error> {
+fn check_equality(rt: &(impl Abort + Alloc<A = Global>), shape: Shape) {
     for (left, right, want) in &EQUAL {
-        check_pair(rt, shape, left, right, *want)?;
+        check_pair(rt, shape, left, right, *want);
     }
-    Ok(())
 }
 
 /// An array, and arrays of the same rows of other types, from which the data type tells it apart.
@@ -133,40 +137,39 @@ fn check_type(
     shape: Shape,
     physical: PhysicalType,
     rows: &[u8],
-) -> Result<(), Error> {
-    let array = array_of(rt.alloc(), shape, rows)?;
+) {
+    let array = made!(rt; array_of(rt.alloc(), shape, rows));
     check!(rt; array.data_type().to_physical_type() == physical);
     for (other, _) in &SHAPES {
-        let is_same = *array == *array_of(rt.alloc(), *other, rows)?;
+        let is_same = *array == *made!(rt; array_of(rt.alloc(), *other, rows));
         check!(rt; is_same == (shape == *other), (shape, *other));
     }
-    Ok(())
 }
 
 /// Arrays of every shape. The data type tells those of the same rows apart, and those of no row too.
-pub fn check_shapes(rt: &(impl Abort + Alloc<A = Global>)) -> Result<(), Error> {
+pub fn check_shapes(rt: &(impl Abort + Alloc<A = Global>)) {
     for (shape, physical) in &SHAPES {
-        check_slices(rt, *shape)?;
-        check_equality(rt, *shape)?;
-        check_type(rt, *shape, *physical, b"ab")?;
-        check_type(rt, *shape, *physical, b"")?;
+        check_slices(rt, *shape);
+        check_equality(rt, *shape);
+        check_type(rt, *shape, *physical, b"ab");
+        check_type(rt, *shape, *physical, b"");
     }
-    Ok(())
 }
 
 /// Rows that are all null.
-pub fn check_nulls(rt: &(impl Abort + Alloc<A = Global>)) -> Result<(), Error> {
-    let nulls = flat(rt.alloc(), Shape::Null, b"abc")?;
-    let part = from_row(rt, boxed(rt.alloc(), AnyArray::clone(&nulls)?)?, 1);
-    check_all_null(rt, &nulls, &part, &*flat(rt.alloc(), Shape::Null, b"ab")?);
-    Ok(())
+pub fn check_nulls(rt: &(impl Abort + Alloc<A = Global>)) {
+    let nulls = made!(rt; flat(rt.alloc(), Shape::Null, b"abc"));
+    let part = from_row(rt, made!(rt; copied(rt.alloc(), &nulls)), 1);
+    let want = made!(rt; flat(rt.alloc(), Shape::Null, b"ab"));
+    check_all_null(rt, &nulls, &part, &want);
 }
 
 /// Rows of the null type, and a part of them.
 fn check_all_null(rt: &impl Abort, nulls: &AnyArray, part: &AnyArray, want: &AnyArray) {
     check!(rt; matches!(nulls.data_type(), DataType::Null));
     check!(rt; nulls.validity().is_none());
-    check!(rt; 0 < nulls.len() && !nulls.is_valid(0) && !is_valid_by_kind(nulls, 0));
+    check!(rt; 0 < nulls.len() && !nulls.is_valid(0));
+    check!(rt; !is_valid_by_kind(nulls, 0));
     check!(rt; part.len() == 2);
     check!(rt; part.null_count() == 2);
     check!(rt; !part.is_empty());

@@ -5,8 +5,8 @@ use arrow_arrays::array::AnyArray;
 use arrow_arrays_fixture::arrays::{Shape, both, flat, make_union, pair_type};
 use arrow_types::datatypes::{DataType, UnionMode};
 use arrow_types::error::{Error, SpecPart};
-use arrow_types_fixture::check;
 use arrow_types_fixture::types::refusal;
+use arrow_types_fixture::{check, made};
 use std::alloc::Global;
 use std::process::Abort;
 
@@ -38,12 +38,13 @@ fn check_union(
     start: usize,
     want: &[(i8, usize, usize)],
     offsets: Option<&[i32]>,
-) -> Result<(), Error> {
+) {
     let AnyArray::Union(array) = array else {
         panic!(rt; "no union");
     };
-    check!(rt; array.clone()? == *array);
-    check!(rt; array.start() == start && array.len() == want.len());
+    check!(rt; made!(rt; array.clone()) == *array);
+    check!(rt; array.start() == start);
+    check!(rt; array.len() == want.len());
     match array.offsets() {
         None => check!(rt; offsets.is_none()),
         Some(found) => check!(rt; offsets == Some(found.as_slice())),
@@ -55,7 +56,6 @@ fn check_union(
     for field in array.fields() {
         check!(rt; field.len() == 4);
     }
-    Ok(())
 }
 
 const SPARSE: UnionMode = UnionMode::Sparse;
@@ -70,68 +70,43 @@ fn checked_from(
     start: usize,
     want: &[(i8, usize, usize)],
     offsets: Option<&[i32]>,
-) -> Result<Box<AnyArray>, Error> {
+) -> Box<AnyArray> {
     let part = from_row(rt, array, first);
-    check_union(rt, &part, start, want, offsets)?;
-    Ok(part)
+    check_union(rt, &part, start, want, offsets);
+    part
 }
 
-/// Whether an array is equal to one that is made.
-fn check_equal(
-    rt: &impl Abort,
-    array: &AnyArray,
-    made: Result<Box<AnyArray>, Error>,
-    want: bool,
-) -> Result<(), Error> {
-    let other = made?;
-    check!(rt; (*array == *other) == want);
-    Ok(())
+/// Whether an array is equal to another.
+fn check_equal(rt: &impl Abort, array: &AnyArray, other: &AnyArray, want: bool) {
+    check!(rt; (array == other) == want);
 }
 
 /// The rows of a sparse union and of its slices, each of the one before.
-pub fn check_sparse(rt: &(impl Abort + Alloc<A = Global>)) -> Result<(), Error> {
+pub fn check_sparse(rt: &(impl Abort + Alloc<A = Global>)) {
     let alloc = rt.alloc();
     let rows = [(5, 0, 0), (7, 1, 1), (7, 1, 2), (5, 0, 3)];
-    let array = union_of(alloc, &[5, 7, 7, 5], b"abcd", b"efgh", SPARSE, &[])?;
-    let array = checked_from(rt, array, 0, 0, &rows, None)?;
-    let part = checked_from(rt, array, 2, 2, &rows[2..], None)?;
-    check_equal(
-        rt,
-        &part,
-        union_of(alloc, &[7, 5], b"Hd", b"ga", SPARSE, &[]),
-        true,
-    )?;
-    check_equal(
-        rt,
-        &part,
-        union_of(alloc, &[7, 5], b"Hc", b"ga", SPARSE, &[]),
-        false,
-    )?;
-    checked_from(rt, part, 1, 3, &rows[3..], None)?;
-    Ok(())
+    let array = made!(rt; union_of(alloc, &[5, 7, 7, 5], b"abcd", b"efgh", SPARSE, &[]));
+    let array = checked_from(rt, array, 0, 0, &rows, None);
+    let part = checked_from(rt, array, 2, 2, &rows[2..], None);
+    let same = made!(rt; union_of(alloc, &[7, 5], b"Hd", b"ga", SPARSE, &[]));
+    check_equal(rt, &part, &same, true);
+    let other = made!(rt; union_of(alloc, &[7, 5], b"Hc", b"ga", SPARSE, &[]));
+    check_equal(rt, &part, &other, false);
+    checked_from(rt, part, 1, 3, &rows[3..], None);
 }
 
 /// The rows of a dense union and of a slice. Those that name the same row of a child are equal.
-pub fn check_dense(rt: &(impl Abort + Alloc<A = Global>)) -> Result<(), Error> {
+pub fn check_dense(rt: &(impl Abort + Alloc<A = Global>)) {
     let alloc = rt.alloc();
     let (ids, offsets) = ([5, 7, 5, 7], [1, 0, 1, 0]);
     let rows = [(5, 0, 1), (7, 1, 0), (5, 0, 1), (7, 1, 0)];
-    let array = union_of(alloc, &ids, b"abcd", b"efgh", DENSE, &offsets)?;
-    let array = checked_from(rt, array, 0, 0, &rows, Some(&offsets))?;
-    check_equal(
-        rt,
-        &array,
-        union_of(alloc, &ids, b"Bbb", b"de", DENSE, &[1, 1, 2, 1]),
-        true,
-    )?;
-    check_equal(
-        rt,
-        &array,
-        union_of(alloc, &ids, b"Bbb", b"de", DENSE, &[1, 1, 0, 1]),
-        false,
-    )?;
-    checked_from(rt, array, 1, 0, &rows[1..], Some(&offsets[1..]))?;
-    Ok(())
+    let array = made!(rt; union_of(alloc, &ids, b"abcd", b"efgh", DENSE, &offsets));
+    let array = checked_from(rt, array, 0, 0, &rows, Some(&offsets));
+    let same = made!(rt; union_of(alloc, &ids, b"Bbb", b"de", DENSE, &[1, 1, 2, 1]));
+    check_equal(rt, &array, &same, true);
+    let other = made!(rt; union_of(alloc, &ids, b"Bbb", b"de", DENSE, &[1, 1, 0, 1]));
+    check_equal(rt, &array, &other, false);
+    checked_from(rt, array, 1, 0, &rows[1..], Some(&offsets[1..]));
 }
 
 const LENGTH: Option<SpecPart> = Some(SpecPart::Length);
@@ -162,10 +137,9 @@ const REFUSED: [(&[i8], &[u8], &[u8], UnionMode, &[i32], Option<SpecPart>); 15] 
 ];
 
 /// Children, type ids and offsets that make no union, and some that do.
-pub fn check_refused(rt: &(impl Abort + Alloc<A = Global>)) -> Result<(), Error> {
+pub fn check_refused(rt: &(impl Abort + Alloc<A = Global>)) {
     for (ids, left, right, mode, offsets, want) in &REFUSED {
-        let made = union_of(rt.alloc(), ids, left, right, *mode, offsets);
-        check!(rt; refusal(made)? == *want, (ids, *mode, offsets));
+        let found = made!(rt; refusal(union_of(rt.alloc(), ids, left, right, *mode, offsets)));
+        check!(rt; found == *want, (ids, *mode, offsets));
     }
-    Ok(())
 }

@@ -7,8 +7,8 @@ use arrow_memory::offset::OffsetsBuffer;
 use arrow_types::datatypes::DataType;
 use arrow_types::error::{Error, SpecPart};
 use arrow_types::types::Offset;
-use arrow_types_fixture::check;
 use arrow_types_fixture::types::refusal;
+use arrow_types_fixture::{check, made};
 use std::alloc::Global;
 use std::process::Abort;
 
@@ -29,20 +29,22 @@ fn rows_of<O: Offset, K: ByteKind>(
 /// The rows joe, null, null and mark, and a slice.
 fn check_names(rt: &impl Abort, texts: &mut FlatArray<ByteRows<i32, Text>>) {
     assert!(rt; texts.len() == 4 && texts.null_count() == 2);
-    check!(rt; texts.value(0) == "joe" && texts.value(1) == "" && texts.value(3) == "mark");
+    check!(rt; texts.value(0) == "joe");
+    check!(rt; texts.value(1) == "");
+    check!(rt; texts.value(3) == "mark");
     texts.slice(2, 2);
     assert!(rt; texts.len() == 2 && texts.null_count() == 1);
-    check!(rt; texts.value(0) == "" && texts.value(1) == "mark");
+    check!(rt; texts.value(0) == "");
+    check!(rt; texts.value(1) == "mark");
     check!(rt; texts.offsets().buffer() == [3, 3, 7].as_slice());
     check!(rt; texts.values().as_slice() == b"joemark".as_slice());
 }
 
 /// The example of Arrow's format.
-pub fn check_texts(rt: &(impl Abort + Alloc<A = Global>)) -> Result<(), Error> {
+pub fn check_texts(rt: &(impl Abort + Alloc<A = Global>)) {
     let offsets = [0, 3, 3, 3, 7];
-    let mut texts = rows_of::<i32, Text>(rt.alloc(), &offsets, b"joemark", "tfft")?;
+    let mut texts = made!(rt; rows_of::<i32, Text>(rt.alloc(), &offsets, b"joemark", "tfft"));
     check_names(rt, &mut texts);
-    Ok(())
 }
 
 /// Bytes that are no text, before, between and behind which there are others.
@@ -51,16 +53,17 @@ const BYTES: &[u8] = &[9, 255, 254, 128, 0, 9];
 /// Of these two bytes, one beneath a null, none and one, and a slice.
 fn check_rows(rt: &impl Abort, array: &mut FlatArray<ByteRows<i64, Binary>>) {
     assert!(rt; array.len() == 4 && array.values().as_slice() == BYTES);
-    check!(rt; array.value(0) == [255, 254].as_slice() && array.value(2).is_empty());
+    check!(rt; array.value(0) == [255, 254].as_slice());
+    check!(rt; array.value(2).is_empty());
     check!(rt; array.value(1) == [128].as_slice());
     array.slice(2, 2);
-    check!(rt; array.len() == 2 && array.value(1) == [0].as_slice());
+    check!(rt; array.len() == 2);
+    check!(rt; array.value(1) == [0].as_slice());
 }
 
-pub fn check_binary(rt: &(impl Abort + Alloc<A = Global>)) -> Result<(), Error> {
-    let mut array = rows_of::<i64, Binary>(rt.alloc(), &[1, 3, 4, 4, 5], BYTES, "tftt")?;
+pub fn check_binary(rt: &(impl Abort + Alloc<A = Global>)) {
+    let mut array = made!(rt; rows_of::<i64, Binary>(rt.alloc(), &[1, 3, 4, 4, 5], BYTES, "tftt"));
     check_rows(rt, &mut array);
-    Ok(())
 }
 
 /// Offsets, bytes and the letters of a validity, and whether their rows are a, bb and cc.
@@ -79,14 +82,13 @@ const LAYOUTS: [(&[i32], &[u8], &str, bool); 9] = [
 ];
 
 /// Against the rows a, bb and cc, of which the second may be null.
-pub fn check_layouts(rt: &(impl Abort + Alloc<A = Global>)) -> Result<(), Error> {
+pub fn check_layouts(rt: &(impl Abort + Alloc<A = Global>)) {
     for (offsets, bytes, validity, want) in &LAYOUTS {
-        let array = rows_of::<i32, Text>(rt.alloc(), &[0, 1, 3, 5], b"abbcc", validity)?;
-        let other = rows_of::<i32, Text>(rt.alloc(), offsets, bytes, validity)?;
+        let array = made!(rt; rows_of::<i32, Text>(rt.alloc(), &[0, 1, 3, 5], b"abbcc", validity));
+        let other = made!(rt; rows_of::<i32, Text>(rt.alloc(), offsets, bytes, validity));
         let found = [array == other, other == array];
         check!(rt; found == [*want; 2], offsets);
     }
-    Ok(())
 }
 
 const LENGTH: Option<SpecPart> = Some(SpecPart::Length);
@@ -119,15 +121,14 @@ const FAULTS: [(&[i32], &[u8], &str, Option<SpecPart>); 15] = [
 
 /// What texts are refused for: the validity before the offsets, and these before the text of each row,
 /// null rows too. Bytes are refused for the first two.
-pub fn check_faults(rt: &(impl Abort + Alloc<A = Global>)) -> Result<(), Error> {
+pub fn check_faults(rt: &(impl Abort + Alloc<A = Global>)) {
     for (rows, bytes, validity, want) in &FAULTS {
-        let found = refusal(rows_of::<i32, Text>(rt.alloc(), rows, bytes, validity))?;
+        let found = made!(rt; refusal(rows_of::<i32, Text>(rt.alloc(), rows, bytes, validity)));
         check!(rt; found == *want, (bytes, rows));
         let want = if *want == UTF8 { None } else { *want };
-        let found = refusal(rows_of::<i32, Binary>(rt.alloc(), rows, bytes, validity))?;
+        let found = made!(rt; refusal(rows_of::<i32, Binary>(rt.alloc(), rows, bytes, validity)));
         check!(rt; found == want, (bytes, rows));
     }
-    Ok(())
 }
 
 /// An array of rows of so many bytes, with no null.
@@ -148,23 +149,22 @@ const SIZES: [(usize, &[u8], Option<SpecPart>); 7] = [
 ];
 
 /// What arrays of rows of so many bytes are refused for.
-pub fn check_refused_sizes(rt: &(impl Abort + Alloc<A = Global>)) -> Result<(), Error> {
+pub fn check_refused_sizes(rt: &(impl Abort + Alloc<A = Global>)) {
     for (size, bytes, want) in &SIZES {
-        let made = fixed_of(rt.alloc(), *size, bytes);
-        check!(rt; refusal(made)? == *want, (bytes, size));
+        let found = made!(rt; refusal(fixed_of(rt.alloc(), *size, bytes)));
+        check!(rt; found == *want, (bytes, size));
     }
-    Ok(())
 }
 
 /// The bytes of all rows, and the same bytes in rows of other sizes.
-pub fn check_sizes(rt: &(impl Abort + Alloc<A = Global>)) -> Result<(), Error> {
-    let pairs = fixed_of(rt.alloc(), 2, b"abcdef")?;
+pub fn check_sizes(rt: &(impl Abort + Alloc<A = Global>)) {
+    let pairs = made!(rt; fixed_of(rt.alloc(), 2, b"abcdef"));
     assert!(rt; pairs.size() == 2 && pairs.len() == 3);
     check!(rt; pairs.value(1) == b"cd".as_slice());
-    let mut array = fixed_of(rt.alloc(), 3, b"abcdef")?;
+    let mut array = made!(rt; fixed_of(rt.alloc(), 3, b"abcdef"));
     assert!(rt; array != pairs && array.len() == 2);
     check!(rt; array.values().as_slice() == b"abcdef".as_slice());
     array.slice(1, 1);
-    check!(rt; array.size() == 3 && array.values().as_slice() == b"def".as_slice());
-    Ok(())
+    check!(rt; array.size() == 3);
+    check!(rt; array.values().as_slice() == b"def".as_slice());
 }

@@ -12,8 +12,8 @@ use arrow_memory::buffer::Buffer;
 use arrow_types::datatypes::DataType;
 use arrow_types::error::{Error, SpecPart};
 use arrow_types::types::Offset;
-use arrow_types_fixture::check;
 use arrow_types_fixture::types::{extension, refusal};
+use arrow_types_fixture::{check, made};
 use std::alloc::Global;
 use std::process::Abort;
 
@@ -120,7 +120,8 @@ fn array_of<V: Letters>(
 
 /// The rows, one by one.
 fn check_rows<V: Letters>(rt: &impl Abort, array: &FlatArray<V>, letters: &[u8]) {
-    check!(rt; array.len() == letters.len() && array.is_empty() == letters.is_empty());
+    check!(rt; array.len() == letters.len());
+    check!(rt; array.is_empty() == letters.is_empty());
     let mut nulls = 0usize;
     for (i, letter) in letters.iter().enumerate() {
         let is_set = match array.validity() {
@@ -128,7 +129,8 @@ fn check_rows<V: Letters>(rt: &impl Abort, array: &FlatArray<V>, letters: &[u8])
             Some(bits) => i < bits.len() && bits.get_bit(i),
         };
         check!(rt; is_set == letter.is_ascii_lowercase());
-        check!(rt; i < array.len() && array.is_valid(i) == is_set);
+        check!(rt; i < array.len());
+        check!(rt; array.is_valid(i) == is_set);
         check!(rt; V::is_stored(array, i, letter.to_ascii_lowercase()));
         nulls = nulls.saturating_add(usize::from(!is_set));
     }
@@ -154,17 +156,13 @@ fn check_parts<V: Letters>(rt: &impl Abort, part: &mut FlatArray<V>) {
 }
 
 /// Slices of a clone: the array keeps its rows.
-fn check_slices<V: Letters>(
-    rt: &(impl Abort + Alloc<A = Global>),
-    plain: &DataType,
-) -> Result<(), Error> {
-    let array = array_of::<V>(rt.alloc(), plain, b"baCDabb")?;
-    let mut part = array.clone()?;
+fn check_slices<V: Letters>(rt: &(impl Abort + Alloc<A = Global>), plain: &DataType) {
+    let array = made!(rt; array_of::<V>(rt.alloc(), plain, b"baCDabb"));
+    let mut part = made!(rt; array.clone());
     check!(rt; part == array);
     check_parts(rt, &mut part);
     assert!(rt; part != array && array.len() == 7);
     check_rows(rt, &array.sliced(2, 5), b"CDabb");
-    Ok(())
 }
 
 /// Validities over three letters, and the rows.
@@ -175,13 +173,10 @@ const VALIDITIES: [(&[bool], &[u8]); 3] = [
 ];
 
 /// Other validities over the same letters, and none.
-fn check_validities<V: Letters>(
-    rt: &(impl Abort + Alloc<A = Global>),
-    plain: &DataType,
-) -> Result<(), Error> {
-    let mut array = array_of::<V>(rt.alloc(), plain, b"abC")?;
+fn check_validities<V: Letters>(rt: &(impl Abort + Alloc<A = Global>), plain: &DataType) {
+    let mut array = made!(rt; array_of::<V>(rt.alloc(), plain, b"abC"));
     for (bits, rows) in &VALIDITIES {
-        let validity = Bitmap::from_bools(rt.alloc(), bits)?;
+        let validity = made!(rt; Bitmap::from_bools(rt.alloc(), bits));
         assert!(rt; array.len() == 3 && validity.len() == 3);
         array = array.with_validity(Some(validity));
         check!(rt; array.validity().is_some());
@@ -190,7 +185,6 @@ fn check_validities<V: Letters>(
     let bare = array.with_validity(None);
     check!(rt; bare.validity().is_none());
     check_rows(rt, &bare, b"abc");
-    Ok(())
 }
 
 /// Whether rows are the same as others but their first letter, which is left out of a range, and then
@@ -212,17 +206,13 @@ fn check_pair<V: Letters>(
 
 /// Equal are the same rows, whatever is stored beneath nulls, wherever they begin, and under a validity
 /// or none.
-fn check_equality<V: Letters>(
-    rt: &(impl Abort + Alloc<A = Global>),
-    plain: &DataType,
-) -> Result<(), Error> {
+fn check_equality<V: Letters>(rt: &(impl Abort + Alloc<A = Global>), plain: &DataType) {
     for (left, right, want) in &EQUAL {
-        let array = array_of::<V>(rt.alloc(), plain, left)?;
+        let array = made!(rt; array_of::<V>(rt.alloc(), plain, left));
         check_rows(rt, &array, left);
-        let mut other = array_of::<V>(rt.alloc(), plain, right)?;
+        let mut other = made!(rt; array_of::<V>(rt.alloc(), plain, right));
         check_pair(rt, &array, &mut other, *want);
     }
-    Ok(())
 }
 
 /// Rows and where a range of them begins, others, how many rows both have, and whether these are the
@@ -300,30 +290,36 @@ fn check_range<V: Letters>(
 }
 
 /// Ranges are equal by their rows, whatever is stored beneath nulls and outside of them.
-fn check_ranges<V: Letters>(
-    rt: &(impl Abort + Alloc<A = Global>),
-    plain: &DataType,
-) -> Result<(), Error> {
+fn check_ranges<V: Letters>(rt: &(impl Abort + Alloc<A = Global>), plain: &DataType) {
     for (left, start, right, other_start, len, want) in &RANGES {
-        let array = array_of::<V>(rt.alloc(), plain, left)?;
-        let other = array_of::<V>(rt.alloc(), plain, right)?;
+        let array = made!(rt; array_of::<V>(rt.alloc(), plain, left));
+        let other = made!(rt; array_of::<V>(rt.alloc(), plain, right));
         check_range(rt, &array, *start, &other, *other_start, *len, *want);
     }
-    Ok(())
 }
 
 /// Validities that are not of two rows.
 const LENGTHS: [&[bool]; 4] = [&[], &[true], &[true, true, true], &[false, false, false]];
 
+/// What two rows of this type are refused for under this validity, if they are.
+fn refused<V: Letters>(
+    alloc: Global,
+    data_type: &DataType,
+    bits: &[bool],
+) -> Result<Option<SpecPart>, Error> {
+    let validity = Bitmap::from_bools(alloc, bits)?;
+    refusal(V::stored(alloc, data_type, b"ab", Some(validity)))
+}
+
+/// A type by another name.
+fn named(alloc: Global, plain: &DataType) -> Result<DataType, Error> {
+    extension(alloc, "name", plain.clone()?)
+}
+
 /// Refused is a type of another kind, for the kind and not for a validity of another length.
-fn check_other<V: Letters>(
-    rt: &(impl Abort + Alloc<A = Global>),
-    other: &DataType,
-) -> Result<(), Error> {
-    let validity = Bitmap::from_bools(rt.alloc(), &[])?;
-    let made = V::stored(rt.alloc(), other, b"ab", Some(validity));
-    check!(rt; refusal(made)? == Some(SpecPart::Kind), other);
-    Ok(())
+fn check_other<V: Letters>(rt: &(impl Abort + Alloc<A = Global>), other: &DataType) {
+    let found = made!(rt; refused::<V>(rt.alloc(), other, &[]));
+    check!(rt; found == Some(SpecPart::Kind), other);
 }
 
 /// Refused are types of other kinds, also by a name, and validities of other lengths.
@@ -331,45 +327,41 @@ fn check_refused<V: Letters>(
     rt: &(impl Abort + Alloc<A = Global>),
     plain: &DataType,
     others: &[DataType],
-) -> Result<(), Error> {
+) {
     for other in others {
-        check_other::<V>(rt, other)?;
-        check_other::<V>(rt, &extension(rt.alloc(), "other", other.clone()?)?)?;
+        check_other::<V>(rt, other);
+        check_other::<V>(rt, &made!(rt; named(rt.alloc(), other)));
     }
     for bits in &LENGTHS {
-        let validity = Bitmap::from_bools(rt.alloc(), bits)?;
-        let made = V::stored(rt.alloc(), plain, b"ab", Some(validity));
-        check!(rt; refusal(made)? == Some(SpecPart::Length), bits);
+        let found = made!(rt; refused::<V>(rt.alloc(), plain, bits));
+        check!(rt; found == Some(SpecPart::Length), bits);
     }
-    Ok(())
 }
 
 /// The data type is the one given, and tells arrays of the same rows apart.
-fn check_types<V: Letters>(
-    rt: &(impl Abort + Alloc<A = Global>),
-    plain: &DataType,
-) -> Result<(), Error> {
-    let data_type = extension(rt.alloc(), "name", plain.clone()?)?;
-    let named = V::stored(rt.alloc(), &data_type, b"ab", None)?;
-    check_rows(rt, &named, b"ab");
-    check!(rt; named == named.clone()? && named.data_type() != plain);
-    let array = array_of::<V>(rt.alloc(), plain, b"ab")?;
-    check!(rt; array != named && array.data_type() == plain);
-    Ok(())
+fn check_types<V: Letters>(rt: &(impl Abort + Alloc<A = Global>), plain: &DataType) {
+    let data_type = made!(rt; named(rt.alloc(), plain));
+    let other = made!(rt; V::stored(rt.alloc(), &data_type, b"ab", None));
+    check_rows(rt, &other, b"ab");
+    check!(rt; other == made!(rt; other.clone()));
+    check!(rt; other.data_type() != plain);
+    let array = made!(rt; array_of::<V>(rt.alloc(), plain, b"ab"));
+    check!(rt; array != other);
+    check!(rt; array.data_type() == plain);
 }
 
 /// All that is tested of each kind alike. Of the other types none is of this kind.
 fn check_kind<V: Letters>(
     rt: &(impl Abort + Alloc<A = Global>),
-    plain: DataType,
+    plain: &DataType,
     others: &[DataType],
-) -> Result<(), Error> {
-    check_slices::<V>(rt, &plain)?;
-    check_validities::<V>(rt, &plain)?;
-    check_equality::<V>(rt, &plain)?;
-    check_ranges::<V>(rt, &plain)?;
-    check_refused::<V>(rt, &plain, others)?;
-    check_types::<V>(rt, &plain)
+) {
+    check_slices::<V>(rt, plain);
+    check_validities::<V>(rt, plain);
+    check_equality::<V>(rt, plain);
+    check_ranges::<V>(rt, plain);
+    check_refused::<V>(rt, plain, others);
+    check_types::<V>(rt, plain);
 }
 
 /// Types of other kinds, among them numbers of other widths; and texts and bytes of the other kind, of
@@ -403,12 +395,12 @@ const NOT_BINARY: [DataType; 4] = [
     DataType::FixedSizeBinary(1),
 ];
 
-pub fn check_kinds(rt: &(impl Abort + Alloc<A = Global>)) -> Result<(), Error> {
-    check_kind::<Bitmap>(rt, DataType::Boolean, &OTHERS)?;
-    check_kind::<Buffer<i32>>(rt, DataType::Int32, &OTHERS)?;
-    check_kind::<ByteRows<i32, Text>>(rt, DataType::Utf8, &NOT_UTF8)?;
-    check_kind::<ByteRows<i64, Text>>(rt, DataType::LargeUtf8, &NOT_LARGE_UTF8)?;
-    check_kind::<ByteRows<i32, Binary>>(rt, DataType::Binary, &NOT_BINARY)?;
-    check_kind::<ByteRows<i64, Binary>>(rt, DataType::LargeBinary, &NOT_UTF8)?;
-    check_kind::<FixedRows>(rt, DataType::FixedSizeBinary(3), &NOT_UTF8)
+pub fn check_kinds(rt: &(impl Abort + Alloc<A = Global>)) {
+    check_kind::<Bitmap>(rt, &DataType::Boolean, &OTHERS);
+    check_kind::<Buffer<i32>>(rt, &DataType::Int32, &OTHERS);
+    check_kind::<ByteRows<i32, Text>>(rt, &DataType::Utf8, &NOT_UTF8);
+    check_kind::<ByteRows<i64, Text>>(rt, &DataType::LargeUtf8, &NOT_LARGE_UTF8);
+    check_kind::<ByteRows<i32, Binary>>(rt, &DataType::Binary, &NOT_BINARY);
+    check_kind::<ByteRows<i64, Binary>>(rt, &DataType::LargeBinary, &NOT_UTF8);
+    check_kind::<FixedRows>(rt, &DataType::FixedSizeBinary(3), &NOT_UTF8);
 }

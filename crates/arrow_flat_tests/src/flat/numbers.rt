@@ -9,7 +9,7 @@ use arrow_memory::buffer::Buffer;
 use arrow_types::datatypes::{DataType, IntervalUnit, TimeUnit};
 use arrow_types::error::{Error, SpecPart};
 use arrow_types::types::{NativeType, days_ms, i256, months_days_ns};
-use arrow_types_fixture::check;
+use arrow_types_fixture::{check, made};
 use std::alloc::Global;
 use std::process::Abort;
 
@@ -20,15 +20,24 @@ fn slices_of<T: NativeType>(alloc: Global, values: &[T]) -> Result<(Buffer<T>, B
 }
 
 /// An array of three values, the second beneath a null.
-fn array_of<T: NativeType>(
-    rt: &(impl Abort + Alloc<A = Global>),
-    data_type: DataType,
+fn try_array<T: NativeType>(
+    alloc: Global,
+    data_type: &DataType,
     values: &[T],
 ) -> Result<PrimitiveArray<T>, Error> {
-    let (stored, validity) = slices_of(rt.alloc(), values)?;
-    let array = PrimitiveArray::try_new(data_type, stored, Some(validity))?;
+    let (stored, validity) = slices_of(alloc, values)?;
+    PrimitiveArray::try_new(data_type.clone()?, stored, Some(validity))
+}
+
+/// The same, and that it stores the values.
+fn array_of<T: NativeType>(
+    rt: &(impl Abort + Alloc<A = Global>),
+    data_type: &DataType,
+    values: &[T],
+) -> PrimitiveArray<T> {
+    let array = made!(rt; try_array(rt.alloc(), data_type, values));
     check!(rt; array.values().as_slice() == values);
-    Ok(array)
+    array
 }
 
 /// A number of this data type, or a null.
@@ -38,7 +47,8 @@ fn scalar_of<T: NativeType>(
     value: Option<T>,
 ) -> PrimitiveScalar<T> {
     let scalar = PrimitiveScalar::try_new(data_type, value).expect(rt, "a type of such numbers");
-    check!(rt; scalar.value() == value && scalar.is_valid() == value.is_some());
+    check!(rt; scalar.value() == value);
+    check!(rt; scalar.is_valid() == value.is_some());
     scalar
 }
 
@@ -48,41 +58,50 @@ fn check_slices(rt: &impl Abort, part: &mut AnyPrimitive) {
     part.slice(1, 2);
     assert!(rt; part.len() == 2 && part.null_count() == 1);
     part.slice(1, 1);
-    check!(rt; part.len() == 1 && part.null_count() == 0 && !part.is_empty());
+    check!(rt; part.len() == 1);
+    check!(rt; part.null_count() == 0);
+    check!(rt; !part.is_empty());
 }
 
 /// Such an array of this data type.
-fn check_array(rt: &impl Abort, array: AnyPrimitive, data_type: DataType) -> Result<(), Error> {
-    check!(rt; *array.data_type() == data_type);
-    check_rows(rt, &array)
+fn check_array(rt: &impl Abort, array: AnyPrimitive, data_type: &DataType) {
+    check!(rt; array.data_type() == data_type);
+    check_rows(rt, &array);
+}
+
+/// So many rows from one on.
+fn part_of(rt: &impl Abort, array: AnyPrimitive, start: usize, len: usize) -> AnyPrimitive {
+    assert!(rt; start <= array.len() && len <= array.len() - start);
+    array.sliced(start, len)
 }
 
 /// A value, a null and a value, and slices of clones of them.
-fn check_rows(rt: &impl Abort, array: &AnyPrimitive) -> Result<(), Error> {
+fn check_rows(rt: &impl Abort, array: &AnyPrimitive) {
     assert!(rt; array.len() == 3);
     check!(rt; array.validity().is_some_and(|bits| bits.len() == 3));
-    check!(rt; array.clone()?.sliced(1, 1).null_count() == 1);
-    let mut part = array.clone()?;
+    check!(rt; part_of(rt, made!(rt; array.clone()), 1, 1).null_count() == 1);
+    let mut part = made!(rt; array.clone());
     check!(rt; part == *array);
     check_slices(rt, &mut part);
-    assert!(rt; part != *array && part == array.clone()?.sliced(2, 1) && part.len() == 1);
-    check!(rt; part.sliced(1, 0).is_empty());
-    Ok(())
+    check!(rt; part != *array);
+    check!(rt; part == part_of(rt, made!(rt; array.clone()), 2, 1));
+    check!(rt; part.len() == 1);
+    check!(rt; part_of(rt, part, 1, 0).is_empty());
 }
 
 /// Of each variant, with a data type, an array of three values and a scalar, valid or null.
 macro_rules! check_each {
     ($rt:ident, $($variant:ident: $data_type:expr, $values:expr, $value:expr;)+) => {
         $(
-            let array = AnyPrimitive::$variant(array_of($rt, $data_type, &$values)?);
-            check_array($rt, array, $data_type)?;
+            let array = AnyPrimitive::$variant(array_of($rt, &$data_type, &$values));
+            check_array($rt, array, &$data_type);
             let scalar = AnyPrimitiveScalar::$variant(scalar_of($rt, $data_type, $value));
             check_scalar($rt, AnyScalar::Primitive(scalar), $data_type, $value.is_some());
         )+
     };
 }
 
-pub fn check_integers(rt: &(impl Abort + Alloc<A = Global>)) -> Result<(), Error> {
+pub fn check_integers(rt: &(impl Abort + Alloc<A = Global>)) {
     check_each!(
         rt,
         Int8: DataType::Int8, [i8::MIN, 0, i8::MAX], Some(i8::MIN);
@@ -94,10 +113,9 @@ pub fn check_integers(rt: &(impl Abort + Alloc<A = Global>)) -> Result<(), Error
         UInt32: DataType::UInt32, [u32::MAX, 0, 1], Some(u32::MAX);
         UInt64: DataType::UInt64, [u64::MAX, 0, 1], Some(u64::MAX);
     );
-    Ok(())
 }
 
-pub fn check_wide(rt: &(impl Abort + Alloc<A = Global>)) -> Result<(), Error> {
+pub fn check_wide(rt: &(impl Abort + Alloc<A = Global>)) {
     let wide = [
         i256::new(i128::MIN, 0),
         i256::new(-1, 1),
@@ -117,19 +135,19 @@ pub fn check_wide(rt: &(impl Abort + Alloc<A = Global>)) -> Result<(), Error> {
         DaysMs: DataType::Interval(IntervalUnit::DayTime), days, Some(days_ms::new(0, 0));
         MonthDayNano: DataType::Interval(IntervalUnit::MonthDayNano), months, month;
     );
-    Ok(())
 }
 
 /// Other types that lie as 32 bits, and for scalars types that do not.
-pub fn check_others(rt: &(impl Abort + Alloc<A = Global>)) -> Result<(), Error> {
+pub fn check_others(rt: &(impl Abort + Alloc<A = Global>)) {
     let others = [
         DataType::Date32,
         DataType::Time32(TimeUnit::Second),
         DataType::Interval(IntervalUnit::YearMonth),
     ];
     for data_type in others {
-        let array = numbers(rt.alloc(), &data_type, b"ab")?;
-        check!(rt; array.len() == 2 && array.data_type() != &DataType::Int32);
+        let array = made!(rt; numbers(rt.alloc(), &data_type, b"ab"));
+        check!(rt; array.len() == 2);
+        check!(rt; array.data_type() != &DataType::Int32);
     }
     let others = [
         DataType::Int64,
@@ -142,26 +160,23 @@ pub fn check_others(rt: &(impl Abort + Alloc<A = Global>)) -> Result<(), Error> 
         check!(rt; refused == Some(Error::OutOfSpec(SpecPart::Kind)));
     }
     scalar_of::<i32>(rt, DataType::Time32(TimeUnit::Millisecond), None);
-    Ok(())
 }
 
 /// Equal are arrays of one type and the same rows, whatever is stored beneath nulls.
-pub fn check_equality(rt: &(impl Abort + Alloc<A = Global>)) -> Result<(), Error> {
-    let array = AnyPrimitive::Int32(array_of(rt, DataType::Int32, &[1i32, 2, 3])?);
+pub fn check_equality(rt: &(impl Abort + Alloc<A = Global>)) {
+    let array = AnyPrimitive::Int32(array_of(rt, &DataType::Int32, &[1i32, 2, 3]));
     for (values, want) in [([1, 9, 3], true), ([1, 2, 4], false)] {
-        let other = AnyPrimitive::Int32(array_of(rt, DataType::Int32, &values)?);
+        let other = AnyPrimitive::Int32(array_of(rt, &DataType::Int32, &values));
         check!(rt; (array == other) == want, values);
     }
-    let wide = AnyPrimitive::Int64(array_of(rt, DataType::Int64, &[1i64, 2, 3])?);
+    let wide = AnyPrimitive::Int64(array_of(rt, &DataType::Int64, &[1i64, 2, 3]));
     check!(rt; array != wide);
-    Ok(())
 }
 
 /// Not equal are arrays of other types, though their rows, and ranges of them, are the same.
-pub fn check_ranges(rt: &(impl Abort + Alloc<A = Global>)) -> Result<(), Error> {
-    let array = AnyPrimitive::Int32(array_of(rt, DataType::Int32, &[1i32, 2, 3])?);
-    let date = AnyPrimitive::Int32(array_of(rt, DataType::Date32, &[1i32, 2, 3])?);
+pub fn check_ranges(rt: &(impl Abort + Alloc<A = Global>)) {
+    let array = AnyPrimitive::Int32(array_of(rt, &DataType::Int32, &[1i32, 2, 3]));
+    let date = AnyPrimitive::Int32(array_of(rt, &DataType::Date32, &[1i32, 2, 3]));
     assert!(rt; array != date && array.len() == 3 && date.len() == 3);
     assert!(rt; array.equal_range(0, &date, 0, 3) && !array.equal_range(0, &date, 1, 2));
-    Ok(())
 }

@@ -70,7 +70,12 @@ fn extend_child(
 {
     match validity {
         None => extend_run(child, rows, index, start, len),
-        Some(validity) => extend_runs(child, rows, validity, index, start, len),
+        Some(validity) => {
+            if rows.have_none_beneath(validity, start, len) {
+                return extend_run(child, rows, index, start, len);
+            }
+            extend_runs(child, rows, validity, index, start, len)
+        }
     }
 }
 

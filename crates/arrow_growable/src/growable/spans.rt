@@ -1,14 +1,17 @@
 //! Where the rows of an array lie in its children.
 
-ghost use Rattle.std.specs.Prelude.{◌≡◌, ◌+◌, ◌*◌, ◌≤◌};
+ghost use Rattle.std.specs.Prelude.{◌≡◌, ◌+◌, ◌*◌, ◌≤◌, length, IsTrue};
 ghost use Rattle.arrow_types.specs.Physical.{physical_type_of};
+ghost use Rattle.arrow_memory.specs.Sliced.{sliced};
 ghost use Rattle.arrow_arrays.specs.FixedListParts.{fixed_list_layout};
 ghost use Rattle.arrow_arrays.specs.ListParts.{list_layout};
 ghost use Rattle.arrow_arrays.specs.StructParts.{struct_layout};
+ghost use Rattle.arrow_growable.specs.Child.{NoneBeneath};
 ghost use Rattle.arrow_growable.specs.Lies.{Lies};
 ghost use Rattle.arrow_growable.specs.Spans.{AreSpans, span_count, span_nulls, span_place};
 
 use arrow_arrays::array::{AnyOffsetsBuffer, FixedSizeListArray, ListArray, MapArray, StructArray};
+use arrow_memory::bitmap::Bitmap;
 use arrow_memory::offset::OffsetsBuffer;
 
 /// Where the rows of an array lie in its children.
@@ -87,6 +90,43 @@ impl<'a> Spans<'a> {
             Spans::FixedSize(size, _items) => rows * size,
             Spans::Fields(_) => rows,
         }
+    }
+
+    /// Whether a null row has no null slot in a child.
+    fn have_no_null_slots(&self) -> bool
+        ensures { IsTrue result → span_nulls self.now ≡ 0 }
+    {
+        match self {
+            Spans::Small(_) | Spans::Large(_) | Spans::Map(_) => true,
+            Spans::FixedSize(_, _) | Spans::Fields(_) => false,
+        }
+    }
+
+    /// Whether those rows that are null have nothing in a child, of `len` rows from row `start` on: no null slot,
+    /// and no row beneath.
+    pub(crate) fn have_none_beneath(&self, validity: &Bitmap, start: usize, len: usize) -> bool
+        requires sound { AreSpans self.now }
+        requires part { start + len ≤ span_count self.now }
+        requires covered { start + len ≤ length validity.now }
+        ensures slots { IsTrue result → span_nulls self.now ≡ 0 }
+        ensures rows { IsTrue result → NoneBeneath (sliced validity.now start len) (span_place self.now) start }
+    {
+        if !self.have_no_null_slots() {
+            return false;
+        }
+        prove!(start <= validity.len());
+        let mut left = validity.runs(start, len);
+        let end = start + len;
+        let mut row = start;
+        while row < end {
+            let (nulls, count) = left.next_set();
+            let (first, behind) = self.range(row, nulls);
+            if first < behind {
+                return false;
+            }
+            row += nulls + count;
+        }
+        true
     }
 
     /// Where the first of `len` rows from row `start` on begins in each child, and the last of them ends.

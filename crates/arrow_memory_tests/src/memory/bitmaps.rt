@@ -2,27 +2,23 @@
 
 use arrow_memory::bitmap::{Bitmap, MutableBitmap};
 use arrow_types::error::Error;
-use arrow_types_fixture::check;
+use arrow_types_fixture::{check, made};
 use std::alloc::Global;
 use std::process::Abort;
 
 /// A plain list of bits against a bitmap, in its calls and as the bitmap of that list.
-fn check_bits(
-    rt: &(impl Abort + Alloc<A = Global>),
-    found: &Bitmap,
-    want: &[bool],
-) -> Result<(), Error> {
-    check!(rt; found.len() == want.len() && found.is_empty() == want.is_empty());
+fn check_bits(rt: &(impl Abort + Alloc<A = Global>), found: &Bitmap, want: &[bool]) {
+    check!(rt; found.len() == want.len());
+    check!(rt; found.is_empty() == want.is_empty());
     let mut unset = 0usize;
     for (i, bit) in want.iter().enumerate() {
         check!(rt; i < found.len() && found.get_bit(i) == *bit);
         unset = unset.saturating_add(usize::from(!*bit));
     }
     check!(rt; found.unset_bits() == unset);
-    check!(rt; *found == Bitmap::from_bools(rt.alloc(), want)?);
+    check!(rt; *found == made!(rt; Bitmap::from_bools(rt.alloc(), want)));
     check_ends(rt, found, want);
     check_set_runs(rt, found, want);
-    Ok(())
 }
 
 /// Where the run of equal bits from each place on ends.
@@ -59,23 +55,27 @@ fn check_slice(rt: &impl Abort, whole: &mut Bitmap, part: &Bitmap, offset: usize
     check!(rt; *whole == *part);
 }
 
+/// So many bits from one on, of a clone.
+fn part_of(rt: &impl Abort, whole: &Bitmap, offset: usize, len: usize) -> Bitmap {
+    let part = made!(rt; whole.clone());
+    assert!(rt; offset <= part.len() && len <= part.len() - offset);
+    part.sliced(offset, len)
+}
+
 /// A slice of a slice, which is not the first one, and a slice of the same bits packed again.
-fn check_twice(
-    rt: &(impl Abort + Alloc<A = Global>),
-    part: &Bitmap,
-    want: &[bool],
-) -> Result<(), Error> {
+fn check_twice(rt: &(impl Abort + Alloc<A = Global>), part: &Bitmap, want: &[bool]) {
     let len = want.len();
     assert!(rt; len > 1 && part.len() == len);
-    let mut twice = part.clone()?;
+    let mut twice = made!(rt; part.clone());
+    assert!(rt; twice.len() == len);
     twice.slice(len / 2, len - len / 2);
-    check_bits(rt, &twice, &want[len / 2..])?;
+    check_bits(rt, &twice, &want[len / 2..]);
     check!(rt; twice != *part);
-    let packed = Bitmap::from_bools(rt.alloc(), want)?;
+    let packed = made!(rt; Bitmap::from_bools(rt.alloc(), want));
+    assert!(rt; packed.len() == len);
     check!(rt; part.equal_range(1, &packed, 1, len - 1));
     check!(rt; part.equal_range(1, &packed, 0, len - 1) == (want[1..] == want[..len - 1]));
     check!(rt; twice == packed.sliced(len / 2, len - len / 2));
-    Ok(())
 }
 
 /// An operation on the words of bitmaps.
@@ -86,7 +86,41 @@ enum Logic {
     Not,
 }
 
-/// The bits of two runs by an operation; of the first alone where it takes one.
+/// The bits of two bitmaps by an operation; of the first alone where it takes one.
+fn combined(
+    rt: &(impl Abort + Alloc<A = Global>),
+    logic: Logic,
+    a: &Bitmap,
+    b: &Bitmap,
+) -> Result<Bitmap, Error> {
+    assert!(rt; a.len() == b.len());
+    let alloc = rt.alloc();
+    match logic {
+        Logic::And => a.and(alloc, b),
+        Logic::Or => a.or(alloc, b),
+        Logic::Not => a.not(alloc),
+    }
+}
+
+/// The same of plain lists of bits.
+fn combined_bits(
+    alloc: Global,
+    logic: Logic,
+    left: &[bool],
+    right: &[bool],
+) -> Result<Vec<bool>, Error> {
+    let mut bits = Vec::with_capacity(alloc, left.len())?;
+    for (x, y) in left.iter().zip(right) {
+        bits.push(match logic {
+            Logic::And => *x && *y,
+            Logic::Or => *x || *y,
+            Logic::Not => !*x,
+        })?;
+    }
+    Ok(bits)
+}
+
+/// The bits of two runs by an operation.
 fn check_logic(
     rt: &(impl Abort + Alloc<A = Global>),
     logic: Logic,
@@ -94,22 +128,44 @@ fn check_logic(
     b: &Bitmap,
     left: &[bool],
     right: &[bool],
+) {
+    let found = made!(rt; combined(rt, logic, a, b));
+    let want = made!(rt; combined_bits(rt.alloc(), logic, left, right));
+    check_bits(rt, &found, &want);
+}
+
+/// Appends bits in each way: one by one, so many of a bitmap from one on, as many that are set, as many
+/// that are not, and one that is.
+fn append(
+    rt: &impl Abort,
+    bits: &mut MutableBitmap,
+    before: &[bool],
+    source: &Bitmap,
+    start: usize,
+    len: usize,
 ) -> Result<(), Error> {
-    assert!(rt; a.len() == b.len());
-    let found = match logic {
-        Logic::And => a.and(rt.alloc(), b)?,
-        Logic::Or => a.or(rt.alloc(), b)?,
-        Logic::Not => a.not(rt.alloc())?,
-    };
-    let mut want = Vec::with_capacity(rt.alloc(), left.len())?;
-    for (x, y) in left.iter().zip(right) {
-        want.push(match logic {
-            Logic::And => *x && *y,
-            Logic::Or => *x || *y,
-            Logic::Not => !*x,
-        })?;
+    assert!(rt; start <= source.len() && len <= source.len() - start);
+    for bit in before {
+        bits.push(*bit)?;
     }
-    check_bits(rt, &found, &want)
+    bits.extend_from_bitmap(source, start, len)?;
+    bits.extend_constant(len, true)?;
+    bits.extend_constant(len, false)?;
+    bits.push(true)
+}
+
+/// Bits appended so, and how many they were before they were shared.
+fn appended(
+    rt: &(impl Abort + Alloc<A = Global>),
+    before: &[bool],
+    source: &Bitmap,
+    start: usize,
+    len: usize,
+) -> Result<(usize, Bitmap), Error> {
+    let mut bits = MutableBitmap::new(rt.alloc());
+    append(rt, &mut bits, before, source, start, len)?;
+    let count = bits.len();
+    Ok((count, bits.into_bitmap()?))
 }
 
 /// Bits appended in each way behind so many others.
@@ -120,22 +176,15 @@ fn check_appended(
     before: usize,
     start: usize,
     len: usize,
-) -> Result<(), Error> {
+) {
     assert!(rt; start <= 10 && len <= 130 && before <= 130);
-    assert!(rt; bits.len() == 160 && source.len() == 160);
+    assert!(rt; bits.len() == 160);
     let (before, run) = (&bits[..before], &bits[start..start + len]);
-    let mut appended = MutableBitmap::new(rt.alloc());
-    for bit in before {
-        appended.push(*bit)?;
-    }
-    appended.extend_from_bitmap(source, start, len)?;
-    appended.extend_constant(len, true)?;
-    appended.extend_constant(len, false)?;
-    appended.push(true)?;
     let (ones, zeros) = (&[true; 130][..len], &[false; 130][..len]);
-    let want = [before, run, ones, zeros, &[true]].concat(rt.alloc())?;
-    check!(rt; appended.len() == want.len());
-    check_bits(rt, &appended.into_bitmap()?, &want)
+    let want = made!(rt; [before, run, ones, zeros, &[true]].concat(rt.alloc()));
+    let (count, found) = made!(rt; appended(rt, before, source, start, len));
+    check!(rt; count == want.len());
+    check_bits(rt, &found, &want);
 }
 
 /// Runs of this length, the first from a place on.
@@ -145,61 +194,71 @@ fn check_run(
     bits: &[bool],
     offset: usize,
     len: usize,
-) -> Result<(), Error> {
+) {
     assert!(rt; offset <= 9 && len <= 130);
-    assert!(rt; bits.len() == 160 && whole.len() == 160);
-    let a = whole.clone()?.sliced(offset, len);
+    assert!(rt; bits.len() == 160);
+    let a = part_of(rt, whole, offset, len);
     let left = &bits[offset..offset + len];
-    check_bits(rt, &a, left)?;
-    check_slice(rt, &mut whole.clone()?, &a, offset, len);
+    check_bits(rt, &a, left);
+    check_slice(rt, &mut made!(rt; whole.clone()), &a, offset, len);
     if len > 1 {
-        check_twice(rt, &a, left)?;
+        check_twice(rt, &a, left);
     }
-    let b = whole.clone()?.sliced(20, len);
+    let b = part_of(rt, whole, 20, len);
     for logic in [Logic::And, Logic::Or, Logic::Not] {
-        check_logic(rt, logic, &a, &b, left, &bits[20..20 + len])?;
+        check_logic(rt, logic, &a, &b, left, &bits[20..20 + len]);
     }
-    check_appended(rt, whole, bits, len, offset, len)?;
-    check_appended(rt, whole, bits, offset, 1, len)
+    check_appended(rt, whole, bits, len, offset, len);
+    check_appended(rt, whole, bits, offset, 1, len);
 }
 
 /// Each length at each bit offset, of bits without a short period.
-pub fn check_runs(rt: &(impl Abort + Alloc<A = Global>)) -> Result<(), Error> {
-    let mut bits = Vec::with_capacity(rt.alloc(), 160)?;
+pub fn check_runs(rt: &(impl Abort + Alloc<A = Global>)) {
+    let mut bits = [false; 160];
     for i in 0..160 {
-        bits.push(i % 5 < 2 || i % 7 == 3)?;
+        bits[i] = i % 5 < 2 || i % 7 == 3;
     }
-    let whole = Bitmap::from_bools(rt.alloc(), &bits)?;
+    let whole = made!(rt; Bitmap::from_bools(rt.alloc(), &bits));
+    check!(rt; whole.len() == 160);
     for len in [0, 1, 7, 8, 9, 63, 64, 65, 130] {
         for offset in 0..10 {
-            check_run(rt, &whole, &bits, offset, len)?;
+            check_run(rt, &whole, &bits, offset, len);
         }
-        let zeros = Bitmap::new_zeroed(rt.alloc(), len)?;
-        check!(rt; zeros.len() == len && zeros.unset_bits() == len);
+        let zeros = made!(rt; Bitmap::new_zeroed(rt.alloc(), len));
+        check!(rt; zeros.len() == len);
+        check!(rt; zeros.unset_bits() == len);
     }
-    Ok(())
 }
 
 /// The validity of [0, 1, null, 2, null, 3], after the example of Arrow's format.
-pub fn check_example(rt: &(impl Abort + Alloc<A = Global>)) -> Result<(), Error> {
-    let validity = Bitmap::from_bools(rt.alloc(), &[true, true, false, true, false, true])?;
-    check!(rt; validity.len() == 6 && validity.unset_bits() == 2);
-    let other = Bitmap::from_bools(rt.alloc(), &[true, true, false, true, false, false])?;
+pub fn check_example(rt: &(impl Abort + Alloc<A = Global>)) {
+    let alloc = rt.alloc();
+    let bits = [true, true, false, true, false, true];
+    let validity = made!(rt; Bitmap::from_bools(alloc, &bits));
+    check!(rt; validity.len() == 6);
+    check!(rt; validity.unset_bits() == 2);
+    let bits = [true, true, false, true, false, false];
+    let other = made!(rt; Bitmap::from_bools(alloc, &bits));
     check!(rt; validity != other);
-    Ok(())
 }
 
-/// Room for bits: more than can be counted, and more than there is memory for.
-pub fn check_room(rt: &(impl Abort + Alloc<A = Global>)) -> Result<(), Error> {
-    let mut bits = MutableBitmap::with_capacity(rt.alloc(), 100)?;
+/// A bit, and room for others, but neither for more than can be counted, nor for more than there is
+/// memory for.
+fn check_refused(rt: &(impl Abort + Alloc<A = Global>)) -> MutableBitmap {
+    let mut bits = made!(rt; MutableBitmap::with_capacity(rt.alloc(), 100));
     check!(rt; bits.is_empty());
-    bits.push(true)?;
+    check!(rt; bits.push(true).is_ok());
     check!(rt; !bits.is_empty());
     check!(rt; bits.extend_constant(usize::MAX, false) == Err(Error::Overflow));
     check!(rt; bits.extend_constant(1 << 62, true) == Err(Error::OutOfMemory));
     check!(rt; bits.len() == 1);
-    check_bits(rt, &bits.into_bitmap()?, &[true])?;
+    bits
+}
+
+/// The bit stays where more are refused, and there is no room for more than there is memory for.
+pub fn check_room(rt: &(impl Abort + Alloc<A = Global>)) {
+    let bits = made!(rt; check_refused(rt).into_bitmap());
+    check_bits(rt, &bits, &[true]);
     let too_many = MutableBitmap::with_capacity(rt.alloc(), 1 << 62);
     check!(rt; too_many.err() == Some(Error::OutOfMemory));
-    Ok(())
 }

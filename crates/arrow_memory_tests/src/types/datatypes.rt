@@ -3,9 +3,9 @@
 use arrow_types::datatypes::{DataType, Field, IntegerType, PhysicalType};
 use arrow_types::error::Error;
 use arrow_types::types::PrimitiveType;
-use arrow_types_fixture::check;
 use arrow_types_fixture::read::read;
 use arrow_types_fixture::types::child;
+use arrow_types_fixture::{check, made};
 use std::alloc::Global;
 use std::process::Abort;
 
@@ -105,26 +105,21 @@ const UNCARRIED: [&str; 26] = [
 ];
 
 /// A type and its copy, which are carried where they should be.
-fn check_type(
-    rt: &(impl Abort + Alloc<A = Global>),
-    text: &str,
-    is_carried: bool,
-) -> Result<PhysicalType, Error> {
-    let data_type = read(rt.alloc(), text)?;
+fn check_type(rt: &(impl Abort + Alloc<A = Global>), text: &str, is_carried: bool) -> PhysicalType {
+    let data_type = made!(rt; read(rt.alloc(), text));
     check!(rt; data_type.is_carried() == is_carried, text);
-    let copy = data_type.clone()?;
+    let copy = made!(rt; data_type.clone());
     check!(rt; copy == data_type, text);
-    Ok(copy.to_physical_type())
+    copy.to_physical_type()
 }
 
-pub fn check_types(rt: &(impl Abort + Alloc<A = Global>)) -> Result<(), Error> {
+pub fn check_types(rt: &(impl Abort + Alloc<A = Global>)) {
     for (text, physical_type) in &CARRIED {
-        check!(rt; check_type(rt, text, true)? == *physical_type, text);
+        check!(rt; check_type(rt, text, true) == *physical_type, text);
     }
     for text in &UNCARRIED {
-        check_type(rt, text, false)?;
+        check_type(rt, text, false);
     }
-    Ok(())
 }
 
 /// Types that differ from one another, many of them in one part alone.
@@ -182,34 +177,39 @@ fn read_all(alloc: Global, texts: &[&str]) -> Result<Vec<DataType>, Error> {
     Ok(types)
 }
 
-pub fn check_different(rt: &(impl Abort + Alloc<A = Global>)) -> Result<(), Error> {
-    let types = read_all(rt.alloc(), &DIFFERENT)?;
-    let again = read_all(rt.alloc(), &DIFFERENT)?;
+pub fn check_different(rt: &(impl Abort + Alloc<A = Global>)) {
+    let alloc = rt.alloc();
+    let types = made!(rt; read_all(alloc, &DIFFERENT));
+    let again = made!(rt; read_all(alloc, &DIFFERENT));
     for (i, left) in types.iter().enumerate() {
         for (j, right) in again.iter().enumerate() {
             check!(rt; (left == right) == (i == j), (left, right));
         }
     }
-    Ok(())
 }
 
-pub fn check_fields(rt: &(impl Abort + Alloc<A = Global>)) -> Result<(), Error> {
-    let field = Field::new(String::from_str(rt.alloc(), "id")?, DataType::Int64, false);
-    check!(rt; field.name() == "id" && *field.data_type() == DataType::Int64);
+pub fn check_fields(rt: &(impl Abort + Alloc<A = Global>)) {
+    let alloc = rt.alloc();
+    let name = made!(rt; String::from_str(alloc, "id"));
+    let field = Field::new(name, DataType::Int64, false);
+    check!(rt; field.name() == "id");
+    check!(rt; *field.data_type() == DataType::Int64);
     check!(rt; !field.is_nullable());
-    check!(rt; field.clone()? == field && field.clone()?.name() == "id");
-    check!(rt; child(rt.alloc(), "id", DataType::Int64)? != field);
-    check!(rt; child(rt.alloc(), "id", DataType::Int64)?.is_nullable());
-    Ok(())
+    let copy = made!(rt; field.clone());
+    check!(rt; copy == field);
+    check!(rt; copy.name() == "id");
+    let other = made!(rt; child(alloc, "id", DataType::Int64));
+    check!(rt; other != field);
+    check!(rt; other.is_nullable());
 }
 
 /// The extensions around a type go, and those inside it stay.
-pub fn check_logical(rt: &(impl Abort + Alloc<A = Global>)) -> Result<(), Error> {
-    let list = read(rt.alloc(), "i32 extension:inside:m list")?;
+pub fn check_logical(rt: &(impl Abort + Alloc<A = Global>)) {
+    let alloc = rt.alloc();
+    let list = made!(rt; read(alloc, "i32 extension:inside:m list"));
     let named = "i32 extension:inside:m list extension:inner:m extension:outer:m";
-    let named = read(rt.alloc(), named)?;
+    let named = made!(rt; read(alloc, named));
     check!(rt; named.to_logical_type() == &list);
     check!(rt; list.to_logical_type() == &list);
     check!(rt; named.to_physical_type() == PhysicalType::List);
-    Ok(())
 }

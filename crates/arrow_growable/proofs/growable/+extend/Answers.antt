@@ -23,11 +23,11 @@ use Rattle.arrow_growable.specs.FormLaws.{deepest_child}
 use Rattle.arrow_growable.specs.GrowableSpans.{IsSoundForm, PassesGreatest, form_of, form_with, grown_arrays}
 use Rattle.arrow_growable.specs.Nested.{IsGrownNested, rows_of_all}
 use Rattle.arrow_growable.specs.Spans.{span_count, span_nulls, span_place}
-use Rattle.arrow_growable.proofs.ChildLemmas.{grows_more, lies_in_all, names_more, names_there, nulls_refused, part_refused, run_refused}
+use Rattle.arrow_growable.proofs.ChildLemmas.{grows_more, lies_bare, lies_in_all, names_more, names_there, nulls_refused, part_refused, run_refused}
 use Rattle.arrow_growable.proofs.GrownLemmas.{counts, offsets_refused}
 use Rattle.arrow_growable.proofs.LoopLemmas.{as_many_items, bound_after, deepest_at, holds_next, read_is}
 use Rattle.arrow_growable.proofs.SpreadLemmas.{spread_all}
-use Rattle.arrow_growable.proofs.StepLemmas.{Step, all_well, binds_all, bits_counted, bound_map, children_cannot, failed_parts, fits_step, lies_with, names_of, rises_in, spans_lie, step}
+use Rattle.arrow_growable.proofs.StepLemmas.{Step, all_well, binds_all, bits_counted, bound_map, children_cannot, failed_parts, fits_step, lies_with, names_of, rises_in, spans_lie, spread_part, step}
 use Rattle.arrow_growable.proofs.growable.+extend.Goals as goal
 use Rattle.arrow_growable.proofs.growable.+extend.Goals.{nested::GrowableNestedGrowable::extend-After-self-4-1}
 
@@ -47,9 +47,27 @@ children::extend_child-returns-in-None-clause-overflow t c overflows =
     let all = spread_all (span_nulls spans) (null_slot g.arrow_type) (span_place spans) (bound_rows g c.args.index) (span_count spans) (rises_in spans g c.args.index c.requires.sound c.requires.bound) c.args.len c.args.start c.requires.part in
     rw c.in-None.is (subst (CannotGrow g c.args.index (LiesIn (bits_of_slice None c.args.start c.args.len) (span_place spans) c.args.start)) (sym all) (names_more g c.args.index _ _ _ (λ j within. lies_in_all c.args.len (span_place spans) c.args.start j within) (c.extend_run.ensures.overflow overflows)))
 
-pub children::extend_child-returns-in-Some-clause-overflow : goal.children::extend_child-returns-in-Some-clause-overflow
-children::extend_child-returns-in-Some-clause-overflow t c overflows =
+pub children::extend_child-returns-else-have_none_beneath-clause-overflow : goal.children::extend_child-returns-else-have_none_beneath-clause-overflow
+children::extend_child-returns-else-have_none_beneath-clause-overflow t c overflows =
     rw c.in-Some.is (c.extend_runs.ensures.overflow overflows)
+
+pub children::extend_child-returns-then-have_none_beneath-clause-ok : goal.children::extend_child-returns-then-have_none_beneath-clause-ok
+children::extend_child-returns-then-have_none_beneath-clause-ok t c =
+    let g = grown_of c.args.child.now in
+    let spans = c.args.rows.now in
+    let valid = c.in-Some.validity.now in
+    let part = spread_part spans g c.args.index c.args.start c.args.len valid c.requires.sound c.requires.bound c.requires.part (search rules) (c.have_none_beneath.ensures.slots c.if-have_none_beneath.true) (c.have_none_beneath.ensures.rows c.if-have_none_beneath.true) in
+    rw c.in-Some.is (on_ok c.extend_run-then-have_none_beneath.result c.extend_run-then-have_none_beneath.ensures.ok (λ grown. subst (GrownBy g (grown_of c.extend_run-then-have_none_beneath.new.child)) (sym part) grown))
+
+pub children::extend_child-returns-then-have_none_beneath-clause-overflow : goal.children::extend_child-returns-then-have_none_beneath-clause-overflow
+children::extend_child-returns-then-have_none_beneath-clause-overflow t c overflows =
+    let g = grown_of c.args.child.now in
+    let spans = c.args.rows.now in
+    let valid = c.in-Some.validity.now in
+    let bare = c.have_none_beneath.ensures.rows c.if-have_none_beneath.true in
+    let part = spread_part spans g c.args.index c.args.start c.args.len valid c.requires.sound c.requires.bound c.requires.part (search rules) (c.have_none_beneath.ensures.slots c.if-have_none_beneath.true) bare in
+    let many = length-sliced valid c.args.start c.args.len (search rules) in
+    rw c.in-Some.is (subst (CannotGrow g c.args.index (LiesIn (sliced valid c.args.start c.args.len) (span_place spans) c.args.start)) (sym part) (names_more g c.args.index _ _ _ (λ j within. lies_bare (sliced valid c.args.start c.args.len) (span_place spans) c.args.start j bare (within.0, omega (arith, within.1, ap (λ k. span_place spans (c.args.start + k)) many))) (c.extend_run-then-have_none_beneath.ensures.overflow overflows)))
 
 -- all children
 

@@ -1,0 +1,14 @@
+//! What is tested of arrays under construction, of any type and of each type by itself.
+
+mod any;
+mod typed;
+
+#[test]
+fn growables(rt: HostRuntime) {
+    any::check_shapes(&rt);
+    any::check_elements(&rt);
+    typed::check_typed(&rt);
+    typed::check_null_arrays(&rt);
+    typed::check_nested(&rt);
+    typed::check_refused(&rt);
+}

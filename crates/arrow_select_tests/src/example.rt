@@ -1,0 +1,57 @@
+//! The example of the front page.
+
+ghost use Rattle.std.specs.Prelude.{IfOk};
+ghost use Rattle.arrow_select.specs.Arrays.{CanGrow};
+
+use arrow_arrays::array::AnyArray;
+use arrow_flat::array::{AnyPrimitive, BooleanArray, PrimitiveArray};
+use arrow_memory::bitmap::Bitmap;
+use arrow_memory::buffer::Buffer;
+use arrow_select::concatenate::concatenate;
+use arrow_select::filter::filter;
+use arrow_types::datatypes::DataType;
+use arrow_types::{ArgumentFault, Error};
+use arrow_types_fixture::{check, made};
+use std::alloc::Global;
+use std::process::Abort;
+
+/// Numbers, as an array of any type.
+fn numbers(alloc: Global, values: Vec<i32>) -> Result<AnyArray, Error>
+    ensures { IfOk result CanGrow }
+{
+    let values = Buffer::from_vec(alloc, values)?;
+    let array = PrimitiveArray::try_new(DataType::Int32, values, None)?;
+    Ok(AnyArray::Primitive(AnyPrimitive::Int32(array)))
+}
+
+/// The rows at which the mask is true, of an array that can grow.
+fn kept(alloc: Global, array: &AnyArray, mask: &[bool]) -> Result<AnyArray, Error>
+    requires { CanGrow array.now }
+    ensures { IfOk result CanGrow }
+{
+    let mask = Bitmap::from_bools(alloc, mask)?;
+    let mask = BooleanArray::try_new(DataType::Boolean, mask, None)?;
+    if mask.len() != array.len() {
+        return Err(Error::InvalidArgumentError(ArgumentFault::Lengths));
+    }
+    filter(alloc, array, &mask)
+}
+
+fn check_example(rt: &(impl Abort + Alloc<A = Global>)) -> Result<(), Error> {
+    let alloc = rt.alloc();
+    let low = numbers(alloc, vec![in alloc; 5, 6, 7]?)?;
+    let high = numbers(alloc, vec![in alloc; 8, 9]?)?;
+    let low = kept(alloc, &low, &[true, false, false])?;
+    let high = kept(alloc, &high, &[true, false])?;
+    let both = concatenate(alloc, &[&low, &high])?;
+    let AnyArray::Primitive(AnyPrimitive::Int32(rows)) = &both else {
+        panic!(rt; "no array of numbers");
+    };
+    check!(rt; rows.values().as_slice() == [5, 8].as_slice());
+    Ok(())
+}
+
+#[test]
+fn example(rt: HostRuntime) {
+    made!(&rt; check_example(&rt));
+}

@@ -1,0 +1,182 @@
+//! The rows of two arrays, one array behind the other.
+
+use crate::lent::from_row;
+use crate::select::{answered, check_answer, nulls};
+use arrow_arrays::array::AnyArray;
+use arrow_arrays_fixture::arrays::{
+    FLATS, ListKind, NESTED, Shape, array_of, boxed, lists_of, make_lists, make_structs,
+};
+use arrow_flat_fixture::arrays::marks_of;
+use arrow_growable::growable::is_growable;
+use arrow_select::concatenate::concatenate;
+use arrow_types::datatypes::DataType;
+use arrow_types::error::{ArgumentFault, Error};
+use arrow_types_fixture::types::item;
+use arrow_types_fixture::{check, made};
+use std::alloc::Global;
+use std::process::Abort;
+
+/// Two arrays, from some row on, and the rows of both.
+const CASES: [(usize, [&[u8]; 2], &[u8]); 2] = [
+    (1, [b"xabCde", b"XfG"], b"abCdefG"),
+    (0, [b"", b""], b""),
+];
+
+/// Two types that differ.
+const PAIRS: [[Shape; 2]; 2] = [[Shape::Number, Shape::Utf8], [Shape::Date, Shape::Number]];
+
+/// The rows of no array.
+fn join_none(alloc: Global) -> Result<Box<AnyArray>, Error> {
+    boxed(alloc, concatenate(alloc, &[])?)
+}
+
+/// The rows of one array.
+fn join_one(
+    rt: &(impl Abort + Alloc<A = Global>),
+    array: &AnyArray,
+) -> Result<Box<AnyArray>, Error> {
+    assert!(rt; is_growable(array.data_type()));
+    boxed(rt.alloc(), concatenate(rt.alloc(), &[array])?)
+}
+
+/// The rows of two arrays.
+fn join_two(
+    rt: &(impl Abort + Alloc<A = Global>),
+    left: &AnyArray,
+    right: &AnyArray,
+) -> Result<Box<AnyArray>, Error> {
+    assert!(rt; is_growable(left.data_type()) && is_growable(right.data_type()));
+    boxed(rt.alloc(), concatenate(rt.alloc(), &[left, right])?)
+}
+
+fn check_two(
+    rt: &(impl Abort + Alloc<A = Global>),
+    left: &AnyArray,
+    right: &AnyArray,
+    shape: Shape,
+    want: Result<&[u8], Error>,
+) {
+    let answer = made!(rt; answered(join_two(rt, left, right)));
+    check_answer(rt, answer, shape, want);
+}
+
+/// Two arrays of rows, of each shape one.
+fn check_rows(
+    rt: &(impl Abort + Alloc<A = Global>),
+    shapes: [Shape; 2],
+    letters: [&[u8]; 2],
+    start: usize,
+    want: Result<&[u8], Error>,
+) {
+    let ([shape, other], [left, right]) = (shapes, letters);
+    let left = from_row(rt, made!(rt; array_of(rt.alloc(), shape, left)), start);
+    let right = from_row(rt, made!(rt; array_of(rt.alloc(), other, right)), start);
+    check_two(rt, &left, &right, shape, want);
+}
+
+/// One row over as many items as lists can have, valid or null by its letter.
+fn wide_list(alloc: Global, marks: &str) -> Result<Box<AnyArray>, Error> {
+    const MOST: usize = 2_147_483_647;
+    let validity = marks_of(alloc, marks)?;
+    let items = nulls(alloc, MOST)?;
+    lists_of(alloc, ListKind::Small, &[0, MOST], items, validity)
+}
+
+/// One row of 2^63 items.
+fn widest_list(alloc: Global) -> Result<Box<AnyArray>, Error> {
+    const MOST: usize = 1 << 63;
+    let data_type = DataType::FixedSizeList(item(alloc, DataType::Null)?, MOST);
+    let items = nulls(alloc, MOST)?;
+    make_lists(alloc, ListKind::FixedSize, &data_type, &[], items, None)
+}
+
+/// One row of 2^63 items alone, and twice: its items can't be counted then.
+fn check_widest(rt: &(impl Abort + Alloc<A = Global>)) {
+    let array = made!(rt; widest_list(rt.alloc()));
+    let alone = made!(rt; join_one(rt, &array));
+    check!(rt; *alone == *array);
+    let shape = Shape::Lists(ListKind::FixedSize);
+    check_two(rt, &array, &array, shape, Err(Error::Overflow));
+}
+
+/// The letter b, and behind it these.
+fn behind_b(alloc: Global, letters: &[u8]) -> Result<Vec<u8>, Error> {
+    let mut stored = vec![in alloc; b'b']?;
+    stored.extend_from_slice(letters)?;
+    Ok(stored)
+}
+
+/// An array of the letter b and these, sliced from its second row on.
+fn sliced(rt: &(impl Abort + Alloc<A = Global>), shape: Shape, letters: &[u8]) -> Box<AnyArray> {
+    let stored = made!(rt; behind_b(rt.alloc(), letters));
+    from_row(rt, made!(rt; array_of(rt.alloc(), shape, &stored)), 1)
+}
+
+/// Structs of a map and a fixed-size list, each sliced from its second row on.
+fn deep_structs(
+    rt: &(impl Abort + Alloc<A = Global>),
+    letters: &[u8],
+) -> Result<Box<AnyArray>, Error> {
+    let maps = sliced(rt, Shape::Lists(ListKind::Map), letters);
+    let lists = sliced(rt, Shape::Lists(ListKind::FixedSize), letters);
+    make_structs(rt.alloc(), letters, maps, lists)
+}
+
+/// Lists of such structs.
+fn deep_lists(
+    rt: &(impl Abort + Alloc<A = Global>),
+    ends: &[usize],
+    letters: &[u8],
+    marks: &str,
+) -> Result<Box<AnyArray>, Error> {
+    let structs = made!(rt; deep_structs(rt, letters));
+    let validity = made!(rt; marks_of(rt.alloc(), marks));
+    lists_of(rt.alloc(), ListKind::Small, ends, structs, validity)
+}
+
+/// Lists of structs of maps and fixed-size lists, sliced at each level, joined with themselves.
+fn check_deep(rt: &(impl Abort + Alloc<A = Global>)) {
+    let whole = made!(rt; deep_lists(rt, &[0, 1, 3, 5], b"abCDe", "tft"));
+    let array = from_row(rt, whole, 1);
+    let twice = made!(rt; join_two(rt, &array, &array));
+    let want = made!(rt; deep_lists(rt, &[0, 0, 2, 2, 4], b"DeDe", "ftft"));
+    check!(rt; *twice == *want);
+}
+
+/// Items that two rows can't have: none of theirs is named where they are null.
+fn check_wide(rt: &(impl Abort + Alloc<A = Global>)) {
+    let array = made!(rt; wide_list(rt.alloc(), "-"));
+    let shape = Shape::Lists(ListKind::Small);
+    check_two(rt, &array, &array, shape, Err(Error::Overflow));
+    let array = made!(rt; wide_list(rt.alloc(), "f"));
+    let both = made!(rt; join_two(rt, &array, &array));
+    check!(rt; both.len() == 2);
+    check!(rt; both.null_count() == 2);
+}
+
+pub fn check_concatenate(rt: &(impl Abort + Alloc<A = Global>)) {
+    for shape in FLATS.iter().chain(&NESTED) {
+        for (start, letters, want) in &CASES {
+            check_rows(rt, [*shape, *shape], *letters, *start, Ok(*want));
+        }
+    }
+    for shapes in &PAIRS {
+        let want = Error::InvalidArgumentError(ArgumentFault::ConcatenateTypes);
+        check_rows(rt, *shapes, [b"1", b"a"], 0, Err(want));
+    }
+    let answer = made!(rt; answered(join_none(rt.alloc())));
+    let want = Error::InvalidArgumentError(ArgumentFault::ConcatenateEmpty);
+    check_answer(rt, answer, Shape::Null, Err(want));
+    // A part before the whole.
+    let whole = made!(rt; array_of(rt.alloc(), Shape::Pairs(None), b"1_"));
+    let part = made!(rt; array_of(rt.alloc(), Shape::Pairs(None), b"1_"));
+    let part = from_row(rt, part, 1);
+    check_two(rt, &part, &whole, Shape::Pairs(None), Ok(b"_1_"));
+    // More rows than can be counted.
+    let most = made!(rt; nulls(rt.alloc(), usize::MAX));
+    let one = made!(rt; nulls(rt.alloc(), 1));
+    check_two(rt, &most, &one, Shape::Null, Err(Error::Overflow));
+    check_wide(rt);
+    check_widest(rt);
+    check_deep(rt);
+}
