@@ -17,8 +17,10 @@ use std::alloc::Global;
 use std::process::Abort;
 
 /// Two arrays, from some row on, and the rows of both.
-const CASES: [(usize, [&[u8]; 2], &[u8]); 2] = [
+const CASES: [(usize, [&[u8]; 2], &[u8]); 3] = [
     (1, [b"xabCde", b"XfG"], b"abCdefG"),
+    // lists of which no null one has items
+    (1, [b"xbAAc", b"xAdA"], b"bAAcAdA"),
     (0, [b"", b""], b""),
 ];
 
