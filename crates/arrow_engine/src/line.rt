@@ -36,20 +36,31 @@ impl Line<'_> {
             return Err(ReadError::Syntax);
         };
         let words = split_outside_quotes(alloc, text, ' ')?;
-        let mut words = words.iter().filter(|word| !word.is_empty());
-        let Some(name) = words.next() else {
+        let Some(first) = words.iter().position(|word| !word.is_empty()) else {
             return Ok(None);
         };
-        if !name
-            .bytes()
-            .all(|byte| byte == b'_' || byte.is_ascii_lowercase())
-        {
+        let name = words[first];
+        if !is_name(name) {
             return Err(ReadError::Syntax);
         }
-        let mut arguments = Vec::new(alloc);
-        for word in words {
-            arguments.push(Literal::read(alloc, word)?)?;
-        }
+        let arguments = read_arguments(alloc, &words[first + 1..])?;
         Ok(Some(Line { name, arguments }))
     }
+}
+
+/// Whether a word can be a command's name.
+fn is_name(word: &str) -> bool {
+    word.bytes()
+        .all(|byte| byte == b'_' || byte.is_ascii_lowercase())
+}
+
+/// The arguments that these words are. No word stands between two spaces.
+fn read_arguments<'a>(alloc: Global, words: &[&'a str]) -> Result<Vec<Literal<'a>>, ReadError> {
+    let mut arguments = Vec::new(alloc);
+    for word in words {
+        if !word.is_empty() {
+            arguments.push(Literal::read(alloc, word)?)?;
+        }
+    }
+    Ok(arguments)
 }

@@ -207,29 +207,51 @@ fn read_texts<'a>(alloc: Global, elements: &str) -> Result<Literal<'a>, ReadErro
     let mut offsets = Offsets::<i32>::with_capacity(alloc, 0)?;
     let mut texts = String::new(alloc);
     let mut validity = Vec::new(alloc);
-    let mut is_too_long = false;
-    if !elements.is_empty() {
-        for element in &split_outside_quotes(alloc, elements, ',')? {
-            let start = texts.len();
-            if *element != "_" {
-                push_text(&mut texts, element)?;
-            }
-            match offsets.try_push_usize(texts.len().saturating_sub(start)) {
-                Err(Error::Overflow) => is_too_long = true,
-                outcome => outcome?,
-            }
-            validity.push(*element != "_")?;
-        }
-    }
-    if is_too_long {
+    let fits = push_texts(alloc, elements, &mut offsets, &mut texts, &mut validity)?;
+    if !fits {
         return Ok(Literal::TooLong(validity.len()));
     }
+    Ok(Literal::Array(written_texts(alloc, offsets, texts, &validity)?))
+}
+
+/// Appends texts, as offsets, bytes and bits of a validity, and answers whether the bytes of all fit the offsets.
+fn push_texts(
+    alloc: Global,
+    elements: &str,
+    offsets: &mut Offsets<i32>,
+    texts: &mut String,
+    validity: &mut Vec<bool>,
+) -> Result<bool, ReadError> {
+    if elements.is_empty() {
+        return Ok(true);
+    }
+    let mut fits = true;
+    for element in &split_outside_quotes(alloc, elements, ',')? {
+        let start = texts.len();
+        if *element != "_" {
+            push_text(texts, element)?;
+        }
+        match offsets.try_push_usize(texts.len().saturating_sub(start)) {
+            Err(Error::Overflow) => fits = false,
+            outcome => outcome?,
+        }
+        validity.push(*element != "_")?;
+    }
+    Ok(fits)
+}
+
+/// An array of texts.
+fn written_texts(
+    alloc: Global,
+    offsets: Offsets<i32>,
+    texts: String,
+    validity: &[bool],
+) -> Result<WrittenArray, ReadError> {
     let values = Buffer::from_vec(alloc, texts.into_bytes())?;
-    let validity = validity_of(alloc, &validity)?;
+    let validity = validity_of(alloc, validity)?;
     let offsets = offsets.into_buffer()?;
     let array = Utf8Array::<i32>::try_new(DataType::Utf8, offsets, values, validity)?;
-    let array = WrittenArray::new(AnyArray::Utf8(array));
-    Ok(Literal::Array(array))
+    Ok(WrittenArray::new(AnyArray::Utf8(array)))
 }
 
 /// Appends the text that an element in quotes stands for.

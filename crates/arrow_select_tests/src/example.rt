@@ -13,7 +13,6 @@ use arrow_types::datatypes::DataType;
 use arrow_types::{ArgumentFault, Error};
 use arrow_types_fixture::{check, made};
 use std::alloc::Global;
-use std::process::Abort;
 
 /// Numbers, as an array of any type.
 fn numbers(alloc: Global, values: Vec<i32>) -> Result<AnyArray, Error>
@@ -37,21 +36,26 @@ fn kept(alloc: Global, array: &AnyArray, mask: &[bool]) -> Result<AnyArray, Erro
     filter(alloc, array, &mask)
 }
 
-fn check_example(rt: &(impl Abort + Alloc<A = Global>)) -> Result<(), Error> {
-    let alloc = rt.alloc();
-    let low = numbers(alloc, vec![in alloc; 5, 6, 7]?)?;
-    let high = numbers(alloc, vec![in alloc; 8, 9]?)?;
-    let low = kept(alloc, &low, &[true, false, false])?;
-    let high = kept(alloc, &high, &[true, false])?;
-    let both = concatenate(alloc, &[&low, &high])?;
-    let AnyArray::Primitive(AnyPrimitive::Int32(rows)) = &both else {
-        panic!(rt; "no array of numbers");
-    };
-    check!(rt; rows.values().as_slice() == [5, 8].as_slice());
-    Ok(())
+/// The numbers at which a mask is true.
+fn kept_numbers(alloc: Global, values: &[i32], mask: &[bool]) -> Result<Box<AnyArray>, Error>
+    ensures { IfOk result (λ array. CanGrow array.value) }
+{
+    let array = numbers(alloc, Vec::from_slice(alloc, values)?)?;
+    Ok(Box::new(alloc, kept(alloc, &array, mask)?)?)
+}
+
+/// Those of two arrays, one behind the other.
+fn joined(alloc: Global) -> Result<Box<AnyArray>, Error> {
+    let low = kept_numbers(alloc, &[5, 6, 7], &[true, false, false])?;
+    let high = kept_numbers(alloc, &[8, 9], &[true, false])?;
+    Ok(Box::new(alloc, concatenate(alloc, &[&low, &high])?)?)
 }
 
 #[test]
 fn example(rt: HostRuntime) {
-    made!(&rt; check_example(&rt));
+    let both = made!(&rt; joined(rt.alloc()));
+    let AnyArray::Primitive(AnyPrimitive::Int32(rows)) = &*both else {
+        panic!(rt; "no array of numbers");
+    };
+    check!(&rt; rows.values().as_slice() == [5, 8].as_slice());
 }

@@ -159,15 +159,25 @@ fn check_grown(
     check_same(rt, grown, &*made!(rt; array_of(rt.alloc(), shape, letters)));
 }
 
+/// So many nulls.
+fn nulls(alloc: Global, count: usize) -> Result<Box<AnyArray>, Error> {
+    let array = NullArray::try_new(DataType::Null, count)?;
+    boxed(alloc, AnyArray::Null(array))
+}
+
 /// Nulls, whatever rows are named.
-fn check_nulls(rt: &impl Abort, growable: &mut GrowableNull) -> Result<(), Error>
+fn check_nulls(
+    rt: &(impl Abort + Alloc<A = Global>),
+    growable: &mut GrowableNull,
+) -> Result<(), Error>
     requires { growable.old.sources ≡ None }
     ensures { growable.new.sources ≡ None }
 {
     growable.extend(0, 1, 2)?;
     growable.extend(1, 0, 1)?;
     check!(rt; growable.len() == 3);
-    check!(rt; growable.as_box()? == AnyArray::Null(NullArray::try_new(DataType::Null, 3)?));
+    let array = boxed(rt.alloc(), growable.as_box()?)?;
+    check_same(rt, &array, &*made!(rt; nulls(rt.alloc(), 3)));
     Ok(())
 }
 
@@ -184,7 +194,7 @@ fn check_too_many(rt: &impl Abort, growable: &mut GrowableNull)
 }
 
 /// A growable under no allocator.
-fn check_default(rt: &impl Abort) -> Result<(), Error> {
+fn check_default(rt: &(impl Abort + Alloc<A = Global>)) -> Result<(), Error> {
     let mut growable = GrowableNull::default();
     check_nulls(rt, &mut growable)?;
     check_too_many(rt, &mut growable);
@@ -255,8 +265,7 @@ pub fn check_nested(rt: &(impl Abort + Alloc<A = Global>)) {
 /// Structs of a number and a list of as many items as lists can have: twice that is too many.
 fn wide_structs(alloc: Global) -> Result<Box<AnyArray>, Error> {
     const MOST: usize = 2_147_483_647;
-    let items = AnyArray::Null(NullArray::try_new(DataType::Null, MOST)?);
-    let items = boxed(alloc, items)?;
+    let items = nulls(alloc, MOST)?;
     let lists = lists_of(alloc, ListKind::Small, &[0, MOST], items, None)?;
     let numbers = array_of(alloc, Shape::Number, b"1")?;
     make_structs(alloc, b"a", numbers, lists)
