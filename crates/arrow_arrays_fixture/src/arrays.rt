@@ -103,6 +103,14 @@ pub fn boxed(alloc: Global, array: AnyArray) -> Result<Box<AnyArray>, Error> {
     Ok(Box::new(alloc, array)?)
 }
 
+/// So many nulls.
+pub fn nulls(alloc: Global, count: usize) -> Result<Box<AnyArray>, Error> {
+    boxed(
+        alloc,
+        AnyArray::Null(NullArray::try_new(DataType::Null, count)?),
+    )
+}
+
 /// An array without children of these rows.
 pub fn flat(alloc: Global, shape: Shape, letters: &[u8]) -> Result<Box<AnyArray>, Error> {
     boxed(alloc, flat_array(alloc, shape, letters)?)

@@ -42,7 +42,7 @@ bit_at-shl_high : (word shift k : ℕ) → k < 64 → shift ≤ k → bit_at (wo
 bit_at-shl_high word shift k below from =
     bit_at-low (word * 2 ^ shift) k below ∙ (ap (λ n. bit_at n k) (sym (add-zero (word * 2 ^ shift))) ∙ bit_at_cat_high word shift 0 k (pow_pos shift) from)
 
-bit_at-shr : (word m k : ℕ) → bit_at (word / 2 ^ m) k ≡ bit_at word (m + k)
+pub bit_at-shr : (word m k : ℕ) → bit_at (word / 2 ^ m) k ≡ bit_at word (m + k)
 bit_at-shr word m k = ap (λ x. x % 2) (shr-shr word m k)
 
 or-false : (b : Bool) → (b || (0 == 1)) ≡ b

@@ -1,5 +1,5 @@
 -- Runs of equal bits: in a word, and over words.
-use Rattle.std.proofs.Common.{◌≡◌, ℕ, zero, suc, ◌+◌, ◌-◌, ◌^◌, ◌<◌, ◌≤◌, min, w64, Bool, true, false, not, List, [], ◌∷◌, length, get_or, drop, replicate, ◌++◌, ap, sym, ◌∙◌, arith, inl, inr}
+use Rattle.std.proofs.Common.{◌≡◌, ℕ, zero, suc, ◌+◌, ◌-◌, ◌/◌, ◌^◌, ◌<◌, ◌≤◌, min, w64, Bool, true, false, not, List, [], ◌∷◌, length, get_or, drop, replicate, ◌++◌, ap, sym, ◌∙◌, arith, inl, inr}
 use Rattle.std.specs.Prelude.{◌==◌, nat_eq, slice_get, Some}
 use Rattle.std.specs.Int.{bit_at, bit_not, trailing_zeros}
 use Rattle.std.specs.Int.Count.{trailing_of_zero}
@@ -9,6 +9,7 @@ use Rattle.std.proofs.lemmas.Nat.Bits.{bit_at_not, bit_at-zero, bit_at-trailing_
 use Rattle.std.proofs.lemmas.Option.{slice_get-get_or}
 use Rattle.arrow_memory.specs.Sliced.{sliced}
 use Rattle.arrow_memory.specs.Words.{is_set, bits_in, word_of, IsLowRun}
+use Rattle.arrow_memory.proofs.AppendLemmas.{bit_at-shr}
 use Rattle.arrow_memory.proofs.BitmapLemmas.{bit_of-word_of}
 use Rattle.arrow_memory.proofs.WordLemmas.{length-bits_in, get_or-bits_in, bits_in-add}
 
@@ -150,6 +151,22 @@ set_more words start place count n word bit alike is run i from below =
 pub set_ends : (words : List ℕ) (place count n word : ℕ) (bit : Bool) → word ≡ word_of (bits_in words place count) → IsLowRun word count bit n → n < count → is_set words (place + n) ≡ not bit
 set_ends words place count n word bit is run short =
     sym (set_there words place count n short) ∙ (ap (λ w. nat_eq (bit_at w n) 1) (sym is) ∙ run.ends short)
+
+-- the bits of a word behind its first n ones
+module _ (words : List ℕ) (place count n m word : ℕ) (bit : Bool) (is : word ≡ word_of (bits_in words place count)) (run : IsLowRun (word / 2 ^ n) (count - n) bit m) where
+  behind : (k : ℕ) → n + k < count → (bit_at (word / 2 ^ n) k == 1) ≡ is_set words (place + n + k)
+  behind k below =
+      let at : place + (n + k) ≡ place + n + k = omega arith in
+      ap (λ b. nat_eq b 1) (bit_at-shr word n k) ∙ (ap (λ w. nat_eq (bit_at w (n + k)) 1) is ∙ (set_there words place count (n + k) below ∙ ap (is_set words) at))
+
+  pub set_behind : AreSet words (place + n) (place + n + m) bit
+  set_behind i from below =
+      let k = i - (place + n) in
+      let at : place + n + k ≡ i = omega arith in
+      ap (is_set words) (sym at) ∙ (sym (behind k (omega (arith, run.within))) ∙ run.alike k (omega arith))
+
+  pub set_behind_ends : n + m < count → is_set words (place + n + m) ≡ not bit
+  set_behind_ends short = sym (behind m short) ∙ run.ends (omega arith)
 
 -- the bits that are left, cut in a run of bits that are not set, one of set bits, and the rest
 pub cut_twice : (words : List ℕ) (start set next end : ℕ) → start ≤ set → set ≤ next → next ≤ end → bits_in words start (set - start) ≡ replicate (set - start) false → bits_in words set (next - set) ≡ replicate (next - set) true → bits_in words start (end - start) ≡ replicate (set - start) false ++ (replicate (next - set) true ++ bits_in words next (end - next))

@@ -463,7 +463,7 @@ fn append_valid_rows<O: Offset>(
 }
 
 /// Appends where `count` rows from row `start` on end, by the bits of a word, and answers the last of
-/// these offsets. No test depends on a bit.
+/// these offsets. There is room for them.
 fn append_word_of_rows<O: Offset>(
     offsets: &mut Vec<O>,
     last: O,
@@ -480,17 +480,41 @@ fn append_word_of_rows<O: Offset>(
     ensures ends { map O.number offsets.new.items ≡ map O.number offsets.old.items ++ map pos (valid_ends (unsigned_abs (O.number last)) (bits_in (word ∷ []) 0 count) other.now start) }
     ensures last { O.number result ≡ pos (unsigned_abs (O.number last) + valid_items (bits_in (word ∷ []) 0 count) other.now start) }
     ensures len { vec_len offsets.new ≡ vec_len offsets.old + count }
-    ensures capacity { vec_capacity offsets.new ≡ vec_capacity offsets.old }
+    ensures capacity { vec_capacity offsets.old ≤ vec_capacity offsets.new }
+{
+    let done = offsets.len();
+    let Ok(()) = offsets.extend_from_slice(&other.buffer()[start + 1..start + 1 + count]) else {
+        unreachable!();
+    };
+    write_word_of_rows(offsets.slice_mut(done..), last, other, start, word)
+}
+
+/// Writes where rows from row `start` on end, by the bits of a word, and answers the last of these offsets.
+/// No test depends on a bit.
+fn write_word_of_rows<O: Offset>(
+    ends: &mut [O],
+    last: O,
+    other: &OffsetsBuffer<O>,
+    start: usize,
+    word: u64,
+) -> O
+    requires in_word { length ends.old ≤ 64 }
+    requires part { start + length ends.old < length other.now }
+    requires not_negative { pos 0 ≤ℤ O.number last }
+    requires fits { (unsigned_abs (O.number last) + valid_items (bits_in (word ∷ []) 0 (length ends.old)) other.now start) ≤ O.greatest }
+    ensures long { length ends.new ≡ length ends.old }
+    ensures ends { map O.number ends.new ≡ map pos (valid_ends (unsigned_abs (O.number last)) (bits_in (word ∷ []) 0 (length ends.old)) other.now start) }
+    ensures last { O.number result ≡ pos (unsigned_abs (O.number last) + valid_items (bits_in (word ∷ []) 0 (length ends.old)) other.now start) }
 {
     let rows = other.buffer();
     let mut last = last;
-    for k in 0..count {
+    for k in 0..ends.len() {
         let row = start + k;
         let end = row + 1;
         let next = rows[end];
         let from = begin_of(rows[row], next, word >> k & 1 == 1);
         last = next.shifted(from, last);
-        offsets.push_reserved(last);
+        ends[k] = last;
     }
     last
 }

@@ -176,8 +176,8 @@ fn clear_behind(words: &mut Vec<u64>, len: usize)
     }
 }
 
-/// Puts `len` bits from place `from` of others behind the first `place` ones. Those of one word go as a word, and
-/// more as whole words of the others from where the last word is filled, of which the last one is cut.
+/// Puts `len` bits from place `from` of others behind the first `place` ones. Those of one word go as a word.
+#[inline(always)]
 pub(crate) fn append_bits(
     words: &mut Vec<u64>,
     place: usize,
@@ -195,8 +195,24 @@ pub(crate) fn append_bits(
 {
     if len <= WORD_BITS {
         append_word(words, place, bits_from(others, from, len), len);
-        return;
+    } else {
+        append_more(words, place, others, from, len);
     }
+}
+
+/// The same of more bits than a word has: whole words of the others from where the last word is filled, of which the
+/// last one is cut.
+#[inline(never)]
+fn append_more(words: &mut Vec<u64>, place: usize, others: &[u64], from: usize, len: usize)
+    requires many { 64 < len }
+    requires full { length words.old.items ≡ div_ceil place 64 }
+    requires part { from + len ≤ 64 * length others.now }
+    requires room { div_ceil (place + len) 64 ≤ vec_capacity words.old }
+    requires fits { place + len < 2 ^ 64 }
+    requires ends { from + len < 2 ^ 64 }
+    ensures full { length words.new.items ≡ div_ceil (place + len) 64 }
+    ensures appended { AppendsBits words.old.items words.new.items place (bits_in others.now from len) }
+{
     fill_word(words, place, others, from);
     let count = (place + len).div_ceil(WORD_BITS) - words.len();
     if count > 0 {

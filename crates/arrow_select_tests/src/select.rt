@@ -5,19 +5,11 @@ mod filter;
 mod window;
 
 use arrow_arrays::array::AnyArray;
-use arrow_arrays_fixture::arrays::{Shape, array_of, boxed};
-use arrow_flat::array::NullArray;
-use arrow_types::datatypes::DataType;
+use arrow_arrays_fixture::arrays::{Shape, array_of};
 use arrow_types::error::Error;
 use arrow_types_fixture::{check, made};
 use std::alloc::Global;
 use std::process::Abort;
-
-/// So many nulls.
-fn nulls(alloc: Global, count: usize) -> Result<Box<AnyArray>, Error> {
-    let array = NullArray::try_new(DataType::Null, count)?;
-    boxed(alloc, AnyArray::Null(array))
-}
 
 /// What a kernel answers, rows or a refusal, unless memory was refused: so `made!` takes a second answer
 /// for want of memory alone.

@@ -272,27 +272,31 @@ fn append_valid_bytes<O: Offset>(
     ensures err { IsOkUnless result Error.OutOfMemory }
 {
     prove!(start < rows.len());
+    let (_, until) = rows.range(start, len);
     let mut left = validity.runs(start, len);
     let end = start + len;
     let mut row = start;
     while row < end {
         let (nulls, count) = left.next_set();
-        append_bytes(bytes, rows, values, row + nulls, count)?;
+        append_bytes(bytes, rows, values, row + nulls, count, until)?;
         row += nulls + count;
     }
     Ok(())
 }
 
-/// Appends the bytes of `len` rows from row `start` on. Where that is refused, all is as before.
+/// Appends the bytes of `len` rows from row `start` on, and reads none behind `until`. Where that is refused, all is as
+/// before.
 fn append_bytes<O: Offset>(
     bytes: &mut Vec<u8>,
     rows: &OffsetsBuffer<O>,
     values: &[u8],
     start: usize,
     len: usize,
+    until: usize,
 ) -> Result<(), Error>
     requires part { start + len < length rows.now }
     requires within { last_of rows.now ≤ length values.now }
+    requires until { until ≤ length values.now }
     ensures ok { OnOk result (bytes.new.items ≡ bytes.old.items ++ sliced values.now (slice_index rows.now start) (slice_index rows.now (start + len) - slice_index rows.now start)) }
     ensures unchanged { OnErr result (bytes.new.items ≡ bytes.old.items) }
     ensures err { IsOkUnless result Error.OutOfMemory }
@@ -301,6 +305,38 @@ fn append_bytes<O: Offset>(
         return Ok(());
     }
     let (first, end) = rows.range(start, len);
+    append_part(bytes, values, first, end, until)
+}
+
+/// How many bytes a part is copied with where it has no more. A copy of a fixed size is a few moves, and needs neither a
+/// call nor a loop whose end is guessed.
+const BLOCK: usize = 128;
+
+/// Appends the bytes from `first` up to `end`. A short part is copied with what comes behind it, where that is still
+/// before `until` and there is room for it, and is then cut. Where it is refused, all is as before.
+fn append_part(
+    bytes: &mut Vec<u8>,
+    values: &[u8],
+    first: usize,
+    end: usize,
+    until: usize,
+) -> Result<(), Error>
+    requires order { first ≤ end }
+    requires within { end ≤ length values.now }
+    requires until { until ≤ length values.now }
+    ensures ok { OnOk result (bytes.new.items ≡ bytes.old.items ++ sliced values.now first (end - first)) }
+    ensures unchanged { OnErr result (bytes.new.items ≡ bytes.old.items) }
+    ensures err { IsOkUnless result Error.OutOfMemory }
+{
+    let (done, len) = (bytes.len(), end - first);
+    let behind = until.saturating_sub(first);
+    if len <= BLOCK && BLOCK <= behind && BLOCK <= bytes.capacity() - done {
+        let Ok(()) = bytes.extend_from_slice(&values[first..first + BLOCK]) else {
+            unreachable!();
+        };
+        bytes.truncate(done + len);
+        return Ok(());
+    }
     bytes.extend_from_slice(&values[first..end])?;
     Ok(())
 }

@@ -169,8 +169,31 @@ fn append_set(bits: &mut Option<MutableBitmap>, len: usize) -> Result<(), Error>
 }
 
 /// Appends a part of a bitmap to the bits of so many rows.
-#[inline(never)]
+#[inline(always)]
 fn append_part(
+    alloc: Global,
+    bits: &mut Option<MutableBitmap>,
+    rows: usize,
+    validity: &Bitmap,
+    start: usize,
+    len: usize,
+) -> Result<(), Error>
+    requires within { start + len ≤ length validity.now }
+    requires counted { IfSome bits.old (λ bits. length bits ≡ rows) }
+    ensures ok { OnOk result (AppendsValidity bits.old bits.new rows (sliced validity.now start len)) }
+    ensures overflow { result ≡ Err Error.Overflow → 2 ^ 64 ≤ rows + len }
+    ensures others { IfErr result IsGrowthError }
+    ensures unchanged { OnErr result (AreSameBits bits.old bits.new rows) }
+{
+    match bits {
+        None => keep_part(alloc, bits, rows, validity, start, len),
+        Some(bits) => bits.extend_from_bitmap(validity, start, len),
+    }
+}
+
+/// The same where no bits may be kept so far.
+#[inline(never)]
+fn keep_part(
     alloc: Global,
     bits: &mut Option<MutableBitmap>,
     rows: usize,

@@ -10,7 +10,7 @@ ghost use Rattle.arrow_arrays.specs.StructParts.{struct_layout};
 use crate::lent::{check_same, from_row};
 use arrow_arrays::array::{AnyArray, AnyOffset, StructArray};
 use arrow_arrays_fixture::arrays::{
-    ListKind, NESTED, Shape, array_of, boxed, lists_of, make_structs,
+    ListKind, NESTED, Shape, array_of, boxed, lists_of, make_structs, nulls,
 };
 use arrow_flat::array::{
     AnyElement, AnyPrimitive, ByteKind, ByteRows, FlatArray, NullArray, PrimitiveArray,
@@ -157,12 +157,6 @@ fn check_grown(
 ) {
     check_stored(rt, grown);
     check_same(rt, grown, &*made!(rt; array_of(rt.alloc(), shape, letters)));
-}
-
-/// So many nulls.
-fn nulls(alloc: Global, count: usize) -> Result<Box<AnyArray>, Error> {
-    let array = NullArray::try_new(DataType::Null, count)?;
-    boxed(alloc, AnyArray::Null(array))
 }
 
 /// Nulls, whatever rows are named.

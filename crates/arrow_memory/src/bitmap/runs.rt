@@ -37,12 +37,36 @@ impl<'a> BitRuns<'a> {
         ensures some { 0 < length self.old → 0 < result.0 + result.1 }
     {
         let (start, end) = (self.place, self.place + self.left);
-        let set = run_end(self.words, start, end, false);
-        let next = run_end(self.words, set, end, true);
+        let (set, next) = run_ends(self.words, start, end);
         self.place = next;
         self.left = end - next;
         (set - start, next - set)
     }
+}
+
+/// Where the bits from `start` on end that are not set, and then the set ones behind them, at `end` at the latest.
+/// One word is read where both end in the 64 bits from `start` on.
+fn run_ends(words: &[u64], start: usize, end: usize) -> (usize, usize)
+    requires order { start ≤ end }
+    requires within { end ≤ 64 * length words.now }
+    ensures order { (start ≤ result.0) × (result.0 ≤ result.1) }
+    ensures within { result.1 ≤ end }
+    ensures some { start < end → start < result.1 }
+    ensures unset { bits_in words.now start (result.0 - start) ≡ replicate (result.0 - start) false }
+    ensures run { bits_in words.now result.0 (result.1 - result.0) ≡ replicate (result.1 - result.0) true }
+    ensures longest { result.1 < end → is_set words.now result.1 ≡ false }
+{
+    let count = WORD_BITS.min(end - start);
+    let word = bits_from(words, start, count);
+    let nulls = low_run(word, count, false);
+    if nulls < count {
+        let run = low_run(word >> nulls, count - nulls, true);
+        if nulls + run < count {
+            return (start + nulls, start + nulls + run);
+        }
+    }
+    let set = run_end(words, start, end, false);
+    (set, run_end(words, set, end, true))
 }
 
 /// Where the run of bits from `start` on ends that are equal to `bit`, at `end` at the latest.

@@ -1,10 +1,10 @@
 //! The rows of two arrays, one array behind the other.
 
 use crate::lent::from_row;
-use crate::select::{answered, check_answer, nulls};
+use crate::select::{answered, check_answer};
 use arrow_arrays::array::AnyArray;
 use arrow_arrays_fixture::arrays::{
-    FLATS, ListKind, NESTED, Shape, array_of, boxed, lists_of, make_lists, make_structs,
+    FLATS, ListKind, NESTED, Shape, array_of, boxed, lists_of, make_lists, make_structs, nulls,
 };
 use arrow_flat_fixture::arrays::marks_of;
 use arrow_growable::growable::is_growable;
@@ -16,12 +16,25 @@ use arrow_types_fixture::{check, made};
 use std::alloc::Global;
 use std::process::Abort;
 
+/// Rows of more than two words of bits, with runs of valid ones within a word and across two.
+const LONG: &[u8] =
+    b"xfadchgddcgbhaAdCedddGfcfaffhccaFagacddhfebfabffbfbecbgfhcafccggaechfecchceffafe\
+    eefaeeffgchfcfhbggeahccadccafbdfggfefecfchCfafcgdhGceegeeahagehdcehbcfafcebdghgd\
+    hbaghchCadbagGabbcHcc";
+
+/// The same but the first, and two more.
+const LONGER: &[u8] =
+    b"fadchgddcgbhaAdCedddGfcfaffhccaFagacddhfebfabffbfbecbgfhcafccggaechfecchceffafee\
+    efaeeffgchfcfhbggeahccadccafbdfggfefecfchCfafcgdhGceegeeahagehdcehbcfafcebdghgdh\
+    baghchCadbagGabbcHccfG";
+
 /// Two arrays, from some row on, and the rows of both.
-const CASES: [(usize, [&[u8]; 2], &[u8]); 3] = [
+const CASES: [(usize, [&[u8]; 2], &[u8]); 4] = [
     (1, [b"xabCde", b"XfG"], b"abCdefG"),
     // lists of which no null one has items
     (1, [b"xbAAc", b"xAdA"], b"bAAcAdA"),
     (0, [b"", b""], b""),
+    (1, [LONG, b"XfG"], LONGER),
 ];
 
 /// Two types that differ.

@@ -1,9 +1,9 @@
 //! Rows that are moved along an array.
 
 use crate::lent::from_row;
-use crate::select::{answered, check_answer, nulls};
+use crate::select::{answered, check_answer};
 use arrow_arrays::array::AnyArray;
-use arrow_arrays_fixture::arrays::{FLATS, NESTED, Shape, array_of, boxed};
+use arrow_arrays_fixture::arrays::{FLATS, NESTED, Shape, array_of, boxed, nulls};
 use arrow_growable::growable::is_growable;
 use arrow_select::window::shift;
 use arrow_types::error::{ArgumentFault, Error};

@@ -1,5 +1,4 @@
-use Rattle.std.proofs.Common.{rules, arith, ◌≡◌, ℕ, zero, suc, Bor, List, [], ◌∷◌, length, map, get_or, refl, sym, ap, ◌∙◌}
-use Rattle.std.specs.List.{All}
+use Rattle.std.proofs.Common.{rules, arith, ◌≡◌, zero, suc, Bor, List, [], ◌∷◌, length, map, get_or, refl, sym, ap, ◌∙◌}
 use Rattle.arrow_arrays.specs.Any.{layout_of}
 use Rattle.arrow_arrays.specs.Layout.{Layout, type_of_layout}
 use Rattle.arrow_flat_growable.specs.Grown.{AreOfOneType}

@@ -7,7 +7,6 @@ use Rattle.arrow_arrays.specs.TypeDepth.{type_depth}
 use Rattle.arrow_arrays.specs.TypeParts.{field_types}
 use Rattle.arrow_arrays.proofs.ColumnLemmas.{only_memory, first_columns, other_columns, carried_at, fits_at, less_deep}
 use Rattle.arrow_arrays.proofs.FitNullLemmas.{items_fit, struct_fits, sparse_fits, dense_fits}
-use Rattle.arrow_arrays.proofs.NullLemmas.{slots_null}
 use Rattle.arrow_arrays.proofs.NullPartsLemmas.{lists_shape}
 use Rattle.arrow_arrays.proofs.ShapeLemmas.{shape_of, list_child, dictionary_child, struct_columns, union_columns}
 use Rattle.arrow_new_arrays.proofs.array.new.+new.Goals as goal

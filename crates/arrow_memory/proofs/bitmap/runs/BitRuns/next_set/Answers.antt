@@ -9,10 +9,9 @@ returns-clause-bits c =
     let start = c.self.inside.place in
     let end = start + c.self.inside.left in
     let width : end - start ≡ c.self.inside.left = omega arith in
-    let set = c.run_end-set in
-    let next = c.run_end-next in
-    sym c.self.view_is ∙ (ap (bits_in words start) (sym width) ∙ cut_twice words start set.result next.result end set.ensures.order next.ensures.order next.ensures.within set.ensures.run next.ensures.run)
+    let ends = c.run_ends-set in
+    sym c.self.view_is ∙ (ap (bits_in words start) (sym width) ∙ cut_twice words start ends.result.0 ends.result.1 end ends.ensures.order.0 ends.ensures.order.1 ends.ensures.within ends.ensures.unset ends.ensures.run)
 
 pub returns-clause-longest : goal.returns-clause-longest
 returns-clause-longest c first =
-    not_first c.self.inside.words.now c.run_end-next.result (c.self.inside.place + c.self.inside.left) c.run_end-next.ensures.longest first
+    not_first c.self.inside.words.now c.run_ends-set.result.1 (c.self.inside.place + c.self.inside.left) c.run_ends-set.ensures.longest first
