@@ -37,7 +37,12 @@ pub(super) fn append_part<T: Copy>(
     ensures err { IsOkUnless result Error.OutOfMemory }
     ensures unchanged { OnErr result (values.new.items ≡ values.old.items) }
 {
-    values.extend_from_slice(&from[start..start + len])?;
+    // one value is a store, and no call that copies
+    if len == 1 {
+        values.push(from[start])?;
+    } else {
+        values.extend_from_slice(&from[start..start + len])?;
+    }
     Ok(())
 }
 
