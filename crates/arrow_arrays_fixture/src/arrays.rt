@@ -62,13 +62,14 @@ pub const FLATS: [Shape; 9] = [
 ];
 
 /// The shapes with children whose arrays can grow.
-pub const NESTED: [Shape; 6] = [
+pub const NESTED: [Shape; 7] = [
     Shape::Lists(ListKind::Small),
     Shape::Lists(ListKind::Large),
     Shape::Lists(ListKind::Named),
     Shape::Lists(ListKind::FixedSize),
     Shape::Lists(ListKind::Map),
     Shape::Pairs(None),
+    Shape::Dictionary,
 ];
 
 /// The shapes whose rows are told apart by their letters, each with its physical type.
@@ -136,7 +137,7 @@ fn flat_array(alloc: Global, shape: Shape, letters: &[u8]) -> Result<AnyArray, E
     }
 }
 
-/// Keys of the letters a to h.
+/// Keys of the letters a to z.
 fn keys_of(alloc: Global, letters: &[u8]) -> Result<AnyKeys, Error> {
     let mut keys = Vec::with_capacity(alloc, letters.len())?;
     for letter in letters {
@@ -147,9 +148,9 @@ fn keys_of(alloc: Global, letters: &[u8]) -> Result<AnyKeys, Error> {
     Ok(AnyKeys::Int8(PrimitiveArray::<i8>::try_new(DataType::Int8, keys, validity)?))
 }
 
-/// A dictionary of the texts a to h.
+/// A dictionary of the texts a to z.
 fn dictionary(alloc: Global, letters: &[u8]) -> Result<Box<AnyArray>, Error> {
-    let values = flat(alloc, Shape::Utf8, b"abcdefgh")?;
+    let values = flat(alloc, Shape::Utf8, b"abcdefghijklmnopqrstuvwxyz")?;
     let keys = keys_of(alloc, letters)?;
     let data_type = read(alloc, "utf8 dictionary:i8")?;
     let array = DictionaryArray::try_new(data_type, keys, values)?;

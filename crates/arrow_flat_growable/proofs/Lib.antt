@@ -2,6 +2,7 @@ pub mod GrownRowLemmas
 pub mod FitsLemmas
 pub mod FixedRowsLemmas
 pub mod FlatLemmas
+pub mod GrownKeyLemmas
 pub mod MaskLemmas
 pub mod NullLemmas
 pub mod ResultLemmas

@@ -5,6 +5,7 @@ pub mod Flat
 pub mod FlatLaws
 pub mod Grown
 pub mod GrownRows
+pub mod Keys
 pub mod MaskLaws
 pub mod Nulls
 pub mod Validity

@@ -33,7 +33,7 @@ lies_valid (Some bits) start n k inside set =
 
 -- children of layouts that are all of one form, as rows that are crowded name them
 
-same_map : (g h : Layout → Layout) (ls : List Layout) → All (λ l. g l ≡ h l) ls → map g ls ≡ map h ls
+pub same_map : (g h : Layout → Layout) (ls : List Layout) → All (λ l. g l ≡ h l) ls → map g ls ≡ map h ls
 same_map g h [] same = refl
 same_map g h (l ∷ ls) same =
     λ t. same 0 l (omega arith) t ∷ same_map g h ls (λ k d within. same (suc k) d (omega (arith, within))) t
@@ -43,15 +43,15 @@ nth_from no_layouts f = refl
 nth_from (more_layouts l ls) zero = refl
 nth_from (more_layouts l ls) (suc f) = nth_from ls f
 
-listed_child : (os : List ℕ) (l : Layout) → IsOfForm (by_offsets os) l → nth_child 0 l ≡ child_of l
+pub listed_child : (os : List ℕ) (l : Layout) → IsOfForm (by_offsets os) l → nth_child 0 l ≡ child_of l
 listed_child os (listed t v offsets c) is = refl
 listed_child os _ is = absurd is
 
-sized_child : (s : ℕ) (l : Layout) → IsOfForm (by_size s) l → nth_child 0 l ≡ child_of l
+pub sized_child : (s : ℕ) (l : Layout) → IsOfForm (by_size s) l → nth_child 0 l ≡ child_of l
 sized_child s (fixed t v size c) is = refl
 sized_child s _ is = absurd is
 
-field_child : (f : ℕ) (l : Layout) → IsOfForm by_fields l → nth_child f l ≡ child_at f l
+pub field_child : (f : ℕ) (l : Layout) → IsOfForm by_fields l → nth_child f l ≡ child_at f l
 field_child f (fielded t v cs) is = nth_from cs f
 field_child f _ is = absurd is
 

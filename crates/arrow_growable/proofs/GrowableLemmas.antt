@@ -2,13 +2,15 @@
 use Rattle.std.proofs.Common.{arith, ◌≡◌, ◌+◌, ◌<◌, ◌≤◌, ℕ, zero, suc, max, List, [], ◌∷◌, length, map, take, get_or, refl, ap, sym, subst, ◌↔◌}
 use Rattle.arrow_types.specs.declared.datatypes.physical_type.PhysicalType.{PhysicalType}
 use Rattle.arrow_types.specs.declared.datatypes.physical_type.PhysicalType.TheVariants as physical
+use Rattle.arrow_types.specs.declared.datatypes.IntegerType.{IntegerType}
 use Rattle.arrow_types.specs.declared.types.PrimitiveType.{PrimitiveType}
 use Rattle.arrow_types.specs.ArrowType.{ArrowType, ArrowField, ArrowFields, PlainType, plain, list, struct, union, dictionary, extension, field, no_fields, more_fields, from_fields, type_in, mapped, small, large, fixed_size, null}
 use Rattle.arrow_types.specs.Physical.{physical_type_of, plain_physical_type}
 use Rattle.arrow_types.specs.TypeOf.{field_of, fields_of}
 use Rattle.arrow_types.specs.declared.datatypes.Field.{Field}
-use Rattle.arrow_arrays.specs.Any.{Kind, fixed_size_list_kind, kind_in, list_kind, map_kind, struct_kind}
-use Rattle.arrow_arrays.proofs.ShapeLemmas.{list_shape, shape_of}
+use Rattle.arrow_arrays.specs.Any.{Kind, dictionary_kind, fixed_size_list_kind, kind_in, list_kind, map_kind, struct_kind}
+use Rattle.arrow_flat.specs.DictionaryScalar.{values_in}
+use Rattle.arrow_arrays.proofs.ShapeLemmas.{dictionary_shape, list_shape, list_shaped, plain_shape, shape_in, shape_of}
 use Rattle.arrow_growable.specs.Form.{child_type, child_types}
 use Rattle.arrow_growable.specs.Growable.{AreGrowable, IsGrowable}
 use Rattle.arrow_growable.specs.Lists.{IsListType}
@@ -77,14 +79,15 @@ child_grows (list form (field name t nullable)) zero grows within = grows
 child_grows (list form (field name t nullable)) (suc f) grows within = absurd (omega (arith, within))
 child_grows (struct fs) f grows within = field_grows fs f grows within
 child_grows (union mode ids fs) f grows within = absurd grows
-child_grows (dictionary keys ordered t) f grows within = absurd grows
+child_grows (dictionary keys ordered t) f grows within = absurd (omega (arith, within))
 child_grows (extension name metadata t) f grows within = child_grows t f grows within
 
--- how many lists, structs and extensions there are around a type
+-- how many lists, structs, dictionaries and extensions there are around a type
 abbrev mutual
   pub wrappers : ArrowType → ℕ
   wrappers (list form (field name t nullable)) = suc (wrappers t)
   wrappers (struct fs) = suc (wrappers_of fs)
+  wrappers (dictionary keys ordered t) = suc (wrappers t)
   wrappers (extension name metadata t) = suc (wrappers t)
   wrappers _ = 0
 
@@ -129,7 +132,6 @@ AreGrowable-next (g ∷ fs) (suc i) f within read all new =
 -- the physical types of arrays that can grow
 abbrev pub MayGrow : PhysicalType → Type 0
 MayGrow physical.Union = ⊥
-MayGrow (physical.Dictionary keys) = ⊥
 MayGrow _ = Unit {0}
 
 plain_may_grow : (p : PlainType) → MayGrow (plain_physical_type p)
@@ -144,22 +146,36 @@ may_grow (list (fixed_size s) f) grows = tt
 may_grow (list (mapped sorted) f) grows = tt
 may_grow (struct fs) grows = tt
 may_grow (union mode ids fs) grows = grows
-may_grow (dictionary keys ordered t) grows = grows
+may_grow (dictionary keys ordered t) grows = tt
 may_grow (extension name metadata t) grows = may_grow t grows
 
 -- those that are none of these have children
-pub others_nest : (p : PhysicalType) → MayGrow p → (p ≡ physical.Null → ⊥) → (p ≡ physical.Boolean → ⊥) → ((x : PrimitiveType) → p ≡ physical.Primitive x → ⊥) → (p ≡ physical.Binary → ⊥) → (p ≡ physical.FixedSizeBinary → ⊥) → (p ≡ physical.LargeBinary → ⊥) → (p ≡ physical.Utf8 → ⊥) → (p ≡ physical.LargeUtf8 → ⊥) → IsNestedType p
-others_nest physical.Null may n b x y f z u v = n refl
-others_nest physical.Boolean may n b x y f z u v = b refl
-others_nest (physical.Primitive e) may n b x y f z u v = x e refl
-others_nest physical.Binary may n b x y f z u v = y refl
-others_nest physical.FixedSizeBinary may n b x y f z u v = f refl
-others_nest physical.LargeBinary may n b x y f z u v = z refl
-others_nest physical.Utf8 may n b x y f z u v = u refl
-others_nest physical.LargeUtf8 may n b x y f z u v = v refl
-others_nest physical.List may n b x y f z u v = tt
-others_nest physical.LargeList may n b x y f z u v = tt
-others_nest physical.FixedSizeList may n b x y f z u v = tt
-others_nest physical.Map may n b x y f z u v = tt
-others_nest physical.Struct may n b x y f z u v = tt
-others_nest _ may n b x y f z u v = may
+pub others_nest : (p : PhysicalType) → MayGrow p → (p ≡ physical.Null → ⊥) → (p ≡ physical.Boolean → ⊥) → ((x : PrimitiveType) → p ≡ physical.Primitive x → ⊥) → (p ≡ physical.Binary → ⊥) → (p ≡ physical.FixedSizeBinary → ⊥) → (p ≡ physical.LargeBinary → ⊥) → (p ≡ physical.Utf8 → ⊥) → (p ≡ physical.LargeUtf8 → ⊥) → ((k : IntegerType) → p ≡ physical.Dictionary k → ⊥) → IsNestedType p
+others_nest physical.Null may n b x y f z u v d = n refl
+others_nest physical.Boolean may n b x y f z u v d = b refl
+others_nest (physical.Primitive e) may n b x y f z u v d = x e refl
+others_nest physical.Binary may n b x y f z u v d = y refl
+others_nest physical.FixedSizeBinary may n b x y f z u v d = f refl
+others_nest physical.LargeBinary may n b x y f z u v d = z refl
+others_nest physical.Utf8 may n b x y f z u v d = u refl
+others_nest physical.LargeUtf8 may n b x y f z u v d = v refl
+others_nest physical.List may n b x y f z u v d = tt
+others_nest physical.LargeList may n b x y f z u v d = tt
+others_nest physical.FixedSizeList may n b x y f z u v d = tt
+others_nest physical.Map may n b x y f z u v d = tt
+others_nest physical.Struct may n b x y f z u v d = tt
+others_nest (physical.Dictionary k) may n b x y f z u v d = d k refl
+others_nest _ may n b x y f z u v d = may
+
+-- the values of a dictionary
+pub values_grow : (t : ArrowType) → IsGrowable t → shape_in t ≡ dictionary_shape → IsGrowable (values_in t)
+values_grow (plain p) grows shape = cc (plain_shape p)
+values_grow (list form f) grows shape = cc (list_shaped form)
+values_grow (struct fs) grows shape = cc
+values_grow (union mode ids fs) grows shape = cc
+values_grow (dictionary keys ordered t) grows shape = grows
+values_grow (extension name metadata t) grows shape = values_grow t grows shape
+
+pub shape_of_dictionaries : (p : PhysicalType) → kind_in p ≡ dictionary_kind → shape_of p ≡ dictionary_shape
+shape_of_dictionaries (physical.Dictionary k) is = refl
+shape_of_dictionaries _ is = cc

@@ -2,12 +2,15 @@ pub mod ChildLemmas
 pub mod ColumnLemmas
 pub mod CountLemmas
 pub mod CrowdLemmas
+pub mod DictionaryLemmas
 pub mod EvenLemmas
 pub mod FieldLemmas
 pub mod FinishLemmas
 pub mod FixedSizeLemmas
 pub mod GrowableLemmas
+pub mod GrowLemmas
 pub mod GrownLemmas
+pub mod JoinedLemmas
 pub mod ListLemmas
 pub mod LoopLemmas
 pub mod MakeLemmas
@@ -15,3 +18,4 @@ pub mod NestedLemmas
 pub mod SourceLemmas
 pub mod SpreadLemmas
 pub mod StepLemmas
+pub mod UnjoinedLemmas

@@ -8,7 +8,7 @@ use Rattle.arrow_growable.specs.FormLaws.{deepest_child}
 use Rattle.arrow_growable.specs.AnyGrowable.{grown_of}
 use Rattle.arrow_growable.specs.Form.{child_types}
 use Rattle.arrow_growable.specs.declared.growable.any.AnyGrowable.{AnyGrowable}
-use Rattle.arrow_growable.specs.declared.growable.any.AnyGrowable.TheVariants.{Null, Boolean, Primitive, Utf8, LargeUtf8, Binary, LargeBinary, FixedSizeBinary, Nested}
+use Rattle.arrow_growable.specs.declared.growable.any.AnyGrowable.TheVariants.{Null, Boolean, Primitive, Utf8, LargeUtf8, Binary, LargeBinary, FixedSizeBinary, Nested, Dictionary}
 use Rattle.arrow_growable.specs.declared.growable.nested.GrowableNested.TheDeep.{deep-AnyGrowable}
 
 pub deep_le-depth : (g : AnyGrowable) → deep-AnyGrowable g ≤ type_depth ((grown_of g).arrow_type) + 1
@@ -21,6 +21,7 @@ deep_le-depth (Binary g) = omega arith
 deep_le-depth (LargeBinary g) = omega arith
 deep_le-depth (FixedSizeBinary g) = omega arith
 deep_le-depth (Nested g) = omega arith
+deep_le-depth (Dictionary g) = omega arith
 
 most_le : (xs : List AnyGrowable) → most deep-AnyGrowable xs ≤ deepest (map (λ g. g.arrow_type) (map grown_of xs))
 most_le [] = omega arith

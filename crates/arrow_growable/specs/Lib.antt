@@ -1,11 +1,14 @@
 pub mod AnyGrowable
 pub mod Bound
 pub mod Child
+pub mod Dictionary
 pub mod Falls
 pub mod Form
 pub mod FormLaws
 pub mod Growable
+pub mod Growing
 pub mod GrowableSpans
+pub mod Join
 pub mod Lies
 pub mod Lists
 pub mod Nested

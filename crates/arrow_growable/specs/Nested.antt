@@ -7,6 +7,7 @@ use Rattle.arrow_types.specs.ArrowType.{ArrowType}
 use Rattle.arrow_types.specs.Slot.{Slot}
 use Rattle.arrow_memory.specs.Offsets.{last_of}
 use Rattle.arrow_flat.specs.Faults.{IsCarriedAs}
+use Rattle.arrow_arrays.specs.Crowded.{Unjoined}
 use Rattle.arrow_arrays.specs.Layout.{Layout, type_of_layout}
 use Rattle.arrow_flat_growable.specs.Grown.{Grown, bound_to, first_type}
 use Rattle.arrow_growable.specs.Child.{IsWell}
@@ -38,6 +39,10 @@ AreWhole by_fields n columns = All (λ c. length c ≡ n * 1) columns
 abbrev pub fresh_children : List Layout → List Grown
 fresh_children layouts =
     map (λ f. bound_to (map (nth_child f) layouts)) (range_with_len 0 (length (child_types (first_type layouts))))
+
+-- dictionaries in some child of arrays can't be joined
+abbrev pub SomeUnjoined : List Layout → Type 0
+SomeUnjoined layouts = (f : ℕ) × Unjoined (map (nth_child f) layouts)
 
 -- the bits and children of a growable that has not failed, each of which has w rows a row: as many bits as it counts, and in each child what its rows hold of it
 pub record HoldsEven (form : Form) (w : ℕ) (children : List Grown) (bits : List Bool) (len : ℕ) (t : ArrowType) : Type 0 where

@@ -3,8 +3,10 @@
 mod any;
 mod bound;
 mod children;
+mod dictionary;
 mod finish;
 mod grown_spans;
+mod join;
 mod make;
 mod nested;
 mod spans;
@@ -13,10 +15,12 @@ mod typed;
 pub use any::{AnyGrowable, AnyGrowablePrimitive};
 pub use arrow_flat_growable::growable::{
     BoundNulls, FlatGrowable, Growable, GrowableBinary, GrowableBits, GrowableBoolean,
-    GrowableBytes, GrowableFixedRows, GrowableFixedSizeBinary, GrowableKind, GrowableNull,
-    GrowablePrimitive, GrowableUtf8, GrowableValidity, GrowableValues,
+    GrowableBytes, GrowableFixedRows, GrowableFixedSizeBinary, GrowableKeys, GrowableKind,
+    GrowableNull, GrowablePrimitive, GrowableUtf8, GrowableValidity, GrowableValues,
 };
 pub use bound::NestedArray;
+pub use dictionary::GrowableDictionary;
+pub use join::join;
 pub use make::{is_growable, make_growable};
 pub use nested::GrowableNested;
 pub use typed::{GrowableFixedSizeList, GrowableList, GrowableMap, GrowableOf, GrowableStruct};

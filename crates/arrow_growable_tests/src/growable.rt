@@ -1,6 +1,7 @@
 //! What is tested of arrays under construction, of any type and of each type by itself.
 
 mod any;
+mod dictionary;
 mod typed;
 
 #[test]
@@ -11,4 +12,5 @@ fn growables(rt: HostRuntime) {
     typed::check_null_arrays(&rt);
     typed::check_nested(&rt);
     typed::check_refused(&rt);
+    dictionary::check_keys(&rt);
 }

@@ -12,22 +12,8 @@ use Rattle.arrow_types.proofs.SelectLemmas.{joined-append}
 use Rattle.arrow_arrays.specs.Layout.{Layout, type_of_layout}
 use Rattle.arrow_flat_growable.specs.Grown.{AreOfOneType, first_type}
 
-pub slice_get-map_read : {A B : Type 0} (f : A → B) (xs : List A) (i : ℕ) (x : A) → i < length xs → x ≡ get_or xs i x → slice_get (map f xs) i ≡ Some (f x)
-slice_get-map_read f xs i x within read =
-    slice_get-map f xs i ∙ ap (option_map f) (slice_get_read xs (length xs) i x refl within read)
-
 pub Contains-read : {A : Type 0} (xs : List A) (i : ℕ) (x : A) → slice_get xs i ≡ Some x → i < length xs → Contains xs x
 Contains-read xs i x read within = (i, within, get_or_from_slice_get xs i x x read)
-
--- the rows of one more list
-pub joined_next : (xss : List (List Slot)) (i : ℕ) (xs : List Slot) → slice_get xss i ≡ Some xs → joined (take (i + 1) xss) ≡ joined (take i xss) ++ xs
-joined_next xss i xs read =
-    ap joined (take_at_read xss i xs read) ∙ (joined-append (take i xss) (xs ∷ []) ∙ ap (λ ys. joined (take i xss) ++ ys) (append-nil xs))
-
--- all rows, by a list of them
-pub joined_around : (xss : List (List Slot)) (i : ℕ) (xs : List Slot) → slice_get xss i ≡ Some xs → joined xss ≡ (joined (take i xss) ++ xs) ++ joined (drop (i + 1) xss)
-joined_around xss i xs read =
-    ap joined (sym (take-append-drop i xss)) ∙ (joined-append (take i xss) (drop i xss) ∙ (ap (λ yss. joined (take i xss) ++ joined yss) (drop_at_read xss i xs read) ∙ sym (append_assoc (joined (take i xss)) xs (joined (drop (i + 1) xss)))))
 
 -- what holds of the type of each holds of the first type
 pub first_has : {A : Type 0} (f : A → Layout) (P : ArrowType → Type 0) (arrays : List A) → 0 < length arrays → All (λ x. P (type_of_layout (f x))) arrays → P (first_type (map f arrays))

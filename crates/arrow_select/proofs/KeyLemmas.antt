@@ -1,26 +1,22 @@
--- Arrays that hold no dictionary: no row of theirs is crowded.
-use Rattle.std.proofs.Common.{arith, ◌≡◌, ◌+◌, ◌<◌, ◌⊎◌, ℕ, ℤ, inl, inr, suc, List, [], ◌∷◌, Option, Some, length, map, get_or, refl, ap, sym, subst, ◌∙◌, take, slice_index}
+-- Arrays that hold no dictionary: no row of theirs is crowded, and none are to be joined.
+use Rattle.std.proofs.Common.{arith, ◌≡◌, ◌+◌, ◌<◌, ◌⊎◌, ℕ, ℤ, inl, inr, suc, List, [], ◌∷◌, ◌++◌, Option, length, map, refl, ap, sym, subst, ◌∙◌, slice_index}
 use Rattle.std.specs.List.{All}
-use Rattle.std.proofs.Math.Nat.{eq-or-lt_of_le}
-use Rattle.std.proofs.lemmas.List.{get_or-map, get_or_default, length-map}
+use Rattle.std.proofs.lemmas.List.Elements.{All-cons}
 use Rattle.arrow_types.specs.declared.datatypes.physical_type.PhysicalType.{PhysicalType}
 use Rattle.arrow_types.specs.declared.datatypes.physical_type.PhysicalType.TheVariants as physical
-use Rattle.arrow_types.specs.ArrowType.{ArrowType, plain, null}
-use Rattle.arrow_types.specs.Physical.{physical_type_of}
-use Rattle.arrow_arrays.specs.Any.{Kind, kind_in, kind_of, layout_of, any_array_type, union_kind, dictionary_kind}
-use Rattle.arrow_arrays.specs.Crowded.{CrowdedRow, CrowdedPart, CrowdedVariant, child_at, child_of}
+use Rattle.arrow_types.specs.ArrowType.{ArrowType, ArrowFields, PlainType, plain, list, struct, union, dictionary, extension, field, no_fields, more_fields, from_fields, type_in, mapped, small, large, fixed_size, null}
+use Rattle.arrow_types.specs.Physical.{physical_type_of, plain_physical_type}
+use Rattle.arrow_arrays.specs.Any.{kind_in, kind_of, layout_of, any_array_type, dictionary_kind}
+use Rattle.arrow_arrays.specs.Crowded.{CrowdedAmong, CrowdedRow, CrowdedPart, CrowdedVariant, Unjoined, UnjoinedBy, UnjoinedPart, child_at, child_of}
 use Rattle.arrow_arrays.specs.Layout.{Layout, Layouts, flat, listed, fixed, fielded, sparse, dense, keyed, no_layouts, more_layouts, to_layouts, field_ids, type_of_layout}
 use Rattle.arrow_arrays.specs.TypeParts.{field_types, item_type}
-use Rattle.arrow_arrays.proofs.ShapeLemmas.{list_shape, shape_in, struct_shape}
+use Rattle.arrow_arrays.proofs.ShapeLemmas.{list_shape, plain_shape, shape_in}
+use Rattle.arrow_arrays.proofs.TypeLemmas.{types_of_layouts}
 use Rattle.arrow_arrays.specs.declared.array.any.AnyArray.{AnyArray}
 use Rattle.arrow_arrays.specs.declared.array.any.AnyArray.TheVariants.{Null, Boolean, Primitive, Utf8, LargeUtf8, Binary, LargeBinary, FixedSizeBinary, List as ListOf, FixedSizeList, Struct, Union, Map, Dictionary}
-use Rattle.arrow_flat_growable.specs.Grown.{AreCrowded, source_at}
-use Rattle.arrow_growable.specs.Form.{child_types}
-use Rattle.arrow_growable.specs.Growable.{IsGrowable}
-use Rattle.arrow_growable.proofs.ColumnLemmas.{list_child_types, struct_child_types}
-use Rattle.arrow_growable.proofs.GrowableLemmas.{MayGrow, child_grows, may_grow}
-use Rattle.arrow_select.specs.Arrays.{CanGrow}
-use Rattle.arrow_select.specs.Keys.{HasNoKeys, HaveNoKeys}
+use Rattle.arrow_flat_growable.specs.Grown.{AreOfOneType, first_type}
+use Rattle.arrow_growable.specs.Join.{CannotJoin, DoNotFit}
+use Rattle.arrow_select.specs.Keys.{HasNoDictionary, HasNoKeys, HaveNoDictionary, HaveNoKeys}
 
 mutual
   uncrowded : (before : List Layout) (l : Layout) (i : ℕ) → HasNoKeys l → CrowdedRow before l i → ⊥
@@ -42,59 +38,37 @@ mutual
   uncrowded_variant before ids (more_layouts l ls) f id j none (inl here) = uncrowded (map (child_at f) before) l j none.0 here.1
   uncrowded_variant before ids (more_layouts l ls) f id j none (inr rest) = uncrowded_variant before ids ls (suc f) id j none.1 rest
 
--- nor is any of those that are named
-pub none_crowded : (layouts : List Layout) (l : Layout) (i start len : ℕ) → source_at layouts i ≡ l → HasNoKeys l → AreCrowded (Some layouts) i start len → ⊥
-none_crowded layouts l i start len source none crowded =
-    let row = crowded.1 in
-    uncrowded (take i layouts) l row.0 none (subst (λ k. CrowdedRow (take i layouts) k row.0) source row.3)
+-- of several of these none is behind others, and their dictionaries can be joined, since there are none
+pub none_among : (before layouts : List Layout) → All HasNoKeys layouts → CrowdedAmong before layouts → ⊥
+none_among before [] none crowded = crowded
+none_among before (l ∷ ls) none (inl here) = uncrowded before l here.0 (none 0 l (omega arith)) here.2
+none_among before (l ∷ ls) none (inr rest) =
+    none_among (before ++ l ∷ []) ls (λ k d within. none (suc k) d (omega (arith, within))) rest
 
--- the kinds of arrays that can't grow
-abbrev IsOther : Kind → Type 0
-IsOther union_kind = Unit {0}
-IsOther dictionary_kind = Unit {0}
-IsOther _ = ⊥
+mutual
+  joined_by : (l : Layout) (all : List Layout) → HasNoKeys l → UnjoinedBy l all → ⊥
+  joined_by (flat t xs) all none unjoined = unjoined
+  joined_by (listed t v offsets c) all none unjoined = joined_by c (map child_of all) none unjoined
+  joined_by (fixed t v s c) all none unjoined = joined_by c (map child_of all) none unjoined
+  joined_by (fielded t v cs) all none unjoined = joined_part cs 0 all none unjoined
+  joined_by (sparse t ids start cs) all none unjoined = joined_part cs 0 all none unjoined
+  joined_by (dense t ids child_rows cs) all none unjoined = joined_part cs 0 all none unjoined
+  joined_by (keyed t keys c) all none unjoined = none
 
-grows_none : (p : PhysicalType) → MayGrow p → IsOther (kind_in p) → ⊥
-grows_none physical.Union may other = may
-grows_none (physical.Dictionary keys) may other = may
-grows_none _ may other = other
+  joined_part : (ls : Layouts) (f : ℕ) (all : List Layout) → HaveNoKeys ls → UnjoinedPart ls f all → ⊥
+  joined_part no_layouts f all none unjoined = unjoined
+  joined_part (more_layouts l ls) f all none (inl here) = joined_by l (map (child_at f) all) none.0 here
+  joined_part (more_layouts l ls) f all none (inr rest) = joined_part ls (suc f) all none.1 rest
 
-other_array : (array : AnyArray) → CanGrow array → kind_in (physical_type_of (any_array_type array)) ≡ kind_of array → IsOther (kind_of array) → ⊥
-other_array array grows kind other =
-    grows_none (physical_type_of (any_array_type array)) (may_grow (any_array_type array) grows) (subst IsOther (sym kind) other)
+none_unjoined : (layouts : List Layout) → All HasNoKeys layouts → Unjoined layouts → ⊥
+none_unjoined [] none unjoined = unjoined
+none_unjoined (l ∷ ls) none unjoined = joined_by l (l ∷ ls) (none 0 l (omega arith)) unjoined
 
--- an array without children, as each is that can grow but for lists of any form, maps and structs
-pub flat_has_none : (array : AnyArray) → CanGrow array → kind_in (physical_type_of (any_array_type array)) ≡ kind_of array → ((p : _) → array ≡ ListOf p → ⊥) → ((p : _) → array ≡ FixedSizeList p → ⊥) → ((p : _) → array ≡ Map p → ⊥) → ((p : _) → array ≡ Struct p → ⊥) → HasNoKeys (layout_of array)
-flat_has_none (Null p) grows kind no_list no_fixed no_map no_struct = tt
-flat_has_none (Boolean p) grows kind no_list no_fixed no_map no_struct = tt
-flat_has_none (Primitive p) grows kind no_list no_fixed no_map no_struct = tt
-flat_has_none (Utf8 p) grows kind no_list no_fixed no_map no_struct = tt
-flat_has_none (LargeUtf8 p) grows kind no_list no_fixed no_map no_struct = tt
-flat_has_none (Binary p) grows kind no_list no_fixed no_map no_struct = tt
-flat_has_none (LargeBinary p) grows kind no_list no_fixed no_map no_struct = tt
-flat_has_none (FixedSizeBinary p) grows kind no_list no_fixed no_map no_struct = tt
-flat_has_none (ListOf p) grows kind no_list no_fixed no_map no_struct = absurd (no_list p refl)
-flat_has_none (FixedSizeList p) grows kind no_list no_fixed no_map no_struct = absurd (no_fixed p refl)
-flat_has_none (Struct p) grows kind no_list no_fixed no_map no_struct = absurd (no_struct p refl)
-flat_has_none (Union p) grows kind no_list no_fixed no_map no_struct = absurd (other_array (Union p) grows kind tt)
-flat_has_none (Map p) grows kind no_list no_fixed no_map no_struct = absurd (no_map p refl)
-flat_has_none (Dictionary p) grows kind no_list no_fixed no_map no_struct = absurd (other_array (Dictionary p) grows kind tt)
-
--- items of lists whose type can grow can
-pub items_grow : (t : ArrowType) → IsGrowable t → shape_in t ≡ list_shape → IsGrowable (item_type t)
-items_grow t grows shape =
-    let one = list_child_types t shape in
-    subst (λ ts. IsGrowable (get_or ts 0 (plain null))) one (child_grows t 0 grows (omega (arith, ap length one)))
-
--- and so can the children of structs
-pub children_grow : (t : ArrowType) (arrays : List AnyArray) (children : List Layout) → IsGrowable t → shape_in t ≡ struct_shape → map layout_of arrays ≡ children → map type_of_layout children ≡ field_types t → All CanGrow arrays
-children_grow t arrays children grows shape same fields =
-    λ k d within.
-    let types : map type_of_layout (map layout_of arrays) ≡ child_types t = ap (map type_of_layout) same ∙ (fields ∙ sym (struct_child_types t shape)) in
-    let there : k < length (map layout_of arrays) = omega (arith, within, length-map arrays layout_of) in
-    let among : k < length (child_types t) = omega (arith, there, ap length types, length-map (map layout_of arrays) type_of_layout) in
-    let read : get_or (child_types t) k (plain null) ≡ any_array_type (get_or arrays k d) = ap (λ ts. get_or ts k (plain null)) (sym types) ∙ (get_or-map type_of_layout (map layout_of arrays) k (layout_of d) (plain null) there ∙ ap type_of_layout (get_or-map layout_of arrays k d (layout_of d) within)) in
-    subst IsGrowable read (child_grows t k grows among)
+-- so they can't stand one behind the other only where the rows do not fit
+pub only_rows : (layouts : List Layout) → All HasNoKeys layouts → CannotJoin layouts → DoNotFit layouts
+only_rows layouts none (inl over) = over
+only_rows layouts none (inr (inl crowded)) = absurd (none_among [] layouts none crowded)
+only_rows layouts none (inr (inr unjoined)) = absurd (none_unjoined layouts none unjoined)
 
 -- each of several layouts holds none
 pub all_have_none : (ls : List Layout) → All HasNoKeys ls → HaveNoKeys (to_layouts ls)
@@ -102,12 +76,91 @@ all_have_none [] all = tt
 all_have_none (l ∷ ls) all =
     (all 0 l (omega arith), all_have_none ls (λ k d within. all (suc k) d (omega (arith, within))))
 
-has_none_at : (arrays : List AnyArray) (i : ℕ) (x : AnyArray) → i < length arrays → x ≡ get_or arrays i x → HasNoKeys (layout_of x) → ((k : ℕ) (d : AnyArray) → k < i → HasNoKeys (layout_of (get_or arrays k d))) → (k : ℕ) (d : AnyArray) → (k ≡ i) ⊎ (k < i) → HasNoKeys (layout_of (get_or arrays k d))
-has_none_at arrays i x within read none before k d (inl same) =
-    subst (λ y. HasNoKeys (layout_of y)) (read ∙ (get_or_default arrays i x d within ∙ ap (λ j. get_or arrays j d) (sym same))) none
-has_none_at arrays i x within read none before k d (inr less) = before k d less
+-- types that hold none
 
--- one array more
-pub next_has_none : (arrays : List AnyArray) (i : ℕ) (x : AnyArray) → i < length arrays → x ≡ get_or arrays i x → HasNoKeys (layout_of x) → ((k : ℕ) (d : AnyArray) → k < i → HasNoKeys (layout_of (get_or arrays k d))) → (k : ℕ) (d : AnyArray) → k < i + 1 → HasNoKeys (layout_of (get_or arrays k d))
-next_has_none arrays i x within read none before k d less =
-    has_none_at arrays i x within read none before k d (eq-or-lt_of_le (omega (arith, less)))
+-- the physical types that are no dictionaries
+abbrev NoDictionary : PhysicalType → Type 0
+NoDictionary (physical.Dictionary keys) = ⊥
+NoDictionary _ = Unit {0}
+
+plain_is_none : (p : PlainType) → NoDictionary (plain_physical_type p)
+plain_is_none null = tt
+plain_is_none _ = tt
+
+is_none : (t : ArrowType) → HasNoDictionary t → NoDictionary (physical_type_of t)
+is_none (plain p) none = plain_is_none p
+is_none (list small f) none = tt
+is_none (list large f) none = tt
+is_none (list (fixed_size s) f) none = tt
+is_none (list (mapped sorted) f) none = tt
+is_none (struct fs) none = tt
+is_none (union mode ids fs) none = tt
+is_none (dictionary keys ordered t) none = none
+is_none (extension name metadata t) none = is_none t none
+
+other_kind : (p : PhysicalType) → NoDictionary p → kind_in p ≡ dictionary_kind → ⊥
+other_kind (physical.Dictionary keys) none is = none
+other_kind _ none is = cc
+
+-- an array without children, as each is but for lists of any form, maps, structs, unions and dictionaries
+pub flat_has_none : (array : AnyArray) → HasNoDictionary (any_array_type array) → kind_in (physical_type_of (any_array_type array)) ≡ kind_of array → ((p : _) → array ≡ ListOf p → ⊥) → ((p : _) → array ≡ FixedSizeList p → ⊥) → ((p : _) → array ≡ Map p → ⊥) → ((p : _) → array ≡ Struct p → ⊥) → ((p : _) → array ≡ Union p → ⊥) → HasNoKeys (layout_of array)
+flat_has_none (Null p) none kind no_list no_fixed no_map no_struct no_union = tt
+flat_has_none (Boolean p) none kind no_list no_fixed no_map no_struct no_union = tt
+flat_has_none (Primitive p) none kind no_list no_fixed no_map no_struct no_union = tt
+flat_has_none (Utf8 p) none kind no_list no_fixed no_map no_struct no_union = tt
+flat_has_none (LargeUtf8 p) none kind no_list no_fixed no_map no_struct no_union = tt
+flat_has_none (Binary p) none kind no_list no_fixed no_map no_struct no_union = tt
+flat_has_none (LargeBinary p) none kind no_list no_fixed no_map no_struct no_union = tt
+flat_has_none (FixedSizeBinary p) none kind no_list no_fixed no_map no_struct no_union = tt
+flat_has_none (ListOf p) none kind no_list no_fixed no_map no_struct no_union = absurd (no_list p refl)
+flat_has_none (FixedSizeList p) none kind no_list no_fixed no_map no_struct no_union = absurd (no_fixed p refl)
+flat_has_none (Struct p) none kind no_list no_fixed no_map no_struct no_union = absurd (no_struct p refl)
+flat_has_none (Union p) none kind no_list no_fixed no_map no_struct no_union = absurd (no_union p refl)
+flat_has_none (Map p) none kind no_list no_fixed no_map no_struct no_union = absurd (no_map p refl)
+flat_has_none (Dictionary p) none kind no_list no_fixed no_map no_struct no_union =
+    absurd (other_kind (physical_type_of (any_array_type (Dictionary p))) (is_none (any_array_type (Dictionary p)) none) kind)
+
+-- the items of a list whose type holds none hold none
+pub items_have_none : (t : ArrowType) → HasNoDictionary t → shape_in t ≡ list_shape → HasNoDictionary (item_type t)
+items_have_none (plain p) none shape = cc (plain_shape p)
+items_have_none (list form (field name t nullable)) none shape = none
+items_have_none (struct fs) none shape = cc
+items_have_none (union mode ids fs) none shape = cc
+items_have_none (dictionary keys ordered t) none shape = cc
+items_have_none (extension name metadata t) none shape = items_have_none t none shape
+
+each_has_none : (fs : ArrowFields) → HaveNoDictionary fs → All HasNoDictionary (map type_in (from_fields fs))
+each_has_none no_fields none = λ k d within. absurd (omega (arith, within))
+each_has_none (more_fields (field name t nullable) fs) none =
+    All-cons HasNoDictionary t (map type_in (from_fields fs)) none.0 (each_has_none fs none.1)
+
+-- and so do the fields of a struct or a union
+pub fields_have_none : (t : ArrowType) → HasNoDictionary t → All HasNoDictionary (field_types t)
+fields_have_none (plain p) none = λ k d within. absurd (omega (arith, within))
+fields_have_none (list form f) none = λ k d within. absurd (omega (arith, within))
+fields_have_none (struct fs) none = each_has_none fs none
+fields_have_none (union mode ids fs) none = each_has_none fs none
+fields_have_none (dictionary keys ordered t) none = λ k d within. absurd (omega (arith, within))
+fields_have_none (extension name metadata t) none = fields_have_none t none
+
+children_by : (arrays : List AnyArray) → All HasNoDictionary (map any_array_type arrays) → All (λ child. HasNoDictionary (any_array_type child) → HasNoKeys (layout_of child)) arrays → All HasNoKeys (map layout_of arrays)
+children_by [] none each = λ k d within. absurd (omega (arith, within))
+children_by (x ∷ arrays) none each =
+    All-cons HasNoKeys (layout_of x) (map layout_of arrays) (each 0 x (omega arith) (none 0 (plain null) (omega arith))) (children_by arrays (λ k d within. none (suc k) d (omega (arith, within))) (λ k d within. each (suc k) d (omega (arith, within))))
+
+-- children of such fields, each of which holds none if its type does
+pub children_have_none : (t : ArrowType) (arrays : List AnyArray) (children : List Layout) → HasNoDictionary t → map layout_of arrays ≡ children → map type_of_layout children ≡ field_types t → All (λ child. HasNoDictionary (any_array_type child) → HasNoKeys (layout_of child)) arrays → HaveNoKeys (to_layouts children)
+children_have_none t arrays children none same fields each =
+    let types : map any_array_type arrays ≡ field_types t = sym (types_of_layouts arrays) ∙ (ap (map type_of_layout) same ∙ fields) in
+    all_have_none children (subst (All HasNoKeys) same (children_by arrays (subst (All HasNoDictionary) (sym types) (fields_have_none t none)) each))
+
+all_of_type : {A : Type 0} (f : A → AnyArray) (t : ArrowType) (arrays : List A) → HasNoDictionary t → All (λ x. HasNoDictionary (any_array_type (f x)) → HasNoKeys (layout_of (f x))) arrays → All (λ l. type_of_layout l ≡ t) (map (λ x. layout_of (f x)) arrays) → All HasNoKeys (map (λ x. layout_of (f x)) arrays)
+all_of_type f t [] none each types = λ k d within. absurd (omega (arith, within))
+all_of_type f t (x ∷ arrays) none each types =
+    let here = subst HasNoDictionary (sym (types 0 (layout_of (f x)) (omega arith))) none in
+    All-cons HasNoKeys (layout_of (f x)) (map (λ y. layout_of (f y)) arrays) (each 0 x (omega arith) here) (all_of_type f t arrays none (λ k d within. each (suc k) d (omega (arith, within))) (λ k d within. types (suc k) d (omega (arith, within))))
+
+-- arrays of one type that hold none, if their type does, can't stand one behind the other only where the rows do not fit
+pub rows_alone : {A : Type 0} (f : A → AnyArray) (arrays : List A) → All (λ x. HasNoDictionary (any_array_type (f x)) → HasNoKeys (layout_of (f x))) arrays → AreOfOneType (map (λ x. layout_of (f x)) arrays) → CannotJoin (map (λ x. layout_of (f x)) arrays) → HasNoDictionary (first_type (map (λ x. layout_of (f x)) arrays)) → DoNotFit (map (λ x. layout_of (f x)) arrays)
+rows_alone f arrays each types refused none =
+    only_rows (map (λ x. layout_of (f x)) arrays) (all_of_type f _ arrays none each types) refused

@@ -1,4 +1,4 @@
--- A growable that a kernel fills.
+-- Rows that a kernel appends.
 use Rattle.std.specs.Prelude.{◌≡◌, ◌-◌, ℕ, List, ◌++◌, length, replicate}
 use Rattle.arrow_types.specs.ArrowType.{ArrowType}
 use Rattle.arrow_types.specs.Fits.{Fits}
@@ -6,10 +6,6 @@ use Rattle.arrow_types.specs.Slot.{Slot, null_slot}
 use Rattle.arrow_memory.specs.Sliced.{sliced}
 use Rattle.arrow_arrays.specs.Layout.{Layout}
 use Rattle.arrow_flat_growable.specs.Grown.{Grown, appended, bound_to, first_type}
-
--- over these arrays, it has not failed, and holds these rows, which fit their type
-abbrev pub HasAppended : List Layout → Grown → List Slot → Type 0
-HasAppended layouts g xs = (g ≡ appended (bound_to layouts) xs) × Fits (first_type layouts) xs
 
 -- null slots in front of rows and behind them, so that there are as many as xs has
 abbrev pub between : List Slot → ℕ → ℕ → ArrowType → List Slot

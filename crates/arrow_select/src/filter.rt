@@ -8,7 +8,7 @@ ghost use Rattle.arrow_arrays.specs.Any.{any_array_type, any_array_rows, layout_
 ghost use Rattle.arrow_flat_growable.specs.Grown.{bound_to};
 ghost use Rattle.arrow_flat.specs.Parts.{boolean_rows};
 ghost use Rattle.arrow_select.specs.Arrays.{CanGrow};
-ghost use Rattle.arrow_select.specs.Growing.{HasAppended};
+ghost use Rattle.arrow_growable.specs.Growing.{HasAppended};
 ghost use Rattle.arrow_memory.specs.Grown.{IsGrowthError};
 
 use arrow_arrays::array::AnyArray;

@@ -1,18 +1,25 @@
 //! Arrays that hold no dictionary.
 
 ghost use Rattle.std.specs.Prelude.{map, All};
-ghost use Rattle.arrow_arrays.specs.Any.{layout_of};
-ghost use Rattle.arrow_select.specs.Arrays.{CanGrow};
-ghost use Rattle.arrow_select.specs.Keys.{HasNoKeys};
+ghost use Rattle.arrow_arrays.specs.Any.{any_array_type, layout_of};
+ghost use Rattle.arrow_select.specs.Keys.{HasNoDictionary, HasNoKeys};
 
 use arrow_arrays::array::AnyArray;
 
-/// Shows that an array whose type can grow holds no dictionary, by a walk down to the arrays without
+/// Shows that each of several arrays holds no dictionary, if its type holds none.
+pub(crate) fn show_all_no_keys(arrays: &[&AnyArray])
+    ensures { All (λ array. HasNoDictionary (any_array_type array.now) → HasNoKeys (layout_of array.now)) arrays.now }
+{
+    for array in arrays {
+        show_no_keys(array);
+    }
+}
+
+/// Shows that an array holds no dictionary, if its type holds none, by a walk down to the arrays without
 /// children: what kind of array each child is follows from its data type.
 #[cycle(keys)]
-pub(crate) fn show_no_keys(array: &AnyArray)
-    requires { CanGrow array.now }
-    ensures { HasNoKeys (layout_of array.now) }
+fn show_no_keys(array: &AnyArray)
+    ensures { HasNoDictionary (any_array_type array.now) → HasNoKeys (layout_of array.now) }
 {
     // The kind of the array follows from its data type.
     let _ = array.data_type();
@@ -35,19 +42,23 @@ pub(crate) fn show_no_keys(array: &AnyArray)
         AnyArray::Struct(structs) => {
             // The data type is that of structs.
             let _ = structs.data_type();
-            show_all_no_keys(structs.values());
+            show_no_keys_in(structs.values());
+        }
+        AnyArray::Union(unions) => {
+            // The data type is that of unions.
+            let _ = unions.data_type();
+            show_no_keys_in(unions.fields());
         }
         _ => {}
     }
 }
 
-/// Shows the same of several arrays.
+/// Shows the same of the children of an array.
 #[cycle(keys)]
-fn show_all_no_keys(arrays: &[AnyArray])
-    requires { All (λ array. CanGrow array) arrays.now }
-    ensures { All HasNoKeys (map layout_of arrays.now) }
+fn show_no_keys_in(children: &[AnyArray])
+    ensures { All (λ child. HasNoDictionary (any_array_type child) → HasNoKeys (layout_of child)) children.now }
 {
-    for array in arrays {
-        show_no_keys(array);
+    for child in children {
+        show_no_keys(child);
     }
 }

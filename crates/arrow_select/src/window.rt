@@ -8,7 +8,8 @@ ghost use Rattle.arrow_types.specs.Rows.{shifted};
 ghost use Rattle.arrow_arrays.specs.Any.{any_array_type, any_array_rows, layout_of};
 ghost use Rattle.arrow_flat_growable.specs.Grown.{bound_to};
 ghost use Rattle.arrow_select.specs.Arrays.{CanGrow};
-ghost use Rattle.arrow_select.specs.Growing.{HasAppended, between};
+ghost use Rattle.arrow_growable.specs.Growing.{HasAppended};
+ghost use Rattle.arrow_select.specs.Growing.{between};
 ghost use Rattle.arrow_memory.specs.Grown.{IsGrowthError};
 ghost use Rattle.arrow_select.specs.Refusals.{IsShiftRefusal, PassesLength};
 

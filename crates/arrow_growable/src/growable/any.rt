@@ -3,8 +3,8 @@
 ghost use Rattle.arrow_growable.specs.AnyGrowable.{grown_of, primitive_grown_of};
 
 use crate::growable::{
-    BoundNulls, Growable, GrowableBinary, GrowableBoolean, GrowableFixedSizeBinary, GrowableNested,
-    GrowablePrimitive, GrowableUtf8,
+    BoundNulls, Growable, GrowableBinary, GrowableBoolean, GrowableDictionary,
+    GrowableFixedSizeBinary, GrowableNested, GrowablePrimitive, GrowableUtf8,
 };
 use arrow_arrays::array::AnyArray;
 use arrow_types::error::Error;
@@ -38,6 +38,7 @@ pub enum AnyGrowable<'a> {
     LargeBinary(GrowableBinary<'a, i64>),
     FixedSizeBinary(GrowableFixedSizeBinary<'a>),
     Nested(GrowableNested<'a>),
+    Dictionary(GrowableDictionary<'a>),
 }
 
 /// What an expression says of the growable, whatever its element type.
@@ -73,6 +74,7 @@ macro_rules! of_any {
             AnyGrowable::LargeBinary($growable) => $result,
             AnyGrowable::FixedSizeBinary($growable) => $result,
             AnyGrowable::Nested($growable) => $result,
+            AnyGrowable::Dictionary($growable) => $result,
         }
     };
 }

@@ -1,10 +1,12 @@
 //! Growables over arrays of any type.
 
-ghost use Rattle.std.specs.Prelude.{◌≡◌, ◌<◌, ◌↔◌, length, map, IfOk, IsOkUnless, IsTrue};
+ghost use Rattle.std.specs.Prelude.{◌≡◌, ◌<◌, ◌↔◌, Err, length, map, IfErr, IfOk, IsOkUnless, IsTrue};
 ghost use Rattle.arrow_types.specs.declared.error.Error.{Error};
 ghost use Rattle.arrow_types.specs.declared.datatypes.physical_type.PhysicalType.TheVariants as physical;
 ghost use Rattle.arrow_types.specs.Physical.{physical_type_of};
 ghost use Rattle.arrow_types.specs.TypeOf.{fields_of, type_of};
+ghost use Rattle.arrow_memory.specs.Grown.{IsGrowthError};
+ghost use Rattle.arrow_arrays.specs.Crowded.{Unjoined};
 ghost use Rattle.arrow_arrays.specs.Any.{kind_in, kind_of, layout_of, null_kind};
 ghost use Rattle.arrow_growable.specs.AnyGrowable.{grown_of, primitive_grown_of};
 ghost use Rattle.arrow_growable.specs.Growable.{AreGrowable, IsGrowable};
@@ -12,8 +14,10 @@ ghost use Rattle.arrow_flat_growable.specs.Grown.{AreOfOneType, bound_to, first_
 ghost use Rattle.arrow_flat_growable.specs.Nulls.{null_layout};
 
 use crate::growable::bound::BoundNested;
+use crate::growable::dictionary;
 use crate::growable::{
-    AnyGrowable, AnyGrowablePrimitive, BoundNulls, FlatGrowable, GrowableNested, GrowableValues,
+    AnyGrowable, AnyGrowablePrimitive, BoundNulls, FlatGrowable, GrowableDictionary, GrowableNested,
+    GrowableValues,
 };
 use arrow_arrays::array::AnyArray;
 use arrow_flat::array::NullArray;
@@ -30,7 +34,8 @@ use std::alloc::Global;
 /// There is an array at least, and all are of one data type, whose arrays can grow ([`is_growable`]).
 ///
 /// # Errors
-/// `OutOfMemory` where memory is refused, as for a capacity that is too great.
+/// `Overflow` only where dictionaries in the arrays can't be joined, and never of one array alone; `OutOfMemory`
+/// where memory is refused, as for a capacity that is too great.
 ///
 /// Source: arrow2's `make_growable`.
 #[cycle(make)]
@@ -44,7 +49,9 @@ pub fn make_growable<'a>(
     requires one_type { AreOfOneType (map (λ a. layout_of a.now) arrays.now) }
     requires growable { IsGrowable (first_type (map (λ a. layout_of a.now) arrays.now)) }
     ensures ok { IfOk result (λ growable. grown_of growable ≡ bound_to (map (λ a. layout_of a.now) arrays.now)) }
-    ensures err { IsOkUnless result Error.OutOfMemory }
+    ensures overflow { result ≡ Err Error.Overflow → Unjoined (map (λ a. layout_of a.now) arrays.now) }
+    ensures alone { length arrays.now ≡ 1 → IsOkUnless result Error.OutOfMemory }
+    ensures others { IfErr result IsGrowthError }
 {
     let first: &'a AnyArray = arrays[0];
     match first.data_type().to_physical_type() {
@@ -69,6 +76,11 @@ pub fn make_growable<'a>(
         PhysicalType::FixedSizeBinary => {
             Ok(AnyGrowable::FixedSizeBinary(bound(alloc, arrays, use_validity, capacity)?))
         }
+        PhysicalType::Dictionary(_) => {
+            let bound = dictionary::bind(alloc, arrays)?;
+            let growable = GrowableDictionary::new(alloc, &bound, use_validity, capacity)?;
+            Ok(AnyGrowable::Dictionary(growable))
+        }
         _ => {
             let nested = BoundNested::of_any(alloc, arrays)?;
             Ok(AnyGrowable::Nested(GrowableNested::new(alloc, nested, use_validity, capacity)?))
@@ -77,7 +89,7 @@ pub fn make_growable<'a>(
 }
 
 /// Whether arrays of a data type can grow, as [`make_growable`] asks: a type without children, or lists of any form,
-/// maps or structs, at any depth, of such types.
+/// maps, structs or dictionaries, at any depth, of such types.
 #[cycle(is_growable)]
 pub fn is_growable(data_type: &DataType) -> bool
     ensures { IsTrue result ↔ IsGrowable (type_of data_type.now) }
@@ -88,7 +100,8 @@ pub fn is_growable(data_type: &DataType) -> bool
         DataType::Map(field, _sorted) => is_growable(field.data_type()),
         DataType::Struct(fields) => are_growable(fields),
         DataType::Extension(_, inner, _) => is_growable(inner),
-        DataType::Union(_, _, _) | DataType::Dictionary(_, _, _) => false,
+        DataType::Dictionary(_, values, _) => is_growable(values),
+        DataType::Union(_, _, _) => false,
         _ => true,
     }
 }

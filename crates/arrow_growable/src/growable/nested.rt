@@ -1,14 +1,16 @@
 //! Arrays with children under construction.
 
-ghost use Rattle.std.specs.Prelude.{◌≡◌, ◌<◌, Some, length, map, IfOk, IsOkUnless};
+ghost use Rattle.std.specs.Prelude.{◌≡◌, ◌<◌, Err, Some, length, map, IfErr, IfOk, IsOkUnless};
 ghost use Rattle.arrow_types.specs.declared.error.Error.{Error};
+ghost use Rattle.arrow_memory.specs.Grown.{IsGrowthError};
+ghost use Rattle.arrow_arrays.specs.Crowded.{Unjoined};
 ghost use Rattle.arrow_flat_growable.specs.Grown.{AreOfOneType, bound_to, first_type};
 ghost use Rattle.arrow_growable.specs.AnyGrowable.{grown_of};
 ghost use Rattle.arrow_growable.specs.Bound.{bound_layouts};
 ghost use Rattle.arrow_growable.specs.Form.{child_types};
 ghost use Rattle.arrow_growable.specs.Growable.{IsGrowable};
 ghost use Rattle.arrow_growable.specs.GrowableSpans.{IsFresh};
-ghost use Rattle.arrow_growable.specs.Nested.{fresh_children};
+ghost use Rattle.arrow_growable.specs.Nested.{SomeUnjoined, fresh_children};
 
 use crate::growable::any::AnyGrowable;
 use crate::growable::bound::BoundNested;
@@ -93,6 +95,7 @@ impl<'a> GrowableNested<'a> {
     /// ([`crate::growable::is_growable`]).
     ///
     /// # Errors
+    /// `Overflow` only where dictionaries in the arrays can't be joined, and never of one array alone;
     /// `OutOfMemory` where memory is refused, as for a capacity that is too great.
     #[cycle(make)]
     pub(crate) fn new(
@@ -105,7 +108,9 @@ impl<'a> GrowableNested<'a> {
         requires one_type { AreOfOneType (bound_layouts arrays) }
         requires growable { IsGrowable (first_type (bound_layouts arrays)) }
         ensures ok { IfOk result (λ growable. growable ≡ bound_to (bound_layouts arrays.entry)) }
-        ensures err { IsOkUnless result Error.OutOfMemory }
+        ensures overflow { result ≡ Err Error.Overflow → Unjoined (bound_layouts arrays.entry) }
+        ensures alone { length (bound_layouts arrays.entry) ≡ 1 → IsOkUnless result Error.OutOfMemory }
+        ensures others { IfErr result IsGrowthError }
     {
         let spans = arrays.grown_spans(alloc, capacity)?;
         let room = capacity.saturating_mul(spans.null_slots());
@@ -152,7 +157,8 @@ impl<'a> GrowableNested<'a> {
 /// Growables without rows over each child of arrays, with room for so many rows.
 ///
 /// # Errors
-/// `OutOfMemory` where memory is refused, as for a capacity that is too great.
+/// `Overflow` only where dictionaries in a child can't be joined, and never of one array alone; `OutOfMemory` where
+/// memory is refused, as for a capacity that is too great.
 #[cycle(make)]
 fn make_children<'a>(
     alloc: Global,
@@ -165,7 +171,9 @@ fn make_children<'a>(
     requires growable { IsGrowable (first_type (bound_layouts arrays.now)) }
     ensures ok { IfOk result (λ children. map grown_of children.items ≡ fresh_children (bound_layouts arrays.now)) }
     ensures types { IfOk result (λ children. map (λ g. g.arrow_type) (map grown_of children.items) ≡ child_types (first_type (bound_layouts arrays.now))) }
-    ensures err { IsOkUnless result Error.OutOfMemory }
+    ensures overflow { result ≡ Err Error.Overflow → SomeUnjoined (bound_layouts arrays.now) }
+    ensures alone { length (bound_layouts arrays.now) ≡ 1 → IsOkUnless result Error.OutOfMemory }
+    ensures others { IfErr result IsGrowthError }
 {
     let width = arrays.width();
     let mut children: Vec<AnyGrowable<'a>> = Vec::with_capacity(alloc, width)?;

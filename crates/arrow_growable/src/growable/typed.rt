@@ -2,6 +2,8 @@
 
 ghost use Rattle.std.specs.Prelude.{◌≡◌, ◌<◌, ◌↔◌, true, Err, length, map, IfOk, IfErr, IsOkUnless};
 ghost use Rattle.arrow_types.specs.declared.error.Error.{Error};
+ghost use Rattle.arrow_memory.specs.Grown.{IsGrowthError};
+ghost use Rattle.arrow_arrays.specs.Crowded.{Unjoined};
 ghost use Rattle.arrow_arrays.specs.Layout.{rows, type_of_layout};
 ghost use Rattle.arrow_flat_growable.specs.Grown.{AreOfOneType, IsFailedOrMemory, bound_to, first_type};
 ghost use Rattle.arrow_growable.specs.Growable.{IsGrowable};
@@ -58,6 +60,7 @@ impl<'a, A: NestedArray> GrowableOf<'a, A> {
     /// ([`crate::growable::is_growable`]).
     ///
     /// # Errors
+    /// `Overflow` only where dictionaries in the arrays can't be joined, and never of one array alone;
     /// `OutOfMemory` where memory is refused, as for a capacity that is too great.
     ///
     /// Source: arrow2's `GrowableList::new` and its kin.
@@ -71,7 +74,9 @@ impl<'a, A: NestedArray> GrowableOf<'a, A> {
         requires one_type { AreOfOneType (map (λ r. A.layout_in r.now) arrays.items) }
         requires growable { IsGrowable (first_type (map (λ r. A.layout_in r.now) arrays.items)) }
         ensures ok { IfOk result (λ growable. growable ≡ bound_to (map (λ r. A.layout_in r.now) arrays.entry.items)) }
-        ensures err { IsOkUnless result Error.OutOfMemory }
+        ensures overflow { result ≡ Err Error.Overflow → Unjoined (map (λ r. A.layout_in r.now) arrays.entry.items) }
+        ensures alone { length arrays.entry.items ≡ 1 → IsOkUnless result Error.OutOfMemory }
+        ensures others { IfErr result IsGrowthError }
     {
         // The kind of arrays follows from their data type.
         let first: &'a A = arrays[0];

@@ -8,7 +8,7 @@ ghost use Rattle.arrow_arrays.specs.Layout.{rows};
 ghost use Rattle.arrow_arrays.specs.StructParts.{struct_layout};
 
 use crate::lent::{check_same, from_row};
-use arrow_arrays::array::{AnyArray, AnyOffset, StructArray};
+use arrow_arrays::array::{AnyArray, AnyOffset, DictionaryArray, StructArray};
 use arrow_arrays_fixture::arrays::{
     ListKind, NESTED, Shape, array_of, boxed, lists_of, make_structs, nulls,
 };
@@ -16,8 +16,9 @@ use arrow_flat::array::{
     AnyElement, AnyPrimitive, ByteKind, ByteRows, FlatArray, NullArray, PrimitiveArray,
 };
 use arrow_growable::growable::{
-    FlatGrowable, Growable, GrowableBits, GrowableBytes, GrowableFixedRows, GrowableKind,
-    GrowableNull, GrowableOf, GrowableStruct, GrowableValues, NestedArray, is_growable,
+    FlatGrowable, Growable, GrowableBits, GrowableBytes, GrowableDictionary, GrowableFixedRows,
+    GrowableKind, GrowableNull, GrowableOf, GrowableStruct, GrowableValues, NestedArray,
+    is_growable,
 };
 use arrow_types::datatypes::DataType;
 use arrow_types::error::Error;
@@ -224,6 +225,18 @@ fn grow_twice<A: NestedArray>(
     growable.into_array()
 }
 
+/// The same of dictionaries.
+fn grow_keys_twice(
+    rt: &(impl Abort + Alloc<A = Global>),
+    array: &DictionaryArray,
+) -> Result<DictionaryArray, Error> {
+    assert!(rt; is_growable(array.data_type()));
+    let mut growable = GrowableDictionary::new(rt.alloc(), &[array], false, 0)?;
+    growable.extend(0, 0, array.len())?;
+    growable.extend(0, 0, array.len())?;
+    growable.into_array()
+}
+
 /// The same of an array of any type.
 fn grow_nested(rt: &(impl Abort + Alloc<A = Global>), array: &AnyArray) -> Result<AnyArray, Error> {
     match array {
@@ -233,6 +246,7 @@ fn grow_nested(rt: &(impl Abort + Alloc<A = Global>), array: &AnyArray) -> Resul
         }
         AnyArray::Map(array) => Ok(AnyArray::Map(grow_twice(rt, array, array.len())?)),
         AnyArray::Struct(array) => Ok(AnyArray::Struct(grow_twice(rt, array, array.len())?)),
+        AnyArray::Dictionary(array) => Ok(AnyArray::Dictionary(grow_keys_twice(rt, array)?)),
         _ => Err(Error::Failed),
     }
 }

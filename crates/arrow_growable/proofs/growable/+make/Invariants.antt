@@ -1,6 +1,7 @@
 use Rattle.std.proofs.Common.{◌≡◌, ◌+◌, ◌*◌, map, take}
 use Rattle.std.specs.List.{range_with_len}
-use Rattle.arrow_arrays.specs.Any.{layout_of}
+use Rattle.arrow_arrays.specs.Any.{layout_of, layouts_in}
+use Rattle.arrow_arrays.specs.KeyedParts.{keyed_layout}
 use Rattle.arrow_arrays.specs.TypeDepth.{type_depth}
 use Rattle.arrow_flat_growable.specs.Grown.{bound_to, first_type}
 use Rattle.arrow_growable.specs.AnyGrowable.{grown_of}
@@ -12,13 +13,23 @@ use Rattle.arrow_growable.proofs.growable.+make.Given as goal
 -- each call goes to arrays of a less deep type, or comes nearer to their children
 
 abbrev pub decreases-make::make_growable : goal.decreases-make::make_growable
-decreases-make::make_growable l = 3 * type_depth (first_type (map (λ a. layout_of a.now) l.arrays.now)) + 2
+decreases-make::make_growable l = 4 * type_depth (first_type (map (λ a. layout_of a.now) l.arrays.now)) + 2
 
 abbrev pub decreases-nested::GrowableNested::new : goal.decreases-nested::GrowableNested::new
-decreases-nested::GrowableNested::new l = 3 * type_depth (first_type (bound_layouts l.arrays)) + 1
+decreases-nested::GrowableNested::new l = 4 * type_depth (first_type (bound_layouts l.arrays)) + 1
 
 abbrev pub decreases-nested::make_children : goal.decreases-nested::make_children
-decreases-nested::make_children l = 3 * type_depth (first_type (bound_layouts l.arrays.now))
+decreases-nested::make_children l = 4 * type_depth (first_type (bound_layouts l.arrays.now))
+
+abbrev pub decreases-dictionary::GrowableDictionary::new : goal.decreases-dictionary::GrowableDictionary::new
+decreases-dictionary::GrowableDictionary::new l =
+    4 * type_depth (first_type (map (λ r. keyed_layout r.now) l.arrays.now)) + 1
+
+abbrev pub decreases-dictionary::join_values : goal.decreases-dictionary::join_values
+decreases-dictionary::join_values l = 4 * type_depth (first_type (map (λ r. keyed_layout r.now) l.arrays.now))
+
+abbrev pub decreases-join::join : goal.decreases-join::join
+decreases-join::join l = 4 * type_depth (first_type (layouts_in l.arrays.now)) + 3
 
 -- the children so far are bound to those of the arrays, and have their types
 abbrev pub invariant-nested::make_children-loop-f : goal.invariant-nested::make_children-loop-f

@@ -1,12 +1,18 @@
-use Rattle.std.proofs.Common.{◌≡◌, ◌<◌, Bor, length, map, refl, sym, arith}
+use Rattle.std.proofs.Common.{◌≡◌, ◌<◌, Bor, length, map, refl, sym, subst, ap, ◌∙◌, arith}
 use Rattle.std.proofs.lemmas.List.{length-map}
 use Rattle.std.proofs.lemmas.Result.{IfOk-weaker}
 use Rattle.arrow_types.specs.Fits.{Fits}
 use Rattle.arrow_types.specs.Rows.{joined}
 use Rattle.arrow_arrays.specs.Any.{any_array_type, layout_of}
+use Rattle.arrow_arrays.specs.Layout.{rows}
+use Rattle.arrow_flat_growable.specs.Grown.{first_type}
 use Rattle.arrow_growable.specs.Growable.{IsGrowable}
+use Rattle.arrow_growable.proofs.JoinedLemmas.{slice_get-map_read}
+use Rattle.arrow_growable.proofs.MakeLemmas.{map_twice}
+use Rattle.arrow_select.specs.Keys.{HasNoDictionary}
 use Rattle.arrow_select.specs.Arrays.{rows_in}
-use Rattle.arrow_select.proofs.ArrayLemmas.{first_has, slice_get-map_read, Contains-read, of_one_type, all_as_first}
+use Rattle.arrow_select.proofs.ArrayLemmas.{first_has, Contains-read, of_one_type, all_as_first}
+use Rattle.arrow_select.proofs.KeyLemmas.{rows_alone}
 use Rattle.arrow_select.proofs.concatenate.concatenate.Goals as goal
 
 pub returns-then-not-have_one_type-clause-types : goal.returns-then-not-have_one_type-clause-types
@@ -19,18 +25,26 @@ returns-then-not-have_one_type-clause-types c =
     let read = slice_get-map_read (λ (array : Bor _). any_array_type array.now) arrays 0 c.in-Some.first.now first.3.0 first.1 in
     (λ _. (any_array_type c.in-Some.first.now.now, Contains-read types 0 _ read within, c.if-not-have_one_type.ensures), λ _. refl)
 
-pub make_growable-requires-clause-one_type : goal.make_growable-requires-clause-one_type
-make_growable-requires-clause-one_type c =
+pub join-requires-clause-one_type : goal.join-requires-clause-one_type
+join-requires-clause-one_type c =
     of_one_type (λ (a : Bor _). layout_of a.now) c.args.arrays.now _ c.if-not-have_one_type.ensures
 
-pub make_growable-requires-clause-growable : goal.make_growable-requires-clause-growable
-make_growable-requires-clause-growable c =
+pub join-requires-clause-growable : goal.join-requires-clause-growable
+join-requires-clause-growable c =
     first_has (λ (a : Bor _). layout_of a.now) IsGrowable c.args.arrays.now c.in-Some.ensures.item.3.0 c.requires.growable
 
 pub returns-clause-array_type : goal.returns-clause-array_type
 returns-clause-array_type c =
-    IfOk-weaker c.all_rows.result _ _ (λ all same. all_as_first (λ (a : Bor _). layout_of a.now) c.args.arrays.now _ (λ t. t ≡ any_array_type all) c.if-not-have_one_type.ensures (sym same)) c.all_rows.ensures.array_type
+    IfOk-weaker c.join.result _ _ (λ all same. all_as_first (λ (a : Bor _). layout_of a.now) c.args.arrays.now _ (λ t. t ≡ any_array_type all) c.if-not-have_one_type.ensures (sym same)) c.join.ensures.array_type
 
-pub returns-clause-overflow : goal.returns-clause-overflow
-returns-clause-overflow c overflows =
-    all_as_first (λ (a : Bor _). layout_of a.now) c.args.arrays.now _ (λ t. Fits t (joined (rows_in c.args.arrays.now)) → ⊥) c.if-not-have_one_type.ensures (c.all_rows.ensures.overflow overflows)
+pub returns-clause-rows : goal.returns-clause-rows
+returns-clause-rows c =
+    IfOk-weaker c.join.result _ _ (λ all same. same ∙ ap joined (map_twice rows (λ (a : Bor _). layout_of a.now) c.args.arrays.now)) c.join.ensures.rows
+
+pub returns-clause-no_keys : goal.returns-clause-no_keys
+returns-clause-no_keys c overflows =
+    let arrays = c.args.arrays.now in
+    let t = first_type (map (λ (a : Bor _). layout_of a.now) arrays) in
+    let types = of_one_type (λ (a : Bor _). layout_of a.now) arrays _ c.if-not-have_one_type.ensures in
+    let all = ap joined (map_twice rows (λ (a : Bor _). layout_of a.now) arrays) in
+    all_as_first (λ (a : Bor _). layout_of a.now) arrays _ (λ t. HasNoDictionary t → Fits t (joined (rows_in arrays)) → ⊥) c.if-not-have_one_type.ensures (λ none fits. rows_alone (λ (a : Bor _). a.now) arrays c.show_all_no_keys.ensures types (c.join.ensures.overflow overflows) none (subst (Fits t) (sym all) fits))

@@ -3,7 +3,8 @@ use Rattle.std.proofs.lemmas.List.{length-map, take_all}
 use Rattle.std.proofs.lemmas.List.Elements.{All-more, All-same}
 use Rattle.std.proofs.lemmas.Option.{get_or_from_slice_get}
 use Rattle.arrow_arrays.specs.Any.{any_array_type}
-use Rattle.arrow_select.proofs.ArrayLemmas.{slice_get-map_read, Contains-read}
+use Rattle.arrow_growable.proofs.JoinedLemmas.{slice_get-map_read}
+use Rattle.arrow_select.proofs.ArrayLemmas.{Contains-read}
 use Rattle.arrow_select.proofs.concatenate.have_one_type.Goals as goal
 
 pub returns-then-not-is_of_type : goal.returns-then-not-is_of_type

@@ -2,9 +2,9 @@ use Rattle.std.proofs.Common.{arith, ◌<◌, length, subst, [], ◌∷◌, ◌+
 use Rattle.arrow_memory.specs.Sliced.{sliced}
 use Rattle.arrow_arrays.specs.Any.{any_array_rows, layout_of}
 use Rattle.arrow_flat_growable.proofs.ResultLemmas.{passed_on}
-use Rattle.arrow_select.specs.Growing.{HasAppended}
+use Rattle.arrow_growable.specs.Growing.{HasAppended}
 use Rattle.arrow_select.proofs.FilterLemmas.{keeps_row, leaves_row}
-use Rattle.arrow_select.proofs.GrowLemmas.{holds_none, holds_more, refuses_whole, too_many_first, named}
+use Rattle.arrow_growable.proofs.GrowLemmas.{holds_none, holds_more, refuses_whole, too_many_first, named}
 use Rattle.arrow_select.proofs.filter.append_selected.Goals as goal
 use Rattle.arrow_select.proofs.filter.append_selected.Goals.{then-is_true+in_ok-extend, else-is_true}
 

@@ -3,7 +3,7 @@ use Rattle.arrow_types.specs.Rows.{mask_of}
 use Rattle.arrow_types.specs.Slot.{Slot}
 use Rattle.arrow_arrays.specs.Any.{any_array_rows, layout_of}
 use Rattle.arrow_flat.specs.Parts.{boolean_rows}
-use Rattle.arrow_select.specs.Growing.{HasAppended}
+use Rattle.arrow_growable.specs.Growing.{HasAppended}
 use Rattle.arrow_select.proofs.FilterLemmas.{KeepsUpTo}
 use Rattle.arrow_select.proofs.filter.append_selected.Given as goal
 

@@ -1,17 +1,18 @@
 -- A growable over arrays that are bound to it, call by call.
-use Rattle.std.proofs.Common.{arith, ◌≡◌, ◌+◌, ℕ, List, [], ◌++◌, length, replicate, take, false, Result, Ok, Err, Some, ap, sym, subst, ◌∙◌, length-append, inl, inr}
+use Rattle.std.proofs.Common.{arith, ◌≡◌, ◌+◌, ℕ, ◌<◌, List, [], ◌++◌, length, map, replicate, take, false, Result, Ok, Err, Some, ap, sym, subst, ◌∙◌, length-append, inl, inr}
 use Rattle.std.specs.Prelude.{OnOk}
 use Rattle.std.proofs.lemmas.List.{append-nil, take_all}
 use Rattle.arrow_types.specs.declared.error.Error.{Error}
 use Rattle.arrow_types.specs.Fits.{Fits}
+use Rattle.arrow_types.specs.Rows.{joined}
 use Rattle.arrow_types.specs.Slot.{Slot, null_slot}
 use Rattle.arrow_types.proofs.FitsLemmas.{Fits-beginning, Fits-nil}
 use Rattle.arrow_memory.specs.Sliced.{sliced}
-use Rattle.arrow_arrays.specs.Any.{layout_of, any_array_rows}
 use Rattle.arrow_arrays.specs.Layout.{Layout, rows}
-use Rattle.arrow_arrays.specs.declared.array.any.AnyArray.{AnyArray}
 use Rattle.arrow_flat_growable.specs.Grown.{Grown, AreCrowded, CannotHold, FitsItself, FitsWith, appended, bound_to, first_type, named_rows, null_rows_of, source_at}
-use Rattle.arrow_select.specs.Growing.{HasAppended}
+use Rattle.arrow_growable.specs.Growing.{HasAppended}
+use Rattle.arrow_growable.specs.Join.{CannotAppendAll}
+use Rattle.arrow_growable.proofs.UnjoinedLemmas.{crowded_among}
 
 -- no rows at first
 pub holds_none : (layouts : List Layout) (g : Grown) → g ≡ bound_to layouts → HasAppended layouts g []
@@ -66,6 +67,14 @@ module _ (layouts : List Layout) (g : Grown) (xs : List Slot) (held : HasAppende
   too_many_first start len = too_many_named 0 start len (λ crowded. omega (arith, crowded.0))
 
 -- all rows of an array that is bound
-pub whole_source : (layouts : List Layout) (i : ℕ) (array : AnyArray) → source_at layouts i ≡ layout_of array → (n : ℕ) → n ≡ length (any_array_rows array) → sliced (rows (source_at layouts i)) 0 n ≡ any_array_rows array
-whole_source layouts i array source n all =
-    ap (λ l. take n (rows l)) source ∙ take_all n (any_array_rows array) (omega (arith, all))
+pub whole_source : (layouts : List Layout) (i n : ℕ) → n ≡ length (rows (source_at layouts i)) → sliced (rows (source_at layouts i)) 0 n ≡ rows (source_at layouts i)
+whole_source layouts i n all = take_all n (rows (source_at layouts i)) (omega (arith, all))
+
+-- of an array that is refused so
+pub cannot_append : (layouts : List Layout) (g : Grown) (xs : List Slot) (held : HasAppended layouts g xs) (i n : ℕ) (rest : List Slot) → i < length layouts → n ≡ length (rows (source_at layouts i)) → CannotHold g i 0 n → joined (map rows layouts) ≡ (xs ++ rows (source_at layouts i)) ++ rest → CannotAppendAll layouts
+cannot_append layouts g xs held i n rest bound all refused is =
+    let more = named layouts g xs held i 0 n ∙ whole_source layouts i n all in
+    elim (subst (λ h. CannotHold h i 0 n) held.0 refused) [
+      | inl over ↦ inl (refuses_whole layouts g xs held _ _ rest _ more (λ fits. over (subst (λ h. FitsWith h (named_rows h i 0 n)) held.0 fits)) is)
+      | inr crowded ↦ inr (crowded_among [] layouts i crowded.1.0 bound (omega (arith, crowded.1.2, all)) crowded.1.3)
+    ]

@@ -1,0 +1,303 @@
+-- Rows of dictionaries behind others: keys that grow by the values before their own name the same values.
+use Rattle.std.proofs.Common.{arith, ◌≡◌, ◌+◌, ◌-◌, ◌<◌, ◌≤◌, ℕ, zero, suc, pos, negsuc, Bool, true, false, not, List, [], ◌∷◌, ◌++◌, Option, Some, None, length, map, take, drop, get_or, replicate, refl, ap, sym, subst, ◌∙◌, length-append}
+use Rattle.std.specs.Prelude.{option_map, slice_get, sum_by, if◌then◌else◌}
+use Rattle.std.specs.List.{All}
+use Rattle.std.proofs.Math.Nat.{lt_of_not-le}
+use Rattle.std.proofs.lemmas.List.{drop-replicate, get_or_append_left, get_or-append-add, get_or-drop, get_or-take, length-map, map-append, take-replicate}
+use Rattle.std.proofs.lemmas.List.Elements.{All-append, All-drop, All-take}
+use Rattle.std.proofs.lemmas.List.Sums.{sum_by-cons}
+use Rattle.arrow_types.specs.declared.datatypes.IntegerType.{IntegerType}
+use Rattle.arrow_types.specs.declared.datatypes.physical_type.PhysicalType.TheVariants as physical
+use Rattle.arrow_types.specs.ArrowType.{ArrowType, plain, list, struct, union, dictionary, extension}
+use Rattle.arrow_types.specs.Greatest.{greatest_number}
+use Rattle.arrow_types.specs.Physical.{physical_type_of}
+use Rattle.arrow_types.specs.Relation.{is_null}
+use Rattle.arrow_types.specs.Rows.{joined, mask, masked}
+use Rattle.arrow_types.specs.Slot.{Slot, Null, Boolean, Number, DayTime, MonthDayNano, Bytes, Text, Items, Parts as fields, Dict, Variant}
+use Rattle.arrow_memory.specs.Sliced.{sliced}
+use Rattle.arrow_memory.proofs.OffsetLemmas.{map_sliced}
+use Rattle.arrow_memory.proofs.SlicedLemmas.{length-sliced}
+use Rattle.arrow_flat.specs.Parts.{IsValue, MarksNulls, bits_of_slice}
+use Rattle.arrow_arrays.specs.Crowded.{CrowdedRow, child_of, greatest_key, values_before}
+use Rattle.arrow_arrays.specs.KeyedParts.{AreKeys, IsKey, IsKeyIn, KeyedParts, key_in, keyed_layout, keyed_rows, keys_in}
+use Rattle.arrow_arrays.proofs.KeyLemmas.{key_read}
+use Rattle.arrow_arrays.proofs.ShapeLemmas.{list_shaped, plain_shape}
+use Rattle.arrow_arrays.specs.Layout.{Layout, keyed_item, rows}
+use Rattle.arrow_flat_growable.specs.Grown.{AreCrowded, source_at}
+use Rattle.arrow_flat_growable.specs.Keys.{KeyFits, PassesGreatest, SomePasses, grown_key}
+use Rattle.arrow_flat_growable.proofs.FlatLemmas.{appended_rows}
+use Rattle.arrow_growable.specs.Dictionary.{AreUncrowded, HoldsKeys, dictionary_rows, joined_values}
+
+abbrev is_valid : Slot → Bool
+is_valid s = not (is_null s)
+
+-- one key
+
+-- it names the same value, by as many as stand before
+item_named : (values xs : List Slot) (by : ℕ) (s : Slot) → ((k : ℕ) → k < length xs → get_or values (k + by) Null ≡ get_or xs k Null) → IsKey (length xs) s → keyed_item values (key_in (if is_valid s then grown_key by s else Null)) ≡ keyed_item xs (key_in s)
+item_named values xs by Null same key = refl
+item_named values xs by (Number (pos n)) same key = ap Dict (same n key)
+item_named values xs by (Number (negsuc n)) same key = absurd key
+item_named values xs by (Boolean b) same key = absurd key
+item_named values xs by (DayTime days ms) same key = absurd key
+item_named values xs by (MonthDayNano months days ns) same key = absurd key
+item_named values xs by (Bytes bytes) same key = absurd key
+item_named values xs by (Text bytes) same key = absurd key
+item_named values xs by (Items slots) same key = absurd key
+item_named values xs by (fields slots) same key = absurd key
+item_named values xs by (Dict slot) same key = absurd key
+item_named values xs by (Variant id slot) same key = absurd key
+
+-- and is one of all
+item_within : (count here by : ℕ) (s : Slot) → here + by ≤ count → IsKey here s → IsKey count (if is_valid s then grown_key by s else Null)
+item_within count here by Null room key = tt
+item_within count here by (Number (pos n)) room key = omega (arith, room, key)
+item_within count here by (Number (negsuc n)) room key = absurd key
+item_within count here by (Boolean b) room key = absurd key
+item_within count here by (DayTime days ms) room key = absurd key
+item_within count here by (MonthDayNano months days ns) room key = absurd key
+item_within count here by (Bytes bytes) room key = absurd key
+item_within count here by (Text bytes) room key = absurd key
+item_within count here by (Items slots) room key = absurd key
+item_within count here by (fields slots) room key = absurd key
+item_within count here by (Dict slot) room key = absurd key
+item_within count here by (Variant id slot) room key = absurd key
+
+-- its row is null where it is
+item_valid : (count : ℕ) (xs : List Slot) (s : Slot) → IsKey count s → is_valid (keyed_item xs (key_in s)) ≡ is_valid s
+item_valid count xs Null key = refl
+item_valid count xs (Number (pos n)) key = refl
+item_valid count xs (Number (negsuc n)) key = absurd key
+item_valid count xs (Boolean b) key = absurd key
+item_valid count xs (DayTime days ms) key = absurd key
+item_valid count xs (MonthDayNano months days ns) key = absurd key
+item_valid count xs (Bytes bytes) key = absurd key
+item_valid count xs (Text bytes) key = absurd key
+item_valid count xs (Items slots) key = absurd key
+item_valid count xs (fields slots) key = absurd key
+item_valid count xs (Dict slot) key = absurd key
+item_valid count xs (Variant id slot) key = absurd key
+
+pub is_key_in : (count : ℕ) (s : Slot) → IsKey count s → IsKeyIn s
+is_key_in count Null key = tt
+is_key_in count (Number (pos n)) key = tt
+is_key_in count (Number (negsuc n)) key = absurd key
+is_key_in count (Boolean b) key = absurd key
+is_key_in count (DayTime days ms) key = absurd key
+is_key_in count (MonthDayNano months days ns) key = absurd key
+is_key_in count (Bytes bytes) key = absurd key
+is_key_in count (Text bytes) key = absurd key
+is_key_in count (Items slots) key = absurd key
+is_key_in count (fields slots) key = absurd key
+is_key_in count (Dict slot) key = absurd key
+is_key_in count (Variant id slot) key = absurd key
+
+-- all keys
+
+next : (P : Slot → Type 0) (s : Slot) (ks : List Slot) → All P (s ∷ ks) → All P ks
+next P s ks held = λ k d within. held (suc k) d (omega (arith, within))
+
+first : (P : Slot → Type 0) (s : Slot) (ks : List Slot) → All P (s ∷ ks) → P s
+first P s ks held = held 0 s (omega arith)
+
+cons : (P : Slot → Type 0) (s : Slot) (ks : List Slot) → P s → All P ks → All P (s ∷ ks)
+cons P s ks here rest zero d within = here
+cons P s ks here rest (suc k) d within = rest k d (omega (arith, within))
+
+pub are_keys_in : (count : ℕ) (ks : List Slot) → AreKeys count ks → All IsKeyIn ks
+are_keys_in count ks held = λ k d within. is_key_in count _ (held k d within)
+
+named : (values xs ks : List Slot) (by : ℕ) → ((k : ℕ) → k < length xs → get_or values (k + by) Null ≡ get_or xs k Null) → AreKeys (length xs) ks → dictionary_rows values (map is_valid ks) (map (grown_key by) ks) ≡ map (keyed_item xs) (keys_in ks)
+named values xs [] by same held = refl
+named values xs (s ∷ ks) by same held =
+    let here = item_named values xs by s same (first (IsKey (length xs)) s ks held) in
+    let rest = named values xs ks by same (next (IsKey (length xs)) s ks held) in
+    λ i. here i ∷ rest i
+
+within : (count here by : ℕ) (ks : List Slot) → here + by ≤ count → AreKeys here ks → AreKeys count (mask (map is_valid ks) (map (grown_key by) ks))
+within count here by [] room held = λ k d below. absurd (omega (arith, below))
+within count here by (s ∷ ks) room held =
+    cons (IsKey count) _ _ (item_within count here by s room (first (IsKey here) s ks held)) (within count here by ks room (next (IsKey here) s ks held))
+
+valid-keyed : (count : ℕ) (xs ks : List Slot) → AreKeys count ks → map is_valid (map (keyed_item xs) (keys_in ks)) ≡ map is_valid ks
+valid-keyed count xs [] held = refl
+valid-keyed count xs (s ∷ ks) held =
+    let here = item_valid count xs s (first (IsKey count) s ks held) in
+    let rest = valid-keyed count xs ks (next (IsKey count) s ks held) in
+    λ i. here i ∷ rest i
+
+all_valid : (xs : List Slot) → All IsValue xs → map is_valid xs ≡ replicate (length xs) true
+all_valid [] held = refl
+all_valid (s ∷ xs) held =
+    let rest = all_valid xs (next IsValue s xs held) in
+    λ i. not (first IsValue s xs held i) ∷ rest i
+
+-- the bits of a slice, by its keys
+pub bits_marked : (v : Option (List Bool)) (xs ks : List Slot) (start len : ℕ) → AreKeys (length xs) ks → MarksNulls v (map (keyed_item xs) (keys_in ks)) → start + len ≤ length ks → bits_of_slice v start len ≡ map is_valid (sliced ks start len)
+bits_marked None xs ks start len held marks part =
+    let items = map (keyed_item xs) (keys_in ks) in
+    let long : length items ≡ length ks = length-map (keys_in ks) (keyed_item xs) ∙ length-map ks key_in in
+    let all : map is_valid ks ≡ replicate (length ks) true = sym (valid-keyed (length xs) xs ks held) ∙ (all_valid items marks ∙ ap (λ n. replicate n true) long) in
+    sym (map_sliced is_valid ks start len ∙ (ap (λ bits. sliced bits start len) all ∙ (ap (take len) (drop-replicate start (length ks) true) ∙ take-replicate len _ true (omega (arith, part)))))
+bits_marked (Some bits) xs ks start len held marks part =
+    ap (λ bs. sliced bs start len) (marks ∙ valid-keyed (length xs) xs ks held) ∙ sym (map_sliced is_valid ks start len)
+
+-- where the values of an array stand among all
+
+pub values_at : (layouts : List Layout) (i : ℕ) → i < length layouts → (k : ℕ) → k < length (rows (child_of (source_at layouts i))) → get_or (joined_values layouts) (k + values_before (take i layouts)) Null ≡ get_or (rows (child_of (source_at layouts i))) k Null
+values_at [] i bound k inside = absurd (omega (arith, bound))
+values_at (l ∷ layouts) zero bound k inside =
+    let at : k + 0 ≡ k = omega arith in
+    ap (λ n. get_or (joined_values (l ∷ layouts)) n Null) at ∙ get_or_append_left (rows (child_of l)) (joined_values layouts) Null k inside
+values_at (l ∷ layouts) (suc i) bound k inside =
+    let xs = rows (child_of l) in
+    let before : values_before (l ∷ take i layouts) ≡ length xs + values_before (take i layouts) = sum_by-cons (λ m. length (rows (child_of m))) l (take i layouts) in
+    let at : k + values_before (l ∷ take i layouts) ≡ length xs + (k + values_before (take i layouts)) = omega (arith, before) in
+    ap (λ n. get_or (joined_values (l ∷ layouts)) n Null) at ∙ (get_or-append-add xs (joined_values layouts) (k + values_before (take i layouts)) Null ∙ values_at layouts i (omega (arith, bound)) k inside)
+
+pub values_room : (layouts : List Layout) (i : ℕ) → i < length layouts → length (rows (child_of (source_at layouts i))) + values_before (take i layouts) ≤ length (joined_values layouts)
+values_room [] i bound = absurd (omega (arith, bound))
+values_room (l ∷ layouts) zero bound =
+    omega (arith, length-append (rows (child_of l)) (joined_values layouts))
+values_room (l ∷ layouts) (suc i) bound =
+    let xs = rows (child_of l) in
+    let before : values_before (l ∷ take i layouts) ≡ length xs + values_before (take i layouts) = sum_by-cons (λ m. length (rows (child_of m))) l (take i layouts) in
+    omega (arith, before, values_room layouts i (omega (arith, bound)), length-append xs (joined_values layouts))
+
+-- rows behind others
+
+-- keys that grew, behind those so far
+pub record Behind (values xs : List Slot) (bits : List Bool) (slots ks : List Slot) (by start len : ℕ) : Type 0 where
+  pub same : length bits ≡ length slots
+  pub at : (k : ℕ) → k < length xs → get_or values (k + by) Null ≡ get_or xs k Null
+  pub room : length xs + by ≤ length values
+  pub keys : AreKeys (length xs) ks
+  pub part : start + len ≤ length ks
+
+module _ (values xs : List Slot) (bits : List Bool) (slots ks : List Slot) (by start len : ℕ) (b : Behind values xs bits slots ks by start len) where
+  abbrev more : List Slot
+  more = sliced ks start len
+
+  more_keys : AreKeys (length xs) more
+  more_keys = All-take (IsKey (length xs)) len _ (All-drop (IsKey (length xs)) start ks b.keys)
+
+  pub rows_behind : dictionary_rows values (bits ++ map is_valid more) (slots ++ map (grown_key by) more) ≡ dictionary_rows values bits slots ++ sliced (map (keyed_item xs) (keys_in ks)) start len
+  rows_behind =
+      let split = appended_rows bits (map is_valid more) slots (map (grown_key by) more) _ b.same refl in
+      let both = map-append key_in (mask bits slots) (mask (map is_valid more) (map (grown_key by) more)) in
+      let all = map-append (keyed_item values) (keys_in (mask bits slots)) (keys_in (mask (map is_valid more) (map (grown_key by) more))) in
+      ap (λ ys. map (keyed_item values) (keys_in ys)) split ∙ (ap (map (keyed_item values)) both ∙ (all ∙ ap (λ ys. dictionary_rows values bits slots ++ ys) (named values xs more by b.at more_keys ∙ (ap (map (keyed_item xs)) (map_sliced key_in ks start len) ∙ map_sliced (keyed_item xs) (keys_in ks) start len))))
+
+  pub keys_behind : AreKeys (length values) (mask bits slots) → AreKeys (length values) (mask (bits ++ map is_valid more) (slots ++ map (grown_key by) more))
+  keys_behind held =
+      let split = appended_rows bits (map is_valid more) slots (map (grown_key by) more) _ b.same refl in
+      subst (AreKeys (length values)) (sym split) (All-append (IsKey (length values)) _ _ held (within (length values) (length xs) by more b.room more_keys))
+
+-- the rows of a bound array behind those so far
+
+-- the array at an index, and where its values begin among all
+pub record Names (layouts : List Layout) (values : List Slot) (index by : ℕ) (p : KeyedParts) (ks : List Slot) : Type 0 where
+  pub joined : values ≡ joined_values layouts
+  pub bound : index < length layouts
+  pub source : source_at layouts index ≡ keyed_layout p
+  pub begins : by ≡ values_before (take index layouts)
+  pub keys : AreKeys (length (rows p.child)) ks
+  pub seen : keys_in ks ≡ p.keys
+
+module _ (layouts : List Layout) (values : List Slot) (index by : ℕ) (p : KeyedParts) (ks : List Slot) (names : Names layouts values index by p ks) where
+  same_child : rows (child_of (source_at layouts index)) ≡ rows p.child
+  same_child = ap (λ l. rows (child_of l)) names.source
+
+  at_value : (k : ℕ) → k < length (rows p.child) → get_or values (k + by) Null ≡ get_or (rows p.child) k Null
+  at_value k inside =
+      let here = values_at layouts index names.bound k (omega (arith, inside, ap length same_child)) in
+      (λ i. get_or (names.joined i) (k + names.begins i) Null) ∙ (here ∙ ap (λ xs. get_or xs k Null) same_child)
+
+  room_for : length (rows p.child) + by ≤ length values
+  room_for =
+      omega (arith, values_room layouts index names.bound, ap length same_child, ap length names.joined, names.begins)
+
+  named_row : rows (source_at layouts index) ≡ map (keyed_item (rows p.child)) (keys_in ks)
+  named_row = ap rows names.source ∙ ap (map (keyed_item (rows p.child))) (sym names.seen)
+
+  rows_long : length (rows (source_at layouts index)) ≡ length ks
+  rows_long = ap length named_row ∙ (length-map (keys_in ks) (keyed_item (rows p.child)) ∙ length-map ks key_in)
+
+  module _ (v : Option (List Bool)) (bits : List Bool) (slots : List Slot) (start len : ℕ) (same : length bits ≡ length slots) (marks : MarksNulls v (keyed_rows p)) (part : start + len ≤ length (rows (source_at layouts index))) where
+    behind : Behind values (rows p.child) bits slots ks by start len
+    behind =
+        record { same = same; at = at_value; room = room_for; keys = names.keys; part = omega (arith, part, rows_long) }
+
+    marked : bits_of_slice v start len ≡ map is_valid (sliced ks start len)
+    marked =
+        bits_marked v (rows p.child) ks start len names.keys (subst (λ keys. MarksNulls v (map (keyed_item (rows p.child)) keys)) (sym names.seen) marks) (omega (arith, part, rows_long))
+
+    pub rows_named : dictionary_rows values (bits ++ bits_of_slice v start len) (slots ++ map (grown_key by) (sliced ks start len)) ≡ dictionary_rows values bits slots ++ sliced (rows (source_at layouts index)) start len
+    rows_named =
+        ap (λ more. dictionary_rows values (bits ++ more) (slots ++ map (grown_key by) (sliced ks start len))) marked ∙ (rows_behind values (rows p.child) bits slots ks by start len behind ∙ ap (λ xs. dictionary_rows values bits slots ++ sliced xs start len) (sym named_row))
+
+    pub holds_named : (old new : ℕ) → new ≡ old + len → HoldsKeys bits slots old (length values) → HoldsKeys (bits ++ bits_of_slice v start len) (slots ++ map (grown_key by) (sliced ks start len)) new (length values)
+    holds_named old new more held =
+        let many : length (sliced ks start len) ≡ len = length-sliced ks start len (omega (arith, part, rows_long)) in
+        let bits_many : length (bits_of_slice v start len) ≡ len = ap length marked ∙ (length-map (sliced ks start len) is_valid ∙ many) in
+        let slots_many : length (map (grown_key by) (sliced ks start len)) ≡ len = length-map (sliced ks start len) (grown_key by) ∙ many in
+        record {
+          covered = omega (arith, length-append bits (bits_of_slice v start len), bits_many, held.covered, more);
+          counted = omega (arith, length-append slots (map (grown_key by) (sliced ks start len)), slots_many, held.counted, more);
+          within = subst (λ more_bits. AreKeys (length values) (mask (bits ++ more_bits) (slots ++ map (grown_key by) (sliced ks start len)))) (sym marked) (keys_behind values (rows p.child) bits slots ks by start len behind held.within);
+        }
+
+-- keys that do not fit are crowded
+
+some_same : {A : Type 0} {x y : A} → Some x ≡ Some y → x ≡ y
+some_same same = cc
+
+le_zero : {i : ℕ} → i ≤ 0 → i ≡ 0
+le_zero small = omega (arith, small)
+
+passing_key : (greatest by : ℕ) (s : Slot) → PassesGreatest greatest by s → (k : ℕ) × (key_in s ≡ Some k) × (0 < by) × (greatest < k + by)
+passing_key greatest by (Number (pos k)) passes = (k, refl, passes.0, passes.1)
+passing_key greatest by _ passes = absurd passes
+
+fitting_key : (greatest by k : ℕ) (s : Slot) → KeyFits greatest by s → key_in s ≡ Some k → k + by ≤ greatest
+fitting_key greatest by k (Number (pos n)) fits is =
+    let same : n ≡ k = cc in
+    omega (arith, fits, same)
+fitting_key greatest by k _ fits is = absurd (cc)
+
+key_at : (ks : List Slot) (j : ℕ) → j < length ks → slice_get (keys_in ks) j ≡ Some (key_in (get_or ks j Null))
+key_at ks j within = key_read ks j (key_in (get_or ks j Null)) within refl
+
+-- the greatest key of a dictionary's type
+pub greatest_of : (t : ArrowType) (key_type : IntegerType) → physical_type_of t ≡ physical.Dictionary key_type → greatest_key t ≡ greatest_number key_type
+greatest_of (plain p) key_type kind = cc (plain_shape p)
+greatest_of (list form f) key_type kind = cc (list_shaped form)
+greatest_of (struct fs) key_type kind = cc
+greatest_of (union mode ids fs) key_type kind = cc
+greatest_of (dictionary keys ordered t) key_type kind = ap greatest_number (cc)
+greatest_of (extension name metadata t) key_type kind = greatest_of t key_type kind
+
+module _ (layouts : List Layout) (values : List Slot) (index by : ℕ) (p : KeyedParts) (ks : List Slot) (names : Names layouts values index by p ks) (greatest : ℕ) (is : greatest_key p.arrow_type ≡ greatest) where
+  behind_first : 0 < by → 0 < index
+  behind_first grew =
+      lt_of_not-le (λ first. absurd (omega (arith, grew, names.begins, ap (λ i. values_before (take i layouts)) (le_zero first))))
+
+  pub passes_crowded : (start len : ℕ) → start + len ≤ length ks → SomePasses greatest by ks start len → AreCrowded (Some layouts) index start len
+  passes_crowded start len part some =
+      let j = some.0 in
+      let key = passing_key greatest by (get_or ks j Null) some.3 in
+      let within : j < length ks = omega (arith, some.2, part) in
+      let read : slice_get p.keys j ≡ Some (Some key.0) = ap (λ keys. slice_get keys j) (sym names.seen) ∙ (key_at ks j within ∙ ap Some key.1) in
+      let row : CrowdedRow (take index layouts) (keyed_layout p) j = (key.0, read, omega (arith, key.3, is, names.begins)) in
+      (behind_first key.2, (j, some.1, some.2, subst (λ l. CrowdedRow (take index layouts) l j) (sym names.source) row))
+
+  pub fits_uncrowded : (start len : ℕ) → start + len ≤ length ks → All (KeyFits greatest by) (sliced ks start len) → AreUncrowded (Some layouts) index start len
+  fits_uncrowded start len part fits j from before crowded =
+      let row : CrowdedRow (take index layouts) (keyed_layout p) j = subst (λ l. CrowdedRow (take index layouts) l j) names.source crowded in
+      let k = row.0 in
+      let within : j < length ks = omega (arith, before, part) in
+      let key : key_in (get_or ks j Null) ≡ Some k = some_same (sym (key_at ks j within) ∙ (ap (λ keys. slice_get keys j) names.seen ∙ row.1)) in
+      let place : get_or (sliced ks start len) (j - start) Null ≡ get_or ks j Null = get_or-take len (drop start ks) (j - start) Null (omega (arith, from, before)) ∙ (get_or-drop start ks (j - start) Null ∙ ap (λ i. get_or ks i Null) (omega (arith, from))) in
+      let many : length (sliced ks start len) ≡ len = length-sliced ks start len part in
+      let small = fitting_key greatest by k (get_or ks j Null) (subst (KeyFits greatest by) place (fits (j - start) Null (omega (arith, from, before, many)))) key in
+      absurd (omega (arith, small, row.2, is, names.begins))

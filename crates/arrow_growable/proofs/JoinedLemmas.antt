@@ -1,0 +1,31 @@
+-- All rows of several arrays, one array behind the other.
+use Rattle.std.proofs.Common.{arith, ◌≡◌, ℕ, zero, suc, ◌+◌, ◌<◌, List, [], ◌∷◌, ◌++◌, Some, length, get_or, map, take, drop, refl, ap, sym, ◌∙◌, append_assoc}
+use Rattle.std.specs.Prelude.{slice_get, option_map}
+use Rattle.std.proofs.lemmas.List.{append-nil, take-append-drop}
+use Rattle.std.proofs.lemmas.Option.{slice_get_read, slice_get-map}
+use Rattle.arrow_types.specs.Rows.{joined}
+use Rattle.arrow_types.specs.Slot.{Slot}
+use Rattle.arrow_types.proofs.RowsLemmas.{drop_at_read, take_at_read}
+use Rattle.arrow_types.proofs.SelectLemmas.{joined-append}
+use Rattle.arrow_arrays.specs.Layout.{Layout, rows}
+use Rattle.arrow_flat_growable.specs.Grown.{source_at}
+
+pub slice_get-map_read : {A B : Type 0} (f : A → B) (xs : List A) (i : ℕ) (x : A) → i < length xs → x ≡ get_or xs i x → slice_get (map f xs) i ≡ Some (f x)
+slice_get-map_read f xs i x within read =
+    slice_get-map f xs i ∙ ap (option_map f) (slice_get_read xs (length xs) i x refl within read)
+
+-- the rows of one of them
+pub rows_read : (layouts : List Layout) (i : ℕ) → i < length layouts → slice_get (map rows layouts) i ≡ Some (rows (source_at layouts i))
+rows_read [] i within = absurd (omega (arith, within))
+rows_read (l ∷ layouts) zero within = refl
+rows_read (l ∷ layouts) (suc i) within = rows_read layouts i (omega (arith, within))
+
+-- the rows of one more list
+pub joined_next : (xss : List (List Slot)) (i : ℕ) (xs : List Slot) → slice_get xss i ≡ Some xs → joined (take (i + 1) xss) ≡ joined (take i xss) ++ xs
+joined_next xss i xs read =
+    ap joined (take_at_read xss i xs read) ∙ (joined-append (take i xss) (xs ∷ []) ∙ ap (λ ys. joined (take i xss) ++ ys) (append-nil xs))
+
+-- all rows, by a list of them
+pub joined_around : (xss : List (List Slot)) (i : ℕ) (xs : List Slot) → slice_get xss i ≡ Some xs → joined xss ≡ (joined (take i xss) ++ xs) ++ joined (drop (i + 1) xss)
+joined_around xss i xs read =
+    ap joined (sym (take-append-drop i xss)) ∙ (joined-append (take i xss) (drop i xss) ∙ (ap (λ yss. joined (take i xss) ++ joined yss) (drop_at_read xss i xs read) ∙ sym (append_assoc (joined (take i xss)) xs (joined (drop (i + 1) xss)))))
