@@ -1,19 +1,23 @@
 -- Rows of dictionaries behind others: keys that grow by the values before their own name the same values.
-use Rattle.std.proofs.Common.{arith, ◌≡◌, ◌+◌, ◌-◌, ◌<◌, ◌≤◌, ℕ, zero, suc, pos, negsuc, Bool, true, false, not, List, [], ◌∷◌, ◌++◌, Option, Some, None, length, map, take, drop, get_or, replicate, refl, ap, sym, subst, ◌∙◌, length-append}
-use Rattle.std.specs.Prelude.{option_map, slice_get, sum_by, if◌then◌else◌}
+use Rattle.std.proofs.Common.{arith, Bor, ◌≡◌, ◌+◌, ◌-◌, ◌<◌, ◌≤◌, ◌^◌, ◌⊎◌, inl, inr, ℕ, zero, suc, pos, negsuc, Bool, true, false, not, List, [], ◌∷◌, ◌++◌, Option, Some, None, length, map, take, drop, get_or, replicate, refl, ap, sym, subst, ◌∙◌, length-append}
+use Rattle.std.specs.Prelude.{IfSome, option_copied, slice_get, if◌then◌else◌}
 use Rattle.std.specs.List.{All}
-use Rattle.std.proofs.Math.Nat.{lt_of_not-le}
-use Rattle.std.proofs.lemmas.List.{drop-replicate, get_or_append_left, get_or-append-add, get_or-drop, get_or-take, length-map, map-append, take-replicate}
+use Rattle.std.proofs.Math.Nat.{eq-or-lt_of_le, lt_of_not-le}
+use Rattle.std.proofs.Math.Seq.{get_or-append_seam, take-suc}
+use Rattle.std.proofs.lemmas.List.{drop-replicate, get_or_append_left, get_or-append-add, get_or-drop, get_or-take, length-map, length-replicate, map-append, take-replicate}
+use Rattle.std.proofs.lemmas.Grind.{get_or_default_zero}
 use Rattle.std.proofs.lemmas.List.Elements.{All-append, All-drop, All-take}
-use Rattle.std.proofs.lemmas.List.Sums.{sum_by-cons}
+use Rattle.std.proofs.lemmas.List.Sums.{sum_by-append, sum_by-cons}
 use Rattle.arrow_types.specs.declared.datatypes.IntegerType.{IntegerType}
 use Rattle.arrow_types.specs.declared.datatypes.physical_type.PhysicalType.TheVariants as physical
-use Rattle.arrow_types.specs.ArrowType.{ArrowType, plain, list, struct, union, dictionary, extension}
+use Rattle.arrow_types.specs.ArrowType.{ArrowType, plain, list, struct, union, dictionary, extension, null}
+use Rattle.arrow_types.specs.Fits.{Fits}
 use Rattle.arrow_types.specs.Greatest.{greatest_number}
 use Rattle.arrow_types.specs.Physical.{physical_type_of}
 use Rattle.arrow_types.specs.Relation.{is_null}
-use Rattle.arrow_types.specs.Rows.{joined, mask, masked}
+use Rattle.arrow_types.specs.Rows.{joined, mask}
 use Rattle.arrow_types.specs.Slot.{Slot, Null, Boolean, Number, DayTime, MonthDayNano, Bytes, Text, Items, Parts as fields, Dict, Variant}
+use Rattle.arrow_types.proofs.RowsLemmas.{length-mask}
 use Rattle.arrow_memory.specs.Sliced.{sliced}
 use Rattle.arrow_memory.proofs.OffsetLemmas.{map_sliced}
 use Rattle.arrow_memory.proofs.SlicedLemmas.{length-sliced}
@@ -21,12 +25,12 @@ use Rattle.arrow_flat.specs.Parts.{IsValue, MarksNulls, bits_of_slice}
 use Rattle.arrow_arrays.specs.Crowded.{CrowdedRow, child_of, greatest_key, values_before}
 use Rattle.arrow_arrays.specs.KeyedParts.{AreKeys, IsKey, IsKeyIn, KeyedParts, key_in, keyed_layout, keyed_rows, keys_in}
 use Rattle.arrow_arrays.proofs.KeyLemmas.{key_read}
-use Rattle.arrow_arrays.proofs.ShapeLemmas.{list_shaped, plain_shape}
-use Rattle.arrow_arrays.specs.Layout.{Layout, keyed_item, rows}
+use Rattle.arrow_arrays.proofs.ShapeLemmas.{dictionary_shape, list_shaped, plain_shape, shape_in}
+use Rattle.arrow_arrays.specs.Layout.{Layout, flat, keyed_item, rows, type_of_layout}
 use Rattle.arrow_flat_growable.specs.Grown.{AreCrowded, source_at}
-use Rattle.arrow_flat_growable.specs.Keys.{KeyFits, PassesGreatest, SomePasses, grown_key}
-use Rattle.arrow_flat_growable.proofs.FlatLemmas.{appended_rows}
-use Rattle.arrow_growable.specs.Dictionary.{AreUncrowded, HoldsKeys, dictionary_rows, joined_values}
+use Rattle.arrow_flat_growable.specs.Keys.{KeyFits, PassesGreatest, SomePasses, grown_key, zero_key}
+use Rattle.arrow_flat_growable.proofs.FlatLemmas.{appended_rows, source_is}
+use Rattle.arrow_growable.specs.Dictionary.{AreUncrowded, HoldsKeys, IsGrownDictionary, dictionary_rows, joined_values}
 
 abbrev is_valid : Slot → Bool
 is_valid s = not (is_null s)
@@ -220,7 +224,7 @@ module _ (layouts : List Layout) (values : List Slot) (index by : ℕ) (p : Keye
   named_row : rows (source_at layouts index) ≡ map (keyed_item (rows p.child)) (keys_in ks)
   named_row = ap rows names.source ∙ ap (map (keyed_item (rows p.child))) (sym names.seen)
 
-  rows_long : length (rows (source_at layouts index)) ≡ length ks
+  pub rows_long : length (rows (source_at layouts index)) ≡ length ks
   rows_long = ap length named_row ∙ (length-map (keys_in ks) (keyed_item (rows p.child)) ∙ length-map ks key_in)
 
   module _ (v : Option (List Bool)) (bits : List Bool) (slots : List Slot) (start len : ℕ) (same : length bits ≡ length slots) (marks : MarksNulls v (keyed_rows p)) (part : start + len ≤ length (rows (source_at layouts index))) where
@@ -301,3 +305,97 @@ module _ (layouts : List Layout) (values : List Slot) (index by : ℕ) (p : Keye
       let many : length (sliced ks start len) ≡ len = length-sliced ks start len part in
       let small = fitting_key greatest by k (get_or ks j Null) (subst (KeyFits greatest by) place (fits (j - start) Null (omega (arith, from, before, many)))) key in
       absurd (omega (arith, small, row.2, is, names.begins))
+
+-- what a bound array is, by the parts of a growable
+
+same_key_type : (a b : IntegerType) → physical.Dictionary a ≡ physical.Dictionary b → a ≡ b
+same_key_type a b same = cc
+
+-- a validity that marks the nulls of rows covers them
+pub marks_cover : (r : Option (Bor (List Bool))) (xs : List Slot) (k : ℕ) → MarksNulls (option_copied r) xs → k ≤ length xs → IfSome r (λ bits. k ≤ length bits.now)
+marks_cover None xs k marks within = tt
+marks_cover (Some bits) xs k marks within =
+    omega (arith, within, ap length marks, length-map xs is_valid)
+
+module _ {A : Type 0} (f : A → KeyedParts) (arrays : List A) (x : A) (key_type : IntegerType) (starts : List ℕ) (values : Layout) (bits : List Bool) (slots : List Slot) (len : ℕ) (t : ArrowType) (failed : Bool) (index : ℕ) (held : IsGrownDictionary key_type starts values bits slots len (map (λ a. keyed_layout (f a)) arrays) t failed) (bound : index < length (map (λ a. keyed_layout (f a)) arrays)) (is : x ≡ get_or arrays index x) where
+  pub in_arrays : index < length arrays
+  in_arrays = omega (arith, bound, length-map arrays (λ a. keyed_layout (f a)))
+
+  pub source : source_at (map (λ a. keyed_layout (f a)) arrays) index ≡ keyed_layout (f x)
+  source = source_is (λ a. keyed_layout (f a)) arrays index x in_arrays is
+
+  pub type_named : (f x).arrow_type ≡ t
+  type_named =
+      subst (λ l. type_of_layout l ≡ t) source (held.one_type index (flat (plain null) []) bound)
+
+  pub same_keys : (named : IntegerType) → physical_type_of (f x).arrow_type ≡ physical.Dictionary named → key_type ≡ named
+  same_keys named width =
+      same_key_type key_type named (sym held.kind.1 ∙ (ap physical_type_of (sym type_named) ∙ width))
+
+  pub greatest_named : greatest_key (f x).arrow_type ≡ greatest_number key_type
+  greatest_named =
+      greatest_of (f x).arrow_type key_type (ap physical_type_of type_named ∙ held.kind.1)
+
+  pub names_from : (by : ℕ) (ks : List Slot) → by ≡ get_or starts index by → AreKeys (length (rows (f x).child)) ks → keys_in ks ≡ (f x).keys → Names (map (λ a. keyed_layout (f a)) arrays) (rows values) index by (f x) ks
+  names_from by ks read keys seen =
+      record { joined = held.joined; bound = bound; source = source; begins = read ∙ (get_or_default_zero starts index by (omega (arith, bound, held.begun.count)) ∙ held.begun.each index bound); keys = keys; seen = seen }
+
+-- the count of the rows
+
+pub rows_counted : (values : List Slot) (bits : List Bool) (slots : List Slot) (len count : ℕ) → HoldsKeys bits slots len count → len ≡ length (dictionary_rows values bits slots)
+rows_counted values bits slots len count held =
+    sym (length-map (keys_in (mask bits slots)) (keyed_item values) ∙ (length-map (mask bits slots) key_in ∙ (length-mask bits slots (held.covered ∙ sym held.counted) ∙ held.counted)))
+
+-- rows that can be counted fit
+pub counted_fit : (t : ArrowType) (xs : List Slot) → shape_in t ≡ dictionary_shape → length xs < 2 ^ 64 → Fits t xs
+counted_fit (plain p) xs shape small = cc (plain_shape p)
+counted_fit (list form f) xs shape small = cc (list_shaped form)
+counted_fit (struct fs) xs shape small = cc
+counted_fit (union mode ids fs) xs shape small = cc
+counted_fit (dictionary keys ordered t) xs shape small = small
+counted_fit (extension name metadata t) xs shape small = counted_fit t xs shape small
+
+-- null rows behind others
+
+nulls_named : (values : List Slot) (n : ℕ) → dictionary_rows values (replicate n false) (replicate n zero_key) ≡ replicate n Null
+nulls_named values zero = refl
+nulls_named values (suc n) = λ i. Null ∷ nulls_named values n i
+
+no_keys : (count n : ℕ) → AreKeys count (mask (replicate n false) (replicate n zero_key))
+no_keys count zero = λ k d inside. absurd (omega (arith, inside))
+no_keys count (suc n) = cons (IsKey count) Null _ tt (no_keys count n)
+
+pub nulls_behind : (values : List Slot) (bits : List Bool) (slots : List Slot) (n : ℕ) → length bits ≡ length slots → dictionary_rows values (bits ++ replicate n false) (slots ++ replicate n zero_key) ≡ dictionary_rows values bits slots ++ replicate n Null
+nulls_behind values bits slots n same =
+    let split = appended_rows bits (replicate n false) slots (replicate n zero_key) _ same refl in
+    let both = map-append key_in (mask bits slots) (mask (replicate n false) (replicate n zero_key)) in
+    let all = map-append (keyed_item values) (keys_in (mask bits slots)) (keys_in (mask (replicate n false) (replicate n zero_key))) in
+    ap (λ ys. map (keyed_item values) (keys_in ys)) split ∙ (ap (map (keyed_item values)) both ∙ (all ∙ ap (λ ys. dictionary_rows values bits slots ++ ys) (nulls_named values n)))
+
+pub holds_nulls : (bits : List Bool) (slots : List Slot) (old new n count : ℕ) → new ≡ old + n → HoldsKeys bits slots old count → HoldsKeys (bits ++ replicate n false) (slots ++ replicate n zero_key) new count
+holds_nulls bits slots old new n count more held =
+    let split = appended_rows bits (replicate n false) slots (replicate n zero_key) _ (held.covered ∙ sym held.counted) refl in
+    record {
+      covered = omega (arith, length-append bits (replicate n false), length-replicate n false, held.covered, more);
+      counted = omega (arith, length-append slots (replicate n zero_key), length-replicate n zero_key, held.counted, more);
+      within = subst (AreKeys count) (sym split) (All-append (IsKey count) _ _ held.within (no_keys count n));
+    }
+
+-- where the values of one more array begin
+
+before_next : (layouts : List Layout) (i : ℕ) → i < length layouts → values_before (take (suc i) layouts) ≡ values_before (take i layouts) + length (rows (child_of (source_at layouts i)))
+before_next layouts i within =
+    let l = source_at layouts i in
+    let count = λ (m : Layout). length (rows (child_of m)) in
+    ap values_before (take-suc layouts i (flat (plain null) []) within) ∙ (sum_by-append count (take i layouts) (l ∷ []) ∙ ap (λ n. values_before (take i layouts) + n) (sum_by-cons count l [] ∙ omega arith))
+
+start_at : (layouts : List Layout) (starts : List ℕ) (start i j : ℕ) → length starts ≡ i → ((k : ℕ) → k < i → get_or starts k 0 ≡ values_before (take k layouts)) → start ≡ values_before (take i layouts) → (j ≡ i) ⊎ (j < i) → get_or (starts ++ start ∷ []) j 0 ≡ values_before (take j layouts)
+start_at layouts starts start i j long begun at (inl same) =
+    ap (λ k. get_or (starts ++ start ∷ []) k 0) (same ∙ sym long) ∙ (get_or-append_seam starts start [] 0 ∙ (at ∙ ap (λ k. values_before (take k layouts)) (sym same)))
+start_at layouts starts start i j long begun at (inr less) =
+    get_or_append_left starts (start ∷ []) 0 j (omega (arith, less, long)) ∙ begun j less
+
+pub starts_more : (layouts : List Layout) (starts : List ℕ) (start next i n : ℕ) → i < length layouts → n ≡ length (rows (child_of (source_at layouts i))) → next ≡ start + n → (length starts ≡ i) × ((j : ℕ) → j < i → get_or starts j 0 ≡ values_before (take j layouts)) × (start ≡ values_before (take i layouts)) → (length (starts ++ start ∷ []) ≡ i + 1) × ((j : ℕ) → j < i + 1 → get_or (starts ++ start ∷ []) j 0 ≡ values_before (take j layouts)) × (next ≡ values_before (take (i + 1) layouts))
+starts_more layouts starts start next i n within many more held =
+    let one : suc i ≡ i + 1 = omega arith in
+    (omega (arith, length-append starts (start ∷ []), held.0), λ j less. start_at layouts starts start i j held.0 held.1 held.2 (eq-or-lt_of_le (omega (arith, less))), omega (arith, more, held.2, many, before_next layouts i within, ap (λ k. values_before (take k layouts)) one))

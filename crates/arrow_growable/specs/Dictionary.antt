@@ -24,7 +24,7 @@ dictionary_rows values bits slots = map (keyed_item values) (keys_in (mask bits 
 -- where the values of each array begin
 pub record StartsAt (starts : List ℕ) (layouts : List Layout) : Type 0 where
   pub count : length starts ≡ length layouts
-  pub starts : (i : ℕ) → i < length layouts → slice_index starts i ≡ values_before (take i layouts)
+  pub each : (i : ℕ) → i < length layouts → slice_index starts i ≡ values_before (take i layouts)
 
 -- the bits and keys of one that has not failed: as many as it counts, and each key that is valid names a value
 pub record HoldsKeys (bits : List Bool) (slots : List Slot) (len count : ℕ) : Type 0 where
@@ -38,7 +38,7 @@ pub record IsGrownDictionary (key_type : IntegerType) (starts : List ℕ) (value
   pub one_type : All (λ l. type_of_layout l ≡ t) layouts
   pub child : type_of_layout values ≡ values_in t
   pub joined : rows values ≡ joined_values layouts
-  pub starts : StartsAt starts layouts
+  pub begun : StartsAt starts layouts
   pub holds : failed ≡ false → HoldsKeys bits slots len (length (rows values))
 
 -- none of these rows is crowded behind the arrays before its own: each key that is valid, grown by the values before its own, is at most the greatest of its type

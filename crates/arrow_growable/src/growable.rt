@@ -20,7 +20,7 @@ pub use arrow_flat_growable::growable::{
 };
 pub use bound::NestedArray;
 pub use dictionary::GrowableDictionary;
-pub use join::join;
+pub use join::join_arrays;
 pub use make::{is_growable, make_growable};
 pub use nested::GrowableNested;
 pub use typed::{GrowableFixedSizeList, GrowableList, GrowableMap, GrowableOf, GrowableStruct};

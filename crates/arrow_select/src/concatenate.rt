@@ -13,7 +13,7 @@ ghost use Rattle.arrow_select.specs.Refusals.{IsConcatenateRefusal};
 
 use crate::keys::show_all_no_keys;
 use arrow_arrays::array::AnyArray;
-use arrow_growable::growable::join;
+use arrow_growable::growable::join_arrays;
 use arrow_types::error::{ArgumentFault, Error};
 use std::alloc::Global;
 
@@ -47,7 +47,7 @@ pub fn concatenate(alloc: Global, arrays: &[&AnyArray]) -> Result<AnyArray, Erro
     }
     // An array of a type without dictionaries holds none.
     show_all_no_keys(arrays);
-    join(alloc, arrays)
+    join_arrays(alloc, arrays)
 }
 
 /// Whether all arrays are of the first one's type.

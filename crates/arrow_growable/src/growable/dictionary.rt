@@ -14,11 +14,11 @@ ghost use Rattle.arrow_arrays.specs.AnyKeys.{key_rows, key_type_of, keyed_of};
 ghost use Rattle.arrow_arrays.specs.Crowded.{Unjoined, child_of};
 ghost use Rattle.arrow_arrays.specs.KeyedParts.{AreKeys, keyed_layout, keyed_rows};
 ghost use Rattle.arrow_arrays.specs.Layout.{type_of_layout};
-ghost use Rattle.arrow_flat_growable.specs.Grown.{AreOfOneType, HasFailed, IsFailedOrMemory, bound_to, empty_over, first_type};
+ghost use Rattle.arrow_flat_growable.specs.Grown.{AreOfOneType, CannotHold, FitsItself, HasFailed, IsFailedOrMemory, IsRefusal, NamesRows, appended, bound_to, empty_over, first_type, named_rows};
 ghost use Rattle.arrow_growable.specs.Dictionary.{StartsAt, AreUncrowded, joined_values};
 ghost use Rattle.arrow_growable.specs.Growable.{IsGrowable};
 
-use crate::growable::join::join;
+use crate::growable::join::join_arrays;
 use crate::growable::{Growable, GrowableKeys, GrowableValidity};
 use arrow_arrays::array::{AnyArray, AnyKeys, DictionaryArray};
 use arrow_types::datatypes::DataType;
@@ -228,7 +228,7 @@ fn join_values(alloc: Global, arrays: &[&DictionaryArray]) -> Result<AnyArray, E
         return Ok(arrays[0].values().clone()?);
     }
     let values = values_of(alloc, arrays)?;
-    join(alloc, &values)
+    join_arrays(alloc, &values)
 }
 
 /// The values of each array.
@@ -276,8 +276,17 @@ fn dictionary_of(data_type: DataType, keys: AnyKeys, values: Box<AnyArray>) -> D
 impl<'a> Growable<'a> for GrowableDictionary<'a> {
     ghost state = { λ g. g };
 
+    /// The same as of each growable ([`Growable::extend`]), and more: `Ok` only where each key of these rows that is not
+    /// null, grown by the values of the arrays before its own, is at most the greatest of its type.
     fn extend(&mut self, index: usize, start: usize, len: usize) -> Result<(), Error>
+        requires { NamesRows self.old index start len }
+        ensures ok { OnOk result (self.new ≡ appended self.old (named_rows self.old index start len)) }
+        ensures fits { OnOk result (FitsItself self.new) }
         ensures keys { OnOk result (AreUncrowded self.old.sources index start len) }
+        ensures err { OnErr result (HasFailed self.old self.new) }
+        ensures failed { (result ≡ Err Error.Failed) ↔ (self.old.failed ≡ true) }
+        ensures overflow { result ≡ Err Error.Overflow → CannotHold self.old index start len }
+        ensures others { IfErr result IsRefusal }
     {
         if self.has_failed {
             return Err(Error::Failed);

@@ -27,7 +27,7 @@ use std::alloc::Global;
 /// `Overflow` only where the rows do not fit the type, one of them is crowded, or the dictionaries can't be joined;
 /// `OutOfMemory` where memory is refused.
 #[cycle(make)]
-pub fn join(alloc: Global, arrays: &[&AnyArray]) -> Result<AnyArray, Error>
+pub fn join_arrays(alloc: Global, arrays: &[&AnyArray]) -> Result<AnyArray, Error>
     requires some { 0 < length arrays.now }
     requires one_type { AreOfOneType (layouts_in arrays.now) }
     requires growable { IsGrowable (first_type (layouts_in arrays.now)) }

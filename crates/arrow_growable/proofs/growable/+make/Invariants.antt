@@ -28,8 +28,8 @@ decreases-dictionary::GrowableDictionary::new l =
 abbrev pub decreases-dictionary::join_values : goal.decreases-dictionary::join_values
 decreases-dictionary::join_values l = 4 * type_depth (first_type (map (λ r. keyed_layout r.now) l.arrays.now))
 
-abbrev pub decreases-join::join : goal.decreases-join::join
-decreases-join::join l = 4 * type_depth (first_type (layouts_in l.arrays.now)) + 3
+abbrev pub decreases-join::join_arrays : goal.decreases-join::join_arrays
+decreases-join::join_arrays l = 4 * type_depth (first_type (layouts_in l.arrays.now)) + 3
 
 -- the children so far are bound to those of the arrays, and have their types
 abbrev pub invariant-nested::make_children-loop-f : goal.invariant-nested::make_children-loop-f

@@ -25,21 +25,21 @@ returns-then-not-have_one_type-clause-types c =
     let read = slice_get-map_read (λ (array : Bor _). any_array_type array.now) arrays 0 c.in-Some.first.now first.3.0 first.1 in
     (λ _. (any_array_type c.in-Some.first.now.now, Contains-read types 0 _ read within, c.if-not-have_one_type.ensures), λ _. refl)
 
-pub join-requires-clause-one_type : goal.join-requires-clause-one_type
-join-requires-clause-one_type c =
+pub join_arrays-requires-clause-one_type : goal.join_arrays-requires-clause-one_type
+join_arrays-requires-clause-one_type c =
     of_one_type (λ (a : Bor _). layout_of a.now) c.args.arrays.now _ c.if-not-have_one_type.ensures
 
-pub join-requires-clause-growable : goal.join-requires-clause-growable
-join-requires-clause-growable c =
+pub join_arrays-requires-clause-growable : goal.join_arrays-requires-clause-growable
+join_arrays-requires-clause-growable c =
     first_has (λ (a : Bor _). layout_of a.now) IsGrowable c.args.arrays.now c.in-Some.ensures.item.3.0 c.requires.growable
 
 pub returns-clause-array_type : goal.returns-clause-array_type
 returns-clause-array_type c =
-    IfOk-weaker c.join.result _ _ (λ all same. all_as_first (λ (a : Bor _). layout_of a.now) c.args.arrays.now _ (λ t. t ≡ any_array_type all) c.if-not-have_one_type.ensures (sym same)) c.join.ensures.array_type
+    IfOk-weaker c.join_arrays.result _ _ (λ all same. all_as_first (λ (a : Bor _). layout_of a.now) c.args.arrays.now _ (λ t. t ≡ any_array_type all) c.if-not-have_one_type.ensures (sym same)) c.join_arrays.ensures.array_type
 
 pub returns-clause-rows : goal.returns-clause-rows
 returns-clause-rows c =
-    IfOk-weaker c.join.result _ _ (λ all same. same ∙ ap joined (map_twice rows (λ (a : Bor _). layout_of a.now) c.args.arrays.now)) c.join.ensures.rows
+    IfOk-weaker c.join_arrays.result _ _ (λ all same. same ∙ ap joined (map_twice rows (λ (a : Bor _). layout_of a.now) c.args.arrays.now)) c.join_arrays.ensures.rows
 
 pub returns-clause-no_keys : goal.returns-clause-no_keys
 returns-clause-no_keys c overflows =
@@ -47,4 +47,4 @@ returns-clause-no_keys c overflows =
     let t = first_type (map (λ (a : Bor _). layout_of a.now) arrays) in
     let types = of_one_type (λ (a : Bor _). layout_of a.now) arrays _ c.if-not-have_one_type.ensures in
     let all = ap joined (map_twice rows (λ (a : Bor _). layout_of a.now) arrays) in
-    all_as_first (λ (a : Bor _). layout_of a.now) arrays _ (λ t. HasNoDictionary t → Fits t (joined (rows_in arrays)) → ⊥) c.if-not-have_one_type.ensures (λ none fits. rows_alone (λ (a : Bor _). a.now) arrays c.show_all_no_keys.ensures types (c.join.ensures.overflow overflows) none (subst (Fits t) (sym all) fits))
+    all_as_first (λ (a : Bor _). layout_of a.now) arrays _ (λ t. HasNoDictionary t → Fits t (joined (rows_in arrays)) → ⊥) c.if-not-have_one_type.ensures (λ none fits. rows_alone (λ (a : Bor _). a.now) arrays c.show_all_no_keys.ensures types (c.join_arrays.ensures.overflow overflows) none (subst (Fits t) (sym all) fits))

@@ -1,0 +1,105 @@
+use Rattle.std.proofs.Common.{arith, ◌≡◌, ◌+◌, ◌++◌, ◌<◌, Bor, Err, Some, false, inl, inr, length, map, get_or, ap, sym, subst, ◌∙◌, rules}
+use Rattle.std.proofs.lemmas.List.{length-append, length-map}
+use Rattle.std.specs.Prelude.{option_copied}
+use Rattle.std.specs.Vec.{vec_len}
+use Rattle.arrow_types.specs.declared.datatypes.physical_type.PhysicalType.TheVariants as physical
+use Rattle.arrow_types.specs.Greatest.{greatest_number}
+use Rattle.arrow_flat.specs.Faults.{IsCarriedAs}
+use Rattle.arrow_types.specs.TypeOf.{type_of}
+use Rattle.arrow_memory.specs.Sliced.{sliced}
+use Rattle.arrow_memory.proofs.SlicedLemmas.{length-sliced}
+use Rattle.arrow_arrays.specs.Any.{any_array_rows}
+use Rattle.arrow_arrays.specs.AnyKeys.{key_rows}
+use Rattle.arrow_arrays.specs.KeyedParts.{keyed_layout, keyed_rows}
+use Rattle.arrow_arrays.specs.Layout.{rows}
+use Rattle.arrow_arrays.proofs.ShapeLemmas.{shape_of}
+use Rattle.arrow_flat_growable.specs.Grown.{CannotHold, NamesRows, source_at}
+use Rattle.arrow_flat_growable.specs.Keys.{key_slots}
+use Rattle.arrow_flat_growable.proofs.FlatLemmas.{too_many}
+use Rattle.arrow_flat_growable.proofs.ResultLemmas.{passed_on}
+use Rattle.arrow_growable.specs.Dictionary.{AreUncrowded, HoldsKeys, dictionary_rows}
+use Rattle.arrow_growable.proofs.DictionaryLemmas.{Names, are_keys_in, counted_fit, fits_uncrowded, greatest_named, holds_named, in_arrays, marks_cover, names_from, passes_crowded, rows_counted, rows_long, rows_named, same_keys, source}
+use Rattle.arrow_growable.proofs.growable.dictionary.GrowableDictionaryGrowable.extend.Goals as goal
+
+pub index-array-requires : goal.index-array-requires
+index-array-requires c =
+    let there = subst (λ h. NamesRows h c.args.index c.args.start c.args.len) (sym c.self.view_is) c.requires in
+    let long : length c.self.inside.arrays.items ≡ vec_len c.self.inside.arrays = search rules in
+    omega (arith, there.0, long, length-map c.self.inside.arrays.items (λ (r : Bor _). keyed_layout r.now))
+
+pub extend_from-requires : goal.extend_from-requires
+extend_from-requires c =
+    let there = subst (λ h. NamesRows h c.args.index c.args.start c.args.len) (sym c.self.view_is) c.requires in
+    let at = source (λ (r : Bor _). r.now) c.self.inside.arrays.items c.index-array.result.now _ _ _ _ _ _ _ _ c.args.index c.self.invariant there.0 c.index-array.ensures in
+    marks_cover c.validity.result (keyed_rows c.index-array.result.now.now) (c.args.start + c.args.len) c.validity.ensures.marks (omega (arith, there.1, ap (λ l. length (rows l)) at))
+
+pub index-requires : goal.index-requires
+index-requires c =
+    let there = subst (λ h. NamesRows h c.args.index c.args.start c.args.len) (sym c.self.view_is) c.requires in
+    let long : length c.self.inside.starts.items ≡ vec_len c.self.inside.starts = search rules in
+    omega (arith, there.0, long, c.self.invariant.begun.count)
+
+pub extend-requires-clause-same : goal.extend-requires-clause-same
+extend-requires-clause-same c =
+    let there = subst (λ h. NamesRows h c.args.index c.args.start c.args.len) (sym c.self.view_is) c.requires in
+    same_keys (λ (r : Bor _). r.now) c.self.inside.arrays.items c.index-array.result.now _ _ _ _ _ _ _ _ c.args.index c.self.invariant there.0 c.index-array.ensures _ c.keys-keys.ensures.width
+
+pub returns-in_default-clause-overflow : goal.returns-in_default-clause-overflow
+returns-in_default-clause-overflow c overflows =
+    let there = subst (λ h. NamesRows h c.args.index c.args.start c.args.len) (sym c.self.view_is) c.requires in
+    let before = dictionary_rows (any_array_rows c.self.inside.values) c.self.inside.validity (key_slots c.self.inside.keys) in
+    let layouts = map (λ (r : Bor _). keyed_layout r.now) c.self.inside.arrays.items in
+    let named = sliced (rows (source_at layouts c.args.index)) c.args.start c.args.len in
+    subst (λ h. CannotHold h c.args.index c.args.start c.args.len) c.self.view_is (inl (λ fits. too_many (type_of c.self.inside.data_type) before named c.self.inside.len c.args.len fits (rows_counted _ _ _ _ _ (c.self.invariant.holds c.if-self.false)) (length-sliced _ c.args.start c.args.len there.1) (omega (arith, c.in_default.ensures))))
+
+pub returns-in_err-extend-clause-overflow : goal.returns-in_err-extend-clause-overflow
+returns-in_err-extend-clause-overflow c overflows =
+    let there = subst (λ h. NamesRows h c.args.index c.args.start c.args.len) (sym c.self.view_is) c.requires in
+    let arrays = c.self.inside.arrays.items in
+    let inv = c.self.invariant in
+    let names = names_from (λ (r : Bor _). r.now) arrays c.index-array.result.now _ _ _ _ _ _ _ _ c.args.index inv there.0 c.index-array.ensures c.index.result.now (key_rows c.keys-keys.result.now) c.index.ensures c.keys-keys.ensures.within c.keys-keys.ensures.same in
+    let greatest = greatest_named (λ (r : Bor _). r.now) arrays c.index-array.result.now _ _ _ _ _ _ _ _ c.args.index inv there.0 c.index-array.ensures in
+    let same = same_keys (λ (r : Bor _). r.now) arrays c.index-array.result.now _ _ _ _ _ _ _ _ c.args.index inv there.0 c.index-array.ensures _ c.keys-keys.ensures.width in
+    let some = c.in_err-extend.ensures.overflow (ap Err (passed_on c.from_residual-in_err-extend.result _ _ c.from_residual-in_err-extend.ensures.1 overflows)) in
+    subst (λ h. CannotHold h c.args.index c.args.start c.args.len) c.self.view_is (inr (passes_crowded _ _ c.args.index _ _ _ names _ (greatest ∙ ap greatest_number same) c.args.start c.args.len (omega (arith, there.1, rows_long _ _ c.args.index _ _ _ names)) some))
+
+named : (c : goal.After-self-3-1) → Names (map (λ (r : Bor _). keyed_layout r.now) c.self.inside.arrays.items) (any_array_rows c.self.inside.values) c.args.index c.index.result.now c.index-array.result.now.now (key_rows c.keys-keys.result.now)
+named c =
+    let there = subst (λ h. NamesRows h c.args.index c.args.start c.args.len) (sym c.self.view_is) c.requires in
+    names_from (λ (r : Bor _). r.now) c.self.inside.arrays.items c.index-array.result.now _ _ _ _ _ _ _ _ c.args.index c.self.invariant there.0 c.index-array.ensures c.index.result.now (key_rows c.keys-keys.result.now) c.index.ensures c.keys-keys.ensures.within c.keys-keys.ensures.same
+
+held : (c : goal.After-self-3-1) → HoldsKeys c.extend_from.new.self (key_slots c.extend.new.self) c.in-Some.total (length (any_array_rows c.self.inside.values))
+held c =
+    let there = subst (λ h. NamesRows h c.args.index c.args.start c.args.len) (sym c.self.view_is) c.requires in
+    let was = c.self.invariant.holds c.if-self.false in
+    let holds = holds_named _ _ c.args.index _ _ _ (named c) (option_copied c.validity.result) c.self.inside.validity (key_slots c.self.inside.keys) c.args.start c.args.len (was.covered ∙ sym was.counted) c.validity.ensures.marks there.1 c.self.inside.len c.in-Some.total (omega (arith, c.in-Some.ensures)) was in
+    rw (c.in_ok-extend_from.ensures.ok, c.in_ok-extend.ensures.ok) holds
+
+pub invariant_of-self-2 : goal.invariant_of-self-2
+invariant_of-self-2 c =
+    let inv = c.self.invariant in
+    record { kind = subst (λ k. IsCarriedAs (physical.Dictionary k) (type_of c.self.inside.data_type)) (sym c.in_ok-extend.ensures.same) inv.kind; one_type = inv.one_type; child = inv.child; joined = inv.joined; begun = inv.begun; holds = λ well. held c }
+
+pub returns-clause-ok : goal.returns-clause-ok
+returns-clause-ok c =
+    let there = subst (λ h. NamesRows h c.args.index c.args.start c.args.len) (sym c.self.view_is) c.requires in
+    let layouts = map (λ (r : Bor _). keyed_layout r.now) c.self.inside.arrays.items in
+    let values = any_array_rows c.self.inside.values in
+    let was = c.self.invariant.holds c.if-self.false in
+    let grown = (λ i. dictionary_rows values (c.in_ok-extend_from.ensures.ok i) (c.in_ok-extend.ensures.ok i)) ∙ rows_named _ _ c.args.index _ _ _ (named c) (option_copied c.validity.result) c.self.inside.validity (key_slots c.self.inside.keys) c.args.start c.args.len (was.covered ∙ sym was.counted) c.validity.ensures.marks there.1 in
+    let many = length-sliced (rows (source_at layouts c.args.index)) c.args.start c.args.len there.1 in
+    let count : c.in-Some.total ≡ c.self.inside.len + length (sliced (rows (source_at layouts c.args.index)) c.args.start c.args.len) = omega (arith, c.in-Some.ensures, many) in
+    rw (← c.self.view_is) (λ i. record { arrow_type = type_of c.self.inside.data_type; sources = Some layouts; rows = grown i; count = count i; failed = false })
+
+pub returns-clause-fits : goal.returns-clause-fits
+returns-clause-fits c =
+    let many = rows_counted (any_array_rows c.self.inside.values) _ _ _ _ (held c) in
+    counted_fit (type_of c.self.inside.data_type) _ (ap shape_of c.self.invariant.kind.1) (omega (arith, many, c.in-Some.ensures))
+
+pub returns-clause-keys : goal.returns-clause-keys
+returns-clause-keys c =
+    let there = subst (λ h. NamesRows h c.args.index c.args.start c.args.len) (sym c.self.view_is) c.requires in
+    let arrays = c.self.inside.arrays.items in
+    let greatest = greatest_named (λ (r : Bor _). r.now) arrays c.index-array.result.now _ _ _ _ _ _ _ _ c.args.index c.self.invariant there.0 c.index-array.ensures in
+    let same = same_keys (λ (r : Bor _). r.now) arrays c.index-array.result.now _ _ _ _ _ _ _ _ c.args.index c.self.invariant there.0 c.index-array.ensures _ c.keys-keys.ensures.width in
+    subst (λ h. AreUncrowded h.sources c.args.index c.args.start c.args.len) c.self.view_is (fits_uncrowded _ _ c.args.index _ _ _ (named c) _ (greatest ∙ ap greatest_number same) c.args.start c.args.len (omega (arith, there.1, rows_long _ _ c.args.index _ _ _ (named c))) c.in_ok-extend.ensures.fits)
