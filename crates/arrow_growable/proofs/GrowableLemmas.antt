@@ -11,6 +11,7 @@ use Rattle.arrow_types.specs.declared.datatypes.Field.{Field}
 use Rattle.arrow_arrays.specs.Any.{Kind, dictionary_kind, fixed_size_list_kind, kind_in, list_kind, map_kind, struct_kind}
 use Rattle.arrow_flat.specs.DictionaryScalar.{values_in}
 use Rattle.arrow_arrays.proofs.ShapeLemmas.{dictionary_shape, list_shape, list_shaped, plain_shape, shape_in, shape_of}
+use Rattle.arrow_arrays.specs.TypeParts.{IsFlatType}
 use Rattle.arrow_growable.specs.Form.{child_type, child_types}
 use Rattle.arrow_growable.specs.Growable.{AreGrowable, IsGrowable}
 use Rattle.arrow_growable.specs.Lists.{IsListType}
@@ -149,23 +150,23 @@ may_grow (union mode ids fs) grows = grows
 may_grow (dictionary keys ordered t) grows = tt
 may_grow (extension name metadata t) grows = may_grow t grows
 
--- those that are none of these have children
-pub others_nest : (p : PhysicalType) → MayGrow p → (p ≡ physical.Null → ⊥) → (p ≡ physical.Boolean → ⊥) → ((x : PrimitiveType) → p ≡ physical.Primitive x → ⊥) → (p ≡ physical.Binary → ⊥) → (p ≡ physical.FixedSizeBinary → ⊥) → (p ≡ physical.LargeBinary → ⊥) → (p ≡ physical.Utf8 → ⊥) → (p ≡ physical.LargeUtf8 → ⊥) → ((k : IntegerType) → p ≡ physical.Dictionary k → ⊥) → IsNestedType p
-others_nest physical.Null may n b x y f z u v d = n refl
-others_nest physical.Boolean may n b x y f z u v d = b refl
-others_nest (physical.Primitive e) may n b x y f z u v d = x e refl
-others_nest physical.Binary may n b x y f z u v d = y refl
-others_nest physical.FixedSizeBinary may n b x y f z u v d = f refl
-others_nest physical.LargeBinary may n b x y f z u v d = z refl
-others_nest physical.Utf8 may n b x y f z u v d = u refl
-others_nest physical.LargeUtf8 may n b x y f z u v d = v refl
-others_nest physical.List may n b x y f z u v d = tt
-others_nest physical.LargeList may n b x y f z u v d = tt
-others_nest physical.FixedSizeList may n b x y f z u v d = tt
-others_nest physical.Map may n b x y f z u v d = tt
-others_nest physical.Struct may n b x y f z u v d = tt
-others_nest (physical.Dictionary k) may n b x y f z u v d = d k refl
-others_nest _ may n b x y f z u v d = may
+-- those that are none of these have no children
+pub others_flat : (p : PhysicalType) → MayGrow p → (p ≡ physical.List → ⊥) → (p ≡ physical.FixedSizeList → ⊥) → (p ≡ physical.LargeList → ⊥) → (p ≡ physical.Struct → ⊥) → (p ≡ physical.Map → ⊥) → ((k : IntegerType) → p ≡ physical.Dictionary k → ⊥) → IsFlatType p
+others_flat physical.List may l f g s m d = l refl
+others_flat physical.FixedSizeList may l f g s m d = f refl
+others_flat physical.LargeList may l f g s m d = g refl
+others_flat physical.Struct may l f g s m d = s refl
+others_flat physical.Map may l f g s m d = m refl
+others_flat (physical.Dictionary k) may l f g s m d = d k refl
+others_flat physical.Null may l f g s m d = tt
+others_flat physical.Boolean may l f g s m d = tt
+others_flat (physical.Primitive e) may l f g s m d = tt
+others_flat physical.Binary may l f g s m d = tt
+others_flat physical.LargeBinary may l f g s m d = tt
+others_flat physical.Utf8 may l f g s m d = tt
+others_flat physical.LargeUtf8 may l f g s m d = tt
+others_flat physical.FixedSizeBinary may l f g s m d = tt
+others_flat _ may l f g s m d = may
 
 -- the values of a dictionary
 pub values_grow : (t : ArrowType) → IsGrowable t → shape_in t ≡ dictionary_shape → IsGrowable (values_in t)

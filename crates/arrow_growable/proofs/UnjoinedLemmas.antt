@@ -1,19 +1,29 @@
 -- Dictionaries of a child that can't be joined: neither can those of the arrays that hold it.
-use Rattle.std.proofs.Common.{arith, ◌≡◌, ◌+◌, ◌<◌, ◌⊎◌, inl, inr, ℕ, zero, suc, List, [], ◌∷◌, ◌++◌, length, map, take, refl, ap, sym, subst, ◌∙◌, append_assoc}
+use Rattle.std.proofs.Common.{arith, ◌≡◌, ◌+◌, ◌<◌, ◌⊎◌, inl, inr, ℕ, zero, suc, List, [], ◌∷◌, ◌++◌, length, map, take, get_or, refl, ap, sym, subst, ◌∙◌, append_assoc}
 use Rattle.std.specs.Prelude.{slice_index_or}
 use Rattle.std.specs.List.{All}
-use Rattle.std.proofs.lemmas.List.{append-nil}
+use Rattle.std.proofs.lemmas.List.{append-nil, length-map}
+use Rattle.std.proofs.lemmas.List.Elements.{All-cons}
+use Rattle.arrow_types.specs.ArrowType.{ArrowType}
+use Rattle.arrow_types.specs.Carried.{IsCarried}
 use Rattle.arrow_types.specs.Fits.{Fits}
+use Rattle.arrow_types.specs.Physical.{physical_type_of}
 use Rattle.arrow_types.specs.Rows.{joined}
+use Rattle.arrow_flat.specs.DictionaryScalar.{values_in}
+use Rattle.arrow_arrays.specs.Any.{dictionary_kind, kind_in}
+use Rattle.arrow_arrays.specs.TypeDepth.{type_depth}
+use Rattle.arrow_arrays.proofs.ShapeLemmas.{dictionary_child}
 use Rattle.arrow_arrays.specs.Crowded.{CrowdedAmong, CrowdedRow, Unjoined, UnjoinedBy, UnjoinedPart, child_at, child_of}
 use Rattle.arrow_arrays.specs.KeyedParts.{KeyedParts, keyed_layout}
 use Rattle.arrow_arrays.specs.Layout.{Layout, Layouts, listed, fixed, fielded, no_layouts, more_layouts, from_layouts, rows, type_of_layout}
-use Rattle.arrow_flat_growable.specs.Grown.{source_at}
+use Rattle.arrow_flat_growable.specs.Grown.{AreOfOneType, first_type, source_at}
+use Rattle.arrow_flat_growable.proofs.FlatLemmas.{first_is}
 use Rattle.arrow_growable.specs.Form.{Form, by_offsets, by_size, by_fields}
-use Rattle.arrow_growable.specs.Join.{CannotJoin}
+use Rattle.arrow_growable.specs.Join.{CannotAppendAll, CannotJoin}
 use Rattle.arrow_growable.specs.Source.{IsOfForm, no_child, nth_child}
 use Rattle.arrow_growable.proofs.CrowdLemmas.{field_child, listed_child, same_map, sized_child}
-use Rattle.arrow_growable.proofs.MakeLemmas.{map_twice}
+use Rattle.arrow_growable.proofs.GrowableLemmas.{shape_of_dictionaries}
+use Rattle.arrow_growable.proofs.MakeLemmas.{first_type_of, map_twice, one_type_of}
 
 -- a field of structs, of those from field g on
 part_unjoined : (cs : Layouts) (all : List Layout) (g f h : ℕ) → h ≡ g + f → UnjoinedBy (slice_index_or (from_layouts cs) f no_child) (map (child_at h) all) → UnjoinedPart cs g all
@@ -53,6 +63,33 @@ values_unjoined f (a ∷ arrays) refused some =
       | inl over ↦ inl (subst (λ xss. Fits t (joined xss) → ⊥) (map_twice rows child_of layouts) over)
       | inr others ↦ inr others
     ]
+
+-- rows that can't be appended can't be joined
+pub cannot_join : (layouts : List Layout) → CannotAppendAll layouts → CannotJoin layouts
+cannot_join layouts (inl over) = inl over
+cannot_join layouts (inr crowded) = inr (inl crowded)
+
+child_types_are : {A : Type 0} (f : A → KeyedParts) (t : ArrowType) (arrays : List A) → All (λ a. type_of_layout (f a).child ≡ values_in (f a).arrow_type) arrays → All (λ l. type_of_layout l ≡ t) (map (λ a. keyed_layout (f a)) arrays) → All (λ l. type_of_layout l ≡ values_in t) (map child_of (map (λ a. keyed_layout (f a)) arrays))
+child_types_are f t [] typed one = λ k d within. absurd (omega (arith, within))
+child_types_are f t (a ∷ arrays) typed one =
+    All-cons (λ l. type_of_layout l ≡ values_in t) (f a).child (map child_of (map (λ b. keyed_layout (f b)) arrays)) (typed 0 a (omega arith) ∙ ap values_in (one 0 (keyed_layout (f a)) (omega arith))) (child_types_are f t arrays (λ k d within. typed (suc k) d (omega (arith, within))) (λ k d within. one (suc k) d (omega (arith, within))))
+
+-- the values of dictionaries of one type, beside one another
+pub record AreValues (t : ArrowType) (values : List Layout) : Type 0 where
+  pub one_type : AreOfOneType values
+  pub first : first_type values ≡ values_in t
+  pub some : 0 < length values
+  pub less_deep : type_depth (values_in t) < type_depth t
+
+pub values_are : {A : Type 0} (f : A → KeyedParts) (arrays : List A) (values : List Layout) (x : A) → values ≡ map child_of (map (λ a. keyed_layout (f a)) arrays) → 0 < length arrays → x ≡ get_or arrays 0 x → IsCarried (f x).arrow_type → kind_in (physical_type_of (f x).arrow_type) ≡ dictionary_kind → All (λ a. type_of_layout (f a).child ≡ values_in (f a).arrow_type) arrays → AreOfOneType (map (λ a. keyed_layout (f a)) arrays) → AreValues (first_type (map (λ a. keyed_layout (f a)) arrays)) values
+values_are f arrays values x is some first carried kind typed one =
+    let layouts = map (λ a. keyed_layout (f a)) arrays in
+    let t = first_type layouts in
+    let here : t ≡ (f x).arrow_type = first_is (λ a. keyed_layout (f a)) arrays x some first in
+    let all = subst (All (λ l. type_of_layout l ≡ values_in t)) (sym is) (child_types_are f t arrays typed one) in
+    let many : 0 < length values = omega (arith, some, ap length is, length-map layouts child_of, length-map arrays (λ a. keyed_layout (f a))) in
+    let shape = shape_of_dictionaries (physical_type_of t) (ap (λ u. kind_in (physical_type_of u)) here ∙ kind) in
+    record { one_type = one_type_of (values_in t) values many all; first = first_type_of (values_in t) values many all; some = many; less_deep = (dictionary_child t (subst IsCarried (sym here) carried) shape).1 }
 
 -- some row of the arrays is crowded
 pub crowded_among : (before layouts : List Layout) (i j : ℕ) → i < length layouts → j < length (rows (source_at layouts i)) → CrowdedRow (before ++ take i layouts) (source_at layouts i) j → CrowdedAmong before layouts

@@ -15,11 +15,6 @@ use Rattle.arrow_flat_growable.specs.Grown.{AreOfOneType, first_type}
 pub Contains-read : {A : Type 0} (xs : List A) (i : ℕ) (x : A) → slice_get xs i ≡ Some x → i < length xs → Contains xs x
 Contains-read xs i x read within = (i, within, get_or_from_slice_get xs i x x read)
 
--- what holds of the type of each holds of the first type
-pub first_has : {A : Type 0} (f : A → Layout) (P : ArrowType → Type 0) (arrays : List A) → 0 < length arrays → All (λ x. P (type_of_layout (f x))) arrays → P (first_type (map f arrays))
-first_has f P [] some held = absurd (omega (arith, some))
-first_has f P (x ∷ arrays) some held = held 0 x (omega arith)
-
 -- the types of all are one where each is the same
 pub of_one_type : {A : Type 0} (f : A → Layout) (arrays : List A) (t : ArrowType) → All (λ u. u ≡ t) (map (λ x. type_of_layout (f x)) arrays) → AreOfOneType (map f arrays)
 of_one_type f [] t same k d within = absurd (omega (arith, within))

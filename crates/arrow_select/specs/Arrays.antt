@@ -5,7 +5,6 @@ use Rattle.arrow_types.specs.ArrowType.{ArrowType}
 use Rattle.arrow_types.specs.Slot.{Slot}
 use Rattle.arrow_arrays.specs.Any.{any_array_type, any_array_rows}
 use Rattle.arrow_arrays.specs.declared.array.any.AnyArray.{AnyArray}
-use Rattle.arrow_growable.specs.Growable.{IsGrowable}
 
 -- the types and the rows of borrowed arrays
 abbrev pub types_in : List (Bor AnyArray) → List ArrowType
@@ -13,10 +12,6 @@ types_in = map (λ array. any_array_type array.now)
 
 abbrev pub rows_in : List (Bor AnyArray) → List (List Slot)
 rows_in = map (λ array. any_array_rows array.now)
-
--- an array of a type whose arrays can grow
-abbrev pub CanGrow : AnyArray → Type 0
-CanGrow array = IsGrowable (any_array_type array)
 
 -- some type is not this one
 abbrev pub HasOther : ArrowType → List ArrowType → Type 0

@@ -7,7 +7,7 @@ ghost use Rattle.arrow_types.specs.Fits.{Fits};
 ghost use Rattle.arrow_types.specs.Rows.{joined};
 ghost use Rattle.arrow_arrays.specs.Any.{any_array_type, any_array_rows, layouts_in};
 ghost use Rattle.arrow_growable.specs.Join.{CannotJoin};
-ghost use Rattle.arrow_select.specs.Arrays.{CanGrow, HasOther, HasTwo, rows_in, types_in};
+ghost use Rattle.arrow_select.specs.Arrays.{HasOther, HasTwo, rows_in, types_in};
 ghost use Rattle.arrow_select.specs.Keys.{HasNoDictionary};
 ghost use Rattle.arrow_select.specs.Refusals.{IsConcatenateRefusal};
 
@@ -19,9 +19,6 @@ use std::alloc::Global;
 
 /// The rows of all arrays, one array behind the other, in an array of their data type.
 ///
-/// # Requires
-/// Arrays of each data type can grow ([`arrow_growable::growable::is_growable`]).
-///
 /// # Errors
 /// `ConcatenateEmpty` of no array, `ConcatenateTypes` where two data types differ; then `Overflow` where
 /// the rows do not fit the type, one of them is crowded, or dictionaries in the arrays can't be joined, and of types
@@ -29,7 +26,6 @@ use std::alloc::Global;
 ///
 /// Source: arrow2's `concatenate`.
 pub fn concatenate(alloc: Global, arrays: &[&AnyArray]) -> Result<AnyArray, Error>
-    requires growable { All (λ array. CanGrow array.now) arrays.now }
     ensures none { (result ≡ Err (Error.InvalidArgumentError ArgumentFault.ConcatenateEmpty)) ↔ (arrays.now ≡ []) }
     ensures types { (result ≡ Err (Error.InvalidArgumentError ArgumentFault.ConcatenateTypes)) ↔ HasTwo (types_in arrays.now) }
     ensures array_type { IfOk result (λ all. All (λ t. t ≡ any_array_type all) (types_in arrays.now)) }

@@ -7,7 +7,6 @@ ghost use Rattle.arrow_types.specs.Rows.{mask_of, select};
 ghost use Rattle.arrow_arrays.specs.Any.{any_array_type, any_array_rows, layout_of};
 ghost use Rattle.arrow_flat_growable.specs.Grown.{bound_to};
 ghost use Rattle.arrow_flat.specs.Parts.{boolean_rows};
-ghost use Rattle.arrow_select.specs.Arrays.{CanGrow};
 ghost use Rattle.arrow_growable.specs.Growing.{HasAppended};
 ghost use Rattle.arrow_memory.specs.Grown.{IsGrowthError};
 
@@ -21,15 +20,13 @@ use std::alloc::Global;
 /// predicate counts as false, whatever is stored beneath it.
 ///
 /// # Requires
-/// The predicate has as many rows as the array, and arrays of its data type can grow
-/// ([`arrow_growable::growable::is_growable`]).
+/// The predicate has as many rows as the array.
 ///
 /// # Errors
 /// `Overflow` where the rows do not fit the type, and `OutOfMemory` where memory is refused.
 ///
 /// Source: arrow2's `filter`.
 pub fn filter(alloc: Global, array: &AnyArray, filter: &BooleanArray) -> Result<AnyArray, Error>
-    requires growable { CanGrow array.now }
     requires lengths { length (boolean_rows filter.now) ≡ length (any_array_rows array.now) }
     ensures array_type { IfOk result (λ kept. any_array_type kept ≡ any_array_type array.now) }
     ensures rows { IfOk result (λ kept. any_array_rows kept ≡ select (mask_of (boolean_rows filter.now)) (any_array_rows array.now)) }

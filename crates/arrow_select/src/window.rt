@@ -7,7 +7,6 @@ ghost use Rattle.arrow_types.specs.Fits.{Fits};
 ghost use Rattle.arrow_types.specs.Rows.{shifted};
 ghost use Rattle.arrow_arrays.specs.Any.{any_array_type, any_array_rows, layout_of};
 ghost use Rattle.arrow_flat_growable.specs.Grown.{bound_to};
-ghost use Rattle.arrow_select.specs.Arrays.{CanGrow};
 ghost use Rattle.arrow_growable.specs.Growing.{HasAppended};
 ghost use Rattle.arrow_select.specs.Growing.{between};
 ghost use Rattle.arrow_memory.specs.Grown.{IsGrowthError};
@@ -22,16 +21,12 @@ use std::alloc::Global;
 /// slots and then all rows but the last ones; else all rows but the first ones, and then the null
 /// slots.
 ///
-/// # Requires
-/// Arrays of the data type can grow ([`arrow_growable::growable::is_growable`]).
-///
 /// # Errors
 /// `ShiftOffset` where the offset is the least number or passes the count of rows, either way; then
 /// `Overflow` where the rows do not fit the type, and `OutOfMemory` where memory is refused.
 ///
 /// Source: arrow2's `shift`.
 pub fn shift(alloc: Global, array: &AnyArray, offset: i64) -> Result<AnyArray, Error>
-    requires growable { CanGrow array.now }
     ensures passes { (result ≡ Err (Error.InvalidArgumentError ArgumentFault.ShiftOffset)) ↔ PassesLength offset (length (any_array_rows array.now)) }
     ensures array_type { IfOk result (λ moved. any_array_type moved ≡ any_array_type array.now) }
     ensures rows { IfOk result (λ moved. any_array_rows moved ≡ shifted (any_array_rows array.now) offset (any_array_type array.now)) }

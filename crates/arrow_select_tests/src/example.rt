@@ -1,8 +1,5 @@
 //! The example of the front page.
 
-ghost use Rattle.std.specs.Prelude.{IfOk};
-ghost use Rattle.arrow_select.specs.Arrays.{CanGrow};
-
 use arrow_arrays::array::AnyArray;
 use arrow_flat::array::{AnyPrimitive, BooleanArray, PrimitiveArray};
 use arrow_memory::bitmap::Bitmap;
@@ -15,19 +12,14 @@ use arrow_types_fixture::{check, made};
 use std::alloc::Global;
 
 /// Numbers, as an array of any type.
-fn numbers(alloc: Global, values: Vec<i32>) -> Result<AnyArray, Error>
-    ensures { IfOk result CanGrow }
-{
+fn numbers(alloc: Global, values: Vec<i32>) -> Result<AnyArray, Error> {
     let values = Buffer::from_vec(alloc, values)?;
     let array = PrimitiveArray::try_new(DataType::Int32, values, None)?;
     Ok(AnyArray::Primitive(AnyPrimitive::Int32(array)))
 }
 
-/// The rows at which the mask is true, of an array that can grow.
-fn kept(alloc: Global, array: &AnyArray, mask: &[bool]) -> Result<AnyArray, Error>
-    requires { CanGrow array.now }
-    ensures { IfOk result CanGrow }
-{
+/// The rows at which the mask is true.
+fn kept(alloc: Global, array: &AnyArray, mask: &[bool]) -> Result<AnyArray, Error> {
     let mask = Bitmap::from_bools(alloc, mask)?;
     let mask = BooleanArray::try_new(DataType::Boolean, mask, None)?;
     if mask.len() != array.len() {
@@ -37,9 +29,7 @@ fn kept(alloc: Global, array: &AnyArray, mask: &[bool]) -> Result<AnyArray, Erro
 }
 
 /// The numbers at which a mask is true.
-fn kept_numbers(alloc: Global, values: &[i32], mask: &[bool]) -> Result<Box<AnyArray>, Error>
-    ensures { IfOk result (λ array. CanGrow array.value) }
-{
+fn kept_numbers(alloc: Global, values: &[i32], mask: &[bool]) -> Result<Box<AnyArray>, Error> {
     let array = numbers(alloc, Vec::from_slice(alloc, values)?)?;
     Ok(Box::new(alloc, kept(alloc, &array, mask)?)?)
 }

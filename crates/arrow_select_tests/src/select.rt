@@ -2,6 +2,7 @@
 
 mod concatenate;
 mod filter;
+mod keyed;
 mod window;
 
 use arrow_arrays::array::AnyArray;
@@ -41,4 +42,5 @@ fn kernels(rt: HostRuntime) {
     concatenate::check_concatenate(&rt);
     filter::check_filter(&rt);
     window::check_shift(&rt);
+    keyed::check_dictionaries(&rt);
 }

@@ -224,8 +224,11 @@ fn join_values(alloc: Global, arrays: &[&DictionaryArray]) -> Result<AnyArray, E
     ensures alone { length arrays.now ≡ 1 → IsOkUnless result Error.OutOfMemory }
     ensures others { IfErr result IsGrowthError }
 {
+    let first = arrays[0];
+    // The data type is a dictionary's.
+    let _ = first.data_type();
     if arrays.len() == 1 {
-        return Ok(arrays[0].values().clone()?);
+        return Ok(first.values().clone()?);
     }
     let values = values_of(alloc, arrays)?;
     join_arrays(alloc, &values)

@@ -8,16 +8,16 @@ ghost use Rattle.arrow_types.specs.TypeOf.{fields_of, type_of};
 ghost use Rattle.arrow_memory.specs.Grown.{IsGrowthError};
 ghost use Rattle.arrow_arrays.specs.Crowded.{Unjoined};
 ghost use Rattle.arrow_arrays.specs.Any.{kind_in, kind_of, layout_of, null_kind};
+ghost use Rattle.arrow_arrays.specs.TypeParts.{IsFlatType};
 ghost use Rattle.arrow_growable.specs.AnyGrowable.{grown_of, primitive_grown_of};
 ghost use Rattle.arrow_growable.specs.Growable.{AreGrowable, IsGrowable};
 ghost use Rattle.arrow_flat_growable.specs.Grown.{AreOfOneType, bound_to, first_type};
 ghost use Rattle.arrow_flat_growable.specs.Nulls.{null_layout};
 
 use crate::growable::bound::BoundNested;
-use crate::growable::dictionary;
 use crate::growable::{
-    AnyGrowable, AnyGrowablePrimitive, BoundNulls, FlatGrowable, GrowableDictionary, GrowableNested,
-    GrowableValues,
+    AnyGrowable, AnyGrowablePrimitive, BoundNulls, FlatGrowable, GrowableDictionary,
+    GrowableNested, GrowableValues, dictionary,
 };
 use arrow_arrays::array::AnyArray;
 use arrow_flat::array::NullArray;
@@ -55,6 +55,42 @@ pub fn make_growable<'a>(
 {
     let first: &'a AnyArray = arrays[0];
     match first.data_type().to_physical_type() {
+        PhysicalType::Dictionary(_) => {
+            let bound = dictionary::bind(alloc, arrays)?;
+            let growable = GrowableDictionary::new(alloc, &bound, use_validity, capacity)?;
+            Ok(AnyGrowable::Dictionary(growable))
+        }
+        PhysicalType::List
+        | PhysicalType::LargeList
+        | PhysicalType::FixedSizeList
+        | PhysicalType::Map
+        | PhysicalType::Struct => {
+            let nested = BoundNested::of_any(alloc, arrays)?;
+            Ok(AnyGrowable::Nested(GrowableNested::new(alloc, nested, use_validity, capacity)?))
+        }
+        physical_type => make_flat(alloc, arrays, physical_type, use_validity, capacity),
+    }
+}
+
+/// The same over arrays without children.
+///
+/// # Errors
+/// `OutOfMemory` where memory is refused, as for a capacity that is too great.
+fn make_flat<'a>(
+    alloc: Global,
+    arrays: &[&'a AnyArray],
+    physical_type: PhysicalType,
+    use_validity: bool,
+    capacity: usize,
+) -> Result<AnyGrowable<'a>, Error>
+    requires some { 0 < length arrays.now }
+    requires one_type { AreOfOneType (map (λ a. layout_of a.now) arrays.now) }
+    requires kind { physical_type_of (first_type (map (λ a. layout_of a.now) arrays.now)) ≡ physical_type }
+    requires flat { IsFlatType physical_type }
+    ensures ok { IfOk result (λ growable. grown_of growable ≡ bound_to (map (λ a. layout_of a.now) arrays.now)) }
+    ensures err { IsOkUnless result Error.OutOfMemory }
+{
+    match physical_type {
         PhysicalType::Null => Ok(AnyGrowable::Null(bound_nulls(alloc, arrays)?)),
         PhysicalType::Boolean => {
             Ok(AnyGrowable::Boolean(bound(alloc, arrays, use_validity, capacity)?))
@@ -76,15 +112,7 @@ pub fn make_growable<'a>(
         PhysicalType::FixedSizeBinary => {
             Ok(AnyGrowable::FixedSizeBinary(bound(alloc, arrays, use_validity, capacity)?))
         }
-        PhysicalType::Dictionary(_) => {
-            let bound = dictionary::bind(alloc, arrays)?;
-            let growable = GrowableDictionary::new(alloc, &bound, use_validity, capacity)?;
-            Ok(AnyGrowable::Dictionary(growable))
-        }
-        _ => {
-            let nested = BoundNested::of_any(alloc, arrays)?;
-            Ok(AnyGrowable::Nested(GrowableNested::new(alloc, nested, use_validity, capacity)?))
-        }
+        _ => unreachable!(),
     }
 }
 

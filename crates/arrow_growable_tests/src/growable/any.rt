@@ -3,12 +3,11 @@
 ghost use Rattle.std.specs.Prelude.{◌≡◌, map, Some, IfOk, IsTrue};
 ghost use Rattle.arrow_arrays.specs.Any.{any_array_type, layout_of};
 ghost use Rattle.arrow_growable.specs.AnyGrowable.{grown_of};
-ghost use Rattle.arrow_growable.specs.Growable.{IsGrowable};
 
 use crate::lent::from_row;
 use arrow_arrays::array::AnyArray;
 use arrow_arrays_fixture::arrays::{FLATS, NESTED, Shape, array_of, boxed};
-use arrow_growable::growable::{AnyGrowable, Growable, is_growable, make_growable};
+use arrow_growable::growable::{AnyGrowable, Growable, make_growable};
 use arrow_new_arrays::array::new_null_array;
 use arrow_types::datatypes::{DataType, IntervalUnit};
 use arrow_types::error::Error;
@@ -89,12 +88,11 @@ fn array_with(alloc: Global, kind: Kind, letters: &[u8]) -> Result<Box<AnyArray>
     }
 }
 
-/// Whether two arrays are of one type, whose arrays can grow.
+/// Whether two arrays are of one type.
 fn are_alike(left: &AnyArray, right: &AnyArray) -> bool
-    ensures growable { IsTrue result → IsGrowable (any_array_type left.now) }
-    ensures one_type { IsTrue result → any_array_type left.now ≡ any_array_type right.now }
+    ensures { IsTrue result → any_array_type left.now ≡ any_array_type right.now }
 {
-    is_growable(left.data_type()) && *left.data_type() == *right.data_type()
+    *left.data_type() == *right.data_type()
 }
 
 /// A growable over two arrays of one type.

@@ -7,7 +7,7 @@ use arrow_arrays::array::{AnyArray, AnyKeys, DictionaryArray};
 use arrow_arrays_fixture::arrays::boxed;
 use arrow_flat::array::{AnyPrimitive, PrimitiveArray};
 use arrow_flat_fixture::arrays::validity_of;
-use arrow_growable::growable::{Growable, GrowableDictionary, is_growable};
+use arrow_growable::growable::{Growable, GrowableDictionary};
 use arrow_memory::buffer::Buffer;
 use arrow_types::datatypes::DataType;
 use arrow_types::error::Error;
@@ -51,7 +51,6 @@ fn grow(
     left: &DictionaryArray,
     right: &DictionaryArray,
 ) -> Result<DictionaryArray, Error> {
-    assert!(rt; is_growable(left.data_type()));
     assert!(rt; left.data_type() == right.data_type());
     let mut growable = GrowableDictionary::new(rt.alloc(), &[left, right], false, 2)?;
     assert!(rt; left.len() == 1 && right.len() == 1);

@@ -18,7 +18,6 @@ use arrow_flat::array::{
 use arrow_growable::growable::{
     FlatGrowable, Growable, GrowableBits, GrowableBytes, GrowableDictionary, GrowableFixedRows,
     GrowableKind, GrowableNull, GrowableOf, GrowableStruct, GrowableValues, NestedArray,
-    is_growable,
 };
 use arrow_types::datatypes::DataType;
 use arrow_types::error::Error;
@@ -218,7 +217,6 @@ fn grow_twice<A: NestedArray>(
 ) -> Result<A, Error>
     requires { len ≡ length (rows (A.layout_in array.now)) }
 {
-    assert!(rt; is_growable(array.data_type()));
     let mut growable = GrowableOf::new(rt.alloc(), vec![in rt.alloc(); array]?, false, 0)?;
     growable.extend(0, 0, len)?;
     growable.extend(0, 0, len)?;
@@ -230,7 +228,6 @@ fn grow_keys_twice(
     rt: &(impl Abort + Alloc<A = Global>),
     array: &DictionaryArray,
 ) -> Result<DictionaryArray, Error> {
-    assert!(rt; is_growable(array.data_type()));
     let mut growable = GrowableDictionary::new(rt.alloc(), &[array], false, 0)?;
     growable.extend(0, 0, array.len())?;
     growable.extend(0, 0, array.len())?;
@@ -307,7 +304,6 @@ fn check_failed(
 
 /// A growable over these structs.
 fn check_structs(rt: &(impl Abort + Alloc<A = Global>), array: &StructArray) -> Result<(), Error> {
-    assert!(rt; is_growable(array.data_type()));
     let arrays = vec![in rt.alloc(); array]?;
     let mut growable = GrowableStruct::new(rt.alloc(), arrays, false, 0)?;
     check_failed(rt, &mut growable, array)

@@ -7,9 +7,8 @@ use arrow_arrays_fixture::arrays::{
     FLATS, ListKind, NESTED, Shape, array_of, boxed, lists_of, make_lists, make_structs, nulls,
 };
 use arrow_flat_fixture::arrays::marks_of;
-use arrow_growable::growable::is_growable;
 use arrow_select::concatenate::concatenate;
-use arrow_types::datatypes::DataType;
+use arrow_types::datatypes::{DataType, UnionMode};
 use arrow_types::error::{ArgumentFault, Error};
 use arrow_types_fixture::types::item;
 use arrow_types_fixture::{check, made};
@@ -46,22 +45,13 @@ fn join_none(alloc: Global) -> Result<Box<AnyArray>, Error> {
 }
 
 /// The rows of one array.
-fn join_one(
-    rt: &(impl Abort + Alloc<A = Global>),
-    array: &AnyArray,
-) -> Result<Box<AnyArray>, Error> {
-    assert!(rt; is_growable(array.data_type()));
-    boxed(rt.alloc(), concatenate(rt.alloc(), &[array])?)
+fn join_one(alloc: Global, array: &AnyArray) -> Result<Box<AnyArray>, Error> {
+    boxed(alloc, concatenate(alloc, &[array])?)
 }
 
 /// The rows of two arrays.
-fn join_two(
-    rt: &(impl Abort + Alloc<A = Global>),
-    left: &AnyArray,
-    right: &AnyArray,
-) -> Result<Box<AnyArray>, Error> {
-    assert!(rt; is_growable(left.data_type()) && is_growable(right.data_type()));
-    boxed(rt.alloc(), concatenate(rt.alloc(), &[left, right])?)
+pub fn join_two(alloc: Global, left: &AnyArray, right: &AnyArray) -> Result<Box<AnyArray>, Error> {
+    boxed(alloc, concatenate(alloc, &[left, right])?)
 }
 
 fn check_two(
@@ -71,7 +61,7 @@ fn check_two(
     shape: Shape,
     want: Result<&[u8], Error>,
 ) {
-    let answer = made!(rt; answered(join_two(rt, left, right)));
+    let answer = made!(rt; answered(join_two(rt.alloc(), left, right)));
     check_answer(rt, answer, shape, want);
 }
 
@@ -108,7 +98,7 @@ fn widest_list(alloc: Global) -> Result<Box<AnyArray>, Error> {
 /// One row of 2^63 items alone, and twice: its items can't be counted then.
 fn check_widest(rt: &(impl Abort + Alloc<A = Global>)) {
     let array = made!(rt; widest_list(rt.alloc()));
-    let alone = made!(rt; join_one(rt, &array));
+    let alone = made!(rt; join_one(rt.alloc(), &array));
     check!(rt; *alone == *array);
     let shape = Shape::Lists(ListKind::FixedSize);
     check_two(rt, &array, &array, shape, Err(Error::Overflow));
@@ -127,35 +117,46 @@ fn sliced(rt: &(impl Abort + Alloc<A = Global>), shape: Shape, letters: &[u8]) -
     from_row(rt, made!(rt; array_of(rt.alloc(), shape, &stored)), 1)
 }
 
-/// Structs of a map and a fixed-size list, each sliced from its second row on.
+/// Structs of two children, each sliced from its second row on.
 fn deep_structs(
     rt: &(impl Abort + Alloc<A = Global>),
+    shapes: [Shape; 2],
     letters: &[u8],
 ) -> Result<Box<AnyArray>, Error> {
-    let maps = sliced(rt, Shape::Lists(ListKind::Map), letters);
-    let lists = sliced(rt, Shape::Lists(ListKind::FixedSize), letters);
-    make_structs(rt.alloc(), letters, maps, lists)
+    let left = sliced(rt, shapes[0], letters);
+    let right = sliced(rt, shapes[1], letters);
+    make_structs(rt.alloc(), letters, left, right)
 }
 
 /// Lists of such structs.
 fn deep_lists(
     rt: &(impl Abort + Alloc<A = Global>),
+    shapes: [Shape; 2],
     ends: &[usize],
     letters: &[u8],
     marks: &str,
 ) -> Result<Box<AnyArray>, Error> {
-    let structs = made!(rt; deep_structs(rt, letters));
+    let structs = made!(rt; deep_structs(rt, shapes, letters));
     let validity = made!(rt; marks_of(rt.alloc(), marks));
     lists_of(rt.alloc(), ListKind::Small, ends, structs, validity)
 }
 
-/// Lists of structs of maps and fixed-size lists, sliced at each level, joined with themselves.
+/// What structs in lists hold.
+const DEEP: [[Shape; 2]; 3] = [
+    [Shape::Lists(ListKind::Map), Shape::Lists(ListKind::FixedSize)],
+    [Shape::Dictionary, Shape::Pairs(Some(UnionMode::Sparse))],
+    [Shape::Pairs(Some(UnionMode::Dense)), Shape::Dictionary],
+];
+
+/// Lists of structs, sliced at each level, joined with themselves.
 fn check_deep(rt: &(impl Abort + Alloc<A = Global>)) {
-    let whole = made!(rt; deep_lists(rt, &[0, 1, 3, 5], b"abCDe", "tft"));
-    let array = from_row(rt, whole, 1);
-    let twice = made!(rt; join_two(rt, &array, &array));
-    let want = made!(rt; deep_lists(rt, &[0, 0, 2, 2, 4], b"DeDe", "ftft"));
-    check!(rt; *twice == *want);
+    for shapes in &DEEP {
+        let whole = made!(rt; deep_lists(rt, *shapes, &[0, 1, 3, 5], b"abCDe", "tft"));
+        let array = from_row(rt, whole, 1);
+        let twice = made!(rt; join_two(rt.alloc(), &array, &array));
+        let want = made!(rt; deep_lists(rt, *shapes, &[0, 0, 2, 2, 4], b"DeDe", "ftft"));
+        check!(rt; *twice == *want, shapes);
+    }
 }
 
 /// Items that two rows can't have: none of theirs is named where they are null.
@@ -164,7 +165,7 @@ fn check_wide(rt: &(impl Abort + Alloc<A = Global>)) {
     let shape = Shape::Lists(ListKind::Small);
     check_two(rt, &array, &array, shape, Err(Error::Overflow));
     let array = made!(rt; wide_list(rt.alloc(), "f"));
-    let both = made!(rt; join_two(rt, &array, &array));
+    let both = made!(rt; join_two(rt.alloc(), &array, &array));
     check!(rt; both.len() == 2);
     check!(rt; both.null_count() == 2);
 }

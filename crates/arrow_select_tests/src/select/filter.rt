@@ -6,7 +6,6 @@ use arrow_arrays::array::AnyArray;
 use arrow_arrays_fixture::arrays::{FLATS, NESTED, Shape, array_of, boxed};
 use arrow_flat::array::BooleanArray;
 use arrow_flat_fixture::arrays::truths;
-use arrow_growable::growable::is_growable;
 use arrow_select::filter::filter;
 use arrow_types::error::Error;
 use arrow_types_fixture::made;
@@ -46,7 +45,6 @@ fn filter_rows(
     array: &AnyArray,
     predicate: &BooleanArray,
 ) -> Result<Box<AnyArray>, Error> {
-    assert!(rt; is_growable(array.data_type()));
     assert!(rt; predicate.len() == array.len());
     boxed(rt.alloc(), filter(rt.alloc(), array, predicate)?)
 }

@@ -4,7 +4,6 @@ use crate::lent::from_row;
 use crate::select::{answered, check_answer};
 use arrow_arrays::array::AnyArray;
 use arrow_arrays_fixture::arrays::{FLATS, NESTED, Shape, array_of, boxed, nulls};
-use arrow_growable::growable::is_growable;
 use arrow_select::window::shift;
 use arrow_types::error::{ArgumentFault, Error};
 use arrow_types_fixture::{check, made};
@@ -28,20 +27,15 @@ const CASES: [(usize, &[u8], i64, Option<&[u8]>); 12] = [
 ];
 
 /// The rows moved by an offset.
-fn shift_rows(
-    rt: &(impl Abort + Alloc<A = Global>),
-    array: &AnyArray,
-    offset: i64,
-) -> Result<Box<AnyArray>, Error> {
-    assert!(rt; is_growable(array.data_type()));
-    boxed(rt.alloc(), shift(rt.alloc(), array, offset)?)
+fn shift_rows(alloc: Global, array: &AnyArray, offset: i64) -> Result<Box<AnyArray>, Error> {
+    boxed(alloc, shift(alloc, array, offset)?)
 }
 
 fn check_rows(rt: &(impl Abort + Alloc<A = Global>), shape: Shape) {
     for (start, rows, offset, want) in &CASES {
         let array = from_row(rt, made!(rt; array_of(rt.alloc(), shape, rows)), *start);
         let want = want.ok_or(Error::InvalidArgumentError(ArgumentFault::ShiftOffset));
-        let answer = made!(rt; answered(shift_rows(rt, &array, *offset)));
+        let answer = made!(rt; answered(shift_rows(rt.alloc(), &array, *offset)));
         check_answer(rt, answer, shape, want);
     }
 }
@@ -52,9 +46,9 @@ pub fn check_shift(rt: &(impl Abort + Alloc<A = Global>)) {
     }
     // As many rows as can be counted.
     let array = made!(rt; nulls(rt.alloc(), usize::MAX));
-    let moved = made!(rt; shift_rows(rt, &array, 1));
+    let moved = made!(rt; shift_rows(rt.alloc(), &array, 1));
     check!(rt; moved.len() == usize::MAX);
     let want = Err(Error::InvalidArgumentError(ArgumentFault::ShiftOffset));
-    let answer = made!(rt; answered(shift_rows(rt, &array, i64::MIN)));
+    let answer = made!(rt; answered(shift_rows(rt.alloc(), &array, i64::MIN)));
     check_answer(rt, answer, Shape::Null, want);
 }

@@ -1,7 +1,14 @@
-use Rattle.std.proofs.Common.{arith, ◌≡◌, ◌<◌, Bor, length, map, ap, sym, subst, ◌∙◌}
+use Rattle.std.proofs.Common.{arith, ◌≡◌, ◌<◌, Bor, Err, length, map, ap, sym, subst, ◌∙◌}
 use Rattle.std.proofs.lemmas.List.{length-map, take_all}
 use Rattle.arrow_types.specs.Physical.{physical_type_of}
-use Rattle.arrow_arrays.specs.Any.{layout_of}
+use Rattle.std.proofs.lemmas.Result.{IfOk-weaker}
+use Rattle.arrow_types.specs.Rows.{joined}
+use Rattle.arrow_arrays.specs.Any.{kind_in, layout_of, layouts_in}
+use Rattle.arrow_arrays.specs.Crowded.{child_of}
+use Rattle.arrow_arrays.specs.KeyedParts.{keyed_layout}
+use Rattle.arrow_arrays.specs.Layout.{rows}
+use Rattle.arrow_arrays.specs.TypeParts.{IsFlatType}
+use Rattle.arrow_flat_growable.proofs.ResultLemmas.{passed_on}
 use Rattle.arrow_arrays.specs.TypeDepth.{type_depth}
 use Rattle.arrow_flat_growable.specs.Grown.{AreOfOneType, bound_to, first_type}
 use Rattle.arrow_flat_growable.proofs.FlatLemmas.{first_is}
@@ -9,19 +16,13 @@ use Rattle.arrow_growable.specs.Bound.{bound_layouts}
 use Rattle.arrow_growable.specs.Form.{child_type, child_types}
 use Rattle.arrow_growable.specs.FormLaws.{child_less_deep}
 use Rattle.arrow_growable.specs.Growable.{IsGrowable}
-use Rattle.arrow_growable.specs.Nested.{IsNestedType}
 use Rattle.arrow_growable.specs.Source.{nth_child}
-use Rattle.arrow_growable.proofs.GrowableLemmas.{MayGrow, child_grows, may_grow, others_nest}
-use Rattle.arrow_growable.proofs.MakeLemmas.{all_children, made_next, one_type_of, first_type_of}
+use Rattle.arrow_growable.specs.GrowableSpans.{form_of}
+use Rattle.arrow_growable.specs.Join.{CannotJoin}
+use Rattle.arrow_growable.proofs.GrowableLemmas.{MayGrow, child_grows, may_grow, others_flat, shape_of_dictionaries, values_grow}
+use Rattle.arrow_growable.proofs.UnjoinedLemmas.{cannot_join, child_unjoined, values_are, values_unjoined}
+use Rattle.arrow_growable.proofs.MakeLemmas.{all_children, made_next, map_twice, one_type_of, first_type_of}
 use Rattle.arrow_growable.proofs.growable.+make.Goals as goal
-
-pub make::make_growable-of_any-requires-clause-nested : goal.make::make_growable-of_any-requires-clause-nested
-make::make_growable-of_any-requires-clause-nested t c =
-    let first = first_is (λ (a : Bor _). layout_of a.now) c.args.arrays.now c.index-arrays-0.result c.requires.some c.index-arrays-0.is in
-    let kind = c.to_physical_type.ensures ∙ ap physical_type_of (c.data_type.ensures.same ∙ sym first) in
-    let may = subst MayGrow (sym kind) (may_grow (first_type (map (λ (a : Bor _). layout_of a.now) c.args.arrays.now)) c.requires.growable) in
-    let d = c.in_default in
-    subst IsNestedType kind (others_nest c.to_physical_type.result may d.not-Null d.not-Boolean d.not-Primitive d.not-Binary d.not-FixedSizeBinary d.not-LargeBinary d.not-Utf8 d.not-LargeUtf8)
 
 pub nested::make_children-make_growable-requires : goal.nested::make_children-make_growable-requires
 nested::make_children-make_growable-requires t c =
@@ -56,3 +57,54 @@ pub nested::make_children-returns-clause-types : goal.nested::make_children-retu
 nested::make_children-returns-clause-types t c =
     let u = first_type (bound_layouts c.args.arrays.now) in
     c.loop-f.invariant.1 ∙ take_all c.loop-f.f (child_types u) (omega (arith, c.loop-f-test.false, c.width-width.ensures))
+
+-- arrays without children, and dictionaries
+
+pub make::make_growable-make_flat-requires : goal.make::make_growable-make_flat-requires
+make::make_growable-make_flat-requires t c =
+    let first = first_is (λ (a : Bor _). layout_of a.now) c.args.arrays.now c.index-arrays-0.result c.requires.some c.index-arrays-0.is in
+    let kind = c.to_physical_type.ensures ∙ ap physical_type_of (c.data_type.ensures.same ∙ sym first) in
+    let may = subst MayGrow (sym kind) (may_grow (first_type (map (λ (a : Bor _). layout_of a.now) c.args.arrays.now)) c.requires.growable) in
+    let d = c.in_default in
+    let is = d.physical_type-is in
+    record { some = c.requires.some; one_type = c.requires.one_type; kind = sym kind ∙ is; flat = subst IsFlatType is (others_flat c.to_physical_type.result may d.not-List d.not-FixedSizeList d.not-LargeList d.not-Struct d.not-Map d.not-Dictionary) }
+
+pub dictionary::join_values-join_arrays-requires : goal.dictionary::join_values-join_arrays-requires
+dictionary::join_values-join_arrays-requires t c =
+    let arrays = c.args.arrays.now in
+    let u = first_type (map (λ (r : Bor _). keyed_layout r.now) arrays) in
+    let column = ap (map (λ (a : Bor _). layout_of a.now)) c.deref.ensures.value ∙ c.in_ok-values.ensures.ok in
+    let values = values_are (λ (r : Bor _). r.now) arrays _ c.index-arrays-0.result column c.requires.some c.index-arrays-0.is c.data_type.ensures.carried c.data_type.ensures.kind c.in_ok-values.ensures.types c.requires.one_type in
+    let first = first_is (λ (r : Bor _). keyed_layout r.now) arrays c.index-arrays-0.result c.requires.some c.index-arrays-0.is in
+    let shape = shape_of_dictionaries (physical_type_of u) (ap (λ v. kind_in (physical_type_of v)) first ∙ c.data_type.ensures.kind) in
+    (omega (arith, ap type_depth values.first, values.less_deep, c.decreases), (omega (arith, values.some, length-map c.deref.result.now (λ (a : Bor _). layout_of a.now)), (values.one_type, subst IsGrowable (sym values.first) (values_grow u c.requires.growable shape))))
+
+pub dictionary::join_values-returns-clause-child : goal.dictionary::join_values-returns-clause-child
+dictionary::join_values-returns-clause-child t c =
+    let arrays = c.args.arrays.now in
+    let column = ap (map (λ (a : Bor _). layout_of a.now)) c.deref.ensures.value ∙ c.in_ok-values.ensures.ok in
+    let values = values_are (λ (r : Bor _). r.now) arrays _ c.index-arrays-0.result column c.requires.some c.index-arrays-0.is c.data_type.ensures.carried c.data_type.ensures.kind c.in_ok-values.ensures.types c.requires.one_type in
+    IfOk-weaker c.join_arrays.result _ _ (λ all same. same ∙ values.first) c.join_arrays.ensures.array_type
+
+pub dictionary::join_values-returns-clause-joined : goal.dictionary::join_values-returns-clause-joined
+dictionary::join_values-returns-clause-joined t c =
+    let layouts = map (λ (r : Bor _). keyed_layout r.now) c.args.arrays.now in
+    let column = ap (map (λ (a : Bor _). layout_of a.now)) c.deref.ensures.value ∙ c.in_ok-values.ensures.ok in
+    IfOk-weaker c.join_arrays.result _ _ (λ all same. same ∙ (ap (λ ls. joined (map rows ls)) column ∙ ap joined (map_twice rows child_of layouts))) c.join_arrays.ensures.rows
+
+pub dictionary::join_values-returns-clause-overflow : goal.dictionary::join_values-returns-clause-overflow
+dictionary::join_values-returns-clause-overflow t c overflows =
+    let column = ap (map (λ (a : Bor _). layout_of a.now)) c.deref.ensures.value ∙ c.in_ok-values.ensures.ok in
+    values_unjoined (λ (r : Bor _). r.now) c.args.arrays.now (subst CannotJoin column (c.join_arrays.ensures.overflow overflows)) c.requires.some
+
+pub join::join_arrays-returns-clause-overflow : goal.join::join_arrays-returns-clause-overflow
+join::join_arrays-returns-clause-overflow t c overflows =
+    cannot_join (layouts_in c.args.arrays.now) (c.all_rows.ensures.overflow overflows)
+
+-- dictionaries inside that can't be joined
+
+pub nested::GrowableNested::new-returns-in_err-children-clause-overflow :
+    goal.nested::GrowableNested::new-returns-in_err-children-clause-overflow
+nested::GrowableNested::new-returns-in_err-children-clause-overflow t c overflows =
+    let refused = c.in_err-children.ensures.overflow (ap Err (passed_on c.from_residual-in_err-children.result _ _ c.from_residual-in_err-children.ensures.1 overflows)) in
+    child_unjoined (form_of c.in_ok-spans.spans) (bound_layouts c.args.arrays) refused.0 c.in_ok-spans.ensures.ok.form refused.1

@@ -6,12 +6,11 @@ use Rattle.arrow_types.specs.Rows.{joined}
 use Rattle.arrow_arrays.specs.Any.{any_array_type, layout_of}
 use Rattle.arrow_arrays.specs.Layout.{rows}
 use Rattle.arrow_flat_growable.specs.Grown.{first_type}
-use Rattle.arrow_growable.specs.Growable.{IsGrowable}
 use Rattle.arrow_growable.proofs.JoinedLemmas.{slice_get-map_read}
 use Rattle.arrow_growable.proofs.MakeLemmas.{map_twice}
 use Rattle.arrow_select.specs.Keys.{HasNoDictionary}
 use Rattle.arrow_select.specs.Arrays.{rows_in}
-use Rattle.arrow_select.proofs.ArrayLemmas.{first_has, Contains-read, of_one_type, all_as_first}
+use Rattle.arrow_select.proofs.ArrayLemmas.{Contains-read, of_one_type, all_as_first}
 use Rattle.arrow_select.proofs.KeyLemmas.{rows_alone}
 use Rattle.arrow_select.proofs.concatenate.concatenate.Goals as goal
 
@@ -28,10 +27,6 @@ returns-then-not-have_one_type-clause-types c =
 pub join_arrays-requires-clause-one_type : goal.join_arrays-requires-clause-one_type
 join_arrays-requires-clause-one_type c =
     of_one_type (λ (a : Bor _). layout_of a.now) c.args.arrays.now _ c.if-not-have_one_type.ensures
-
-pub join_arrays-requires-clause-growable : goal.join_arrays-requires-clause-growable
-join_arrays-requires-clause-growable c =
-    first_has (λ (a : Bor _). layout_of a.now) IsGrowable c.args.arrays.now c.in-Some.ensures.item.3.0 c.requires.growable
 
 pub returns-clause-array_type : goal.returns-clause-array_type
 returns-clause-array_type c =
