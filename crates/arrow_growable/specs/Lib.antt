@@ -11,3 +11,5 @@ pub mod Lists
 pub mod Nested
 pub mod Source
 pub mod Spans
+pub mod UnionRuns
+pub mod Variants

@@ -9,6 +9,9 @@ mod make;
 mod nested;
 mod spans;
 mod typed;
+mod union;
+mod union_runs;
+mod variants;
 
 pub use any::{AnyGrowable, AnyGrowablePrimitive};
 pub use arrow_flat_growable::growable::{
@@ -20,3 +23,4 @@ pub use bound::NestedArray;
 pub use make::{is_growable, make_growable};
 pub use nested::GrowableNested;
 pub use typed::{GrowableFixedSizeList, GrowableList, GrowableMap, GrowableOf, GrowableStruct};
+pub use union::GrowableUnion;

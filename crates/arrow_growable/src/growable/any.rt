@@ -4,7 +4,7 @@ ghost use Rattle.arrow_growable.specs.AnyGrowable.{grown_of, primitive_grown_of}
 
 use crate::growable::{
     BoundNulls, Growable, GrowableBinary, GrowableBoolean, GrowableFixedSizeBinary, GrowableNested,
-    GrowablePrimitive, GrowableUtf8,
+    GrowablePrimitive, GrowableUnion, GrowableUtf8,
 };
 use arrow_arrays::array::AnyArray;
 use arrow_types::error::Error;
@@ -38,6 +38,7 @@ pub enum AnyGrowable<'a> {
     LargeBinary(GrowableBinary<'a, i64>),
     FixedSizeBinary(GrowableFixedSizeBinary<'a>),
     Nested(GrowableNested<'a>),
+    Union(GrowableUnion<'a>),
 }
 
 /// What an expression says of the growable, whatever its element type.
@@ -73,6 +74,7 @@ macro_rules! of_any {
             AnyGrowable::LargeBinary($growable) => $result,
             AnyGrowable::FixedSizeBinary($growable) => $result,
             AnyGrowable::Nested($growable) => $result,
+            AnyGrowable::Union($growable) => $result,
         }
     };
 }

@@ -1,21 +1,24 @@
 //! Growables over arrays of any type.
 
-ghost use Rattle.std.specs.Prelude.{◌≡◌, ◌<◌, ◌↔◌, length, map, IfOk, IsOkUnless, IsTrue};
+ghost use Rattle.std.specs.Prelude.{◌≡◌, ◌<◌, ◌↔◌, length, map, All, IfOk, IsOkUnless, IsTrue};
 ghost use Rattle.arrow_types.specs.declared.error.Error.{Error};
 ghost use Rattle.arrow_types.specs.declared.datatypes.physical_type.PhysicalType.TheVariants as physical;
 ghost use Rattle.arrow_types.specs.Physical.{physical_type_of};
 ghost use Rattle.arrow_types.specs.TypeOf.{fields_of, type_of};
-ghost use Rattle.arrow_arrays.specs.Any.{kind_in, kind_of, layout_of, null_kind};
+ghost use Rattle.arrow_arrays.specs.Any.{kind_in, kind_of, layout_of, null_kind, union_kind};
+ghost use Rattle.arrow_arrays.specs.UnionParts.{union_layout};
 ghost use Rattle.arrow_growable.specs.AnyGrowable.{grown_of, primitive_grown_of};
 ghost use Rattle.arrow_growable.specs.Growable.{AreGrowable, IsGrowable};
+ghost use Rattle.arrow_growable.specs.Variants.{CanBind};
 ghost use Rattle.arrow_flat_growable.specs.Grown.{AreOfOneType, bound_to, first_type};
 ghost use Rattle.arrow_flat_growable.specs.Nulls.{null_layout};
 
 use crate::growable::bound::BoundNested;
 use crate::growable::{
-    AnyGrowable, AnyGrowablePrimitive, BoundNulls, FlatGrowable, GrowableNested, GrowableValues,
+    AnyGrowable, AnyGrowablePrimitive, BoundNulls, FlatGrowable, GrowableNested, GrowableUnion,
+    GrowableValues,
 };
-use arrow_arrays::array::AnyArray;
+use arrow_arrays::array::{AnyArray, UnionArray};
 use arrow_flat::array::NullArray;
 use arrow_types::datatypes::{DataType, Field, PhysicalType};
 use arrow_types::error::Error;
@@ -69,6 +72,10 @@ pub fn make_growable<'a>(
         PhysicalType::FixedSizeBinary => {
             Ok(AnyGrowable::FixedSizeBinary(bound(alloc, arrays, use_validity, capacity)?))
         }
+        PhysicalType::Union => {
+            let unions = bound_unions(alloc, arrays)?;
+            Ok(AnyGrowable::Union(GrowableUnion::new(alloc, unions, capacity)?))
+        }
         _ => {
             let nested = BoundNested::of_any(alloc, arrays)?;
             Ok(AnyGrowable::Nested(GrowableNested::new(alloc, nested, use_validity, capacity)?))
@@ -76,8 +83,30 @@ pub fn make_growable<'a>(
     }
 }
 
+/// Growables without rows over each of these columns of arrays, with room for so many rows.
+///
+/// # Errors
+/// `OutOfMemory` where memory is refused, as for a capacity that is too great.
+#[cycle(make)]
+pub(crate) fn make_each<'a>(
+    alloc: Global,
+    columns: &[Vec<&'a AnyArray>],
+    use_validity: bool,
+    capacity: usize,
+) -> Result<Vec<AnyGrowable<'a>>, Error>
+    requires { All CanBind (map (λ column. map (λ a. layout_of a.now) column.items) columns.now) }
+    ensures ok { IfOk result (λ growables. map grown_of growables.items ≡ map bound_to (map (λ column. map (λ a. layout_of a.now) column.items) columns.now)) }
+    ensures err { IsOkUnless result Error.OutOfMemory }
+{
+    let mut growables: Vec<AnyGrowable<'a>> = Vec::with_capacity(alloc, columns.len())?;
+    for column in columns {
+        growables.push(make_growable(alloc, column, use_validity, capacity)?)?;
+    }
+    Ok(growables)
+}
+
 /// Whether arrays of a data type can grow, as [`make_growable`] asks: a type without children, or lists of any form,
-/// maps or structs, at any depth, of such types.
+/// maps, structs or unions, at any depth, of such types.
 #[cycle(is_growable)]
 pub fn is_growable(data_type: &DataType) -> bool
     ensures { IsTrue result ↔ IsGrowable (type_of data_type.now) }
@@ -86,9 +115,9 @@ pub fn is_growable(data_type: &DataType) -> bool
         DataType::List(field) | DataType::LargeList(field) => is_growable(field.data_type()),
         DataType::FixedSizeList(field, _size) => is_growable(field.data_type()),
         DataType::Map(field, _sorted) => is_growable(field.data_type()),
-        DataType::Struct(fields) => are_growable(fields),
+        DataType::Struct(fields) | DataType::Union(fields, _, _) => are_growable(fields),
         DataType::Extension(_, inner, _) => is_growable(inner),
-        DataType::Union(_, _, _) | DataType::Dictionary(_, _, _) => false,
+        DataType::Dictionary(_, _, _) => false,
         _ => true,
     }
 }
@@ -152,6 +181,33 @@ fn as_null(array: &AnyArray) -> &NullArray
 {
     match array {
         AnyArray::Null(array) => array,
+        _ => unreachable!(),
+    }
+}
+
+/// Arrays of any type as arrays of unions.
+fn bound_unions<'a>(alloc: Global, arrays: &[&'a AnyArray]) -> Result<Vec<&'a UnionArray>, Error>
+    requires one_type { AreOfOneType (map (λ a. layout_of a.now) arrays.now) }
+    requires kind { physical_type_of (first_type (map (λ a. layout_of a.now) arrays.now)) ≡ physical.Union }
+    ensures ok { IfOk result (λ unions. map (λ r. union_layout r.now) unions.items ≡ map (λ a. layout_of a.now) arrays.now) }
+    ensures err { IsOkUnless result Error.OutOfMemory }
+{
+    let mut unions: Vec<&'a UnionArray> = Vec::with_capacity(alloc, arrays.len())?;
+    for array in arrays {
+        // The kind of each array follows from its data type.
+        let _ = array.data_type();
+        unions.push(as_union(*array))?;
+    }
+    Ok(unions)
+}
+
+/// An array of any type as one of unions.
+fn as_union(array: &AnyArray) -> &UnionArray
+    requires { kind_of array.now ≡ union_kind }
+    ensures { union_layout result.now ≡ layout_of array.now }
+{
+    match array {
+        AnyArray::Union(array) => array,
         _ => unreachable!(),
     }
 }

@@ -10,7 +10,7 @@ use arrow_arrays::array::AnyArray;
 use arrow_arrays_fixture::arrays::{FLATS, NESTED, Shape, array_of, boxed};
 use arrow_growable::growable::{AnyGrowable, Growable, is_growable, make_growable};
 use arrow_new_arrays::array::new_null_array;
-use arrow_types::datatypes::{DataType, IntervalUnit};
+use arrow_types::datatypes::{DataType, IntervalUnit, UnionMode};
 use arrow_types::error::Error;
 use arrow_types_fixture::{check, made};
 use std::alloc::Global;
@@ -39,6 +39,14 @@ struct Case<'a> {
 
 const ROWS: Case<'static> = Case {
     letters: [b"xabCde", b"XfG"],
+    from: 1,
+    parts: [Part::Rows(0, 1, 3), Part::Nulls(1), Part::Rows(1, 0, 2)],
+    want: [b"bCdAfG", b"a"],
+};
+
+/// The children of dense unions have the letters a to h alone.
+const UNIONS: Case<'static> = Case {
+    letters: [b"habCde", b"HfG"],
     from: 1,
     parts: [Part::Rows(0, 1, 3), Part::Nulls(1), Part::Rows(1, 0, 2)],
     want: [b"bCdAfG", b"a"],
@@ -163,6 +171,9 @@ fn check_array(
     if matches!(kind, Kind::Rows(Shape::Null)) {
         nulls = letters.len();
     }
+    if matches!(kind, Kind::Rows(Shape::Pairs(Some(_)))) {
+        nulls = 0;
+    }
     check!(rt; array.null_count() == nulls);
 }
 
@@ -250,6 +261,13 @@ pub fn check_shapes(rt: &(impl Abort + Alloc<A = Global>)) {
         check_case(rt, Kind::Rows(*shape), ROWS, true);
         check_case(rt, Kind::Rows(*shape), ROWS, false);
         check_case(rt, Kind::Rows(*shape), long, false);
+    }
+}
+
+/// Unions, sparse and dense. No row of theirs is null.
+pub fn check_unions(rt: &(impl Abort + Alloc<A = Global>)) {
+    for mode in [UnionMode::Sparse, UnionMode::Dense] {
+        check_case(rt, Kind::Rows(Shape::Pairs(Some(mode))), UNIONS, false);
     }
 }
 
