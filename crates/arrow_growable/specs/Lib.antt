@@ -6,6 +6,7 @@ pub mod Form
 pub mod FormLaws
 pub mod Growable
 pub mod GrowableSpans
+pub mod GrownUnion
 pub mod Lies
 pub mod Lists
 pub mod Nested

@@ -18,7 +18,7 @@ ghost use Rattle.arrow_arrays.specs.UnionParts.{HoldsUnion, child_rows_of};
 ghost use Rattle.arrow_growable.specs.Form.{child_types, nested_rows};
 ghost use Rattle.arrow_growable.specs.GrowableSpans.{IsFormOf, form_of, grown_arrays};
 ghost use Rattle.arrow_growable.specs.Nested.{AreWhole};
-ghost use Rattle.arrow_growable.specs.Variants.{offsets_in};
+ghost use Rattle.arrow_growable.specs.GrownUnion.{offsets_in};
 
 use crate::growable::GrowableValidity;
 use crate::growable::grown_spans::GrowableSpans;

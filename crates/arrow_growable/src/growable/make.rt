@@ -9,7 +9,7 @@ ghost use Rattle.arrow_arrays.specs.Any.{kind_in, kind_of, layout_of, null_kind,
 ghost use Rattle.arrow_arrays.specs.UnionParts.{union_layout};
 ghost use Rattle.arrow_growable.specs.AnyGrowable.{grown_of, primitive_grown_of};
 ghost use Rattle.arrow_growable.specs.Growable.{AreGrowable, IsGrowable};
-ghost use Rattle.arrow_growable.specs.Variants.{CanBind};
+ghost use Rattle.arrow_growable.specs.GrownUnion.{CanBind};
 ghost use Rattle.arrow_flat_growable.specs.Grown.{AreOfOneType, bound_to, first_type};
 ghost use Rattle.arrow_flat_growable.specs.Nulls.{null_layout};
 

@@ -12,7 +12,7 @@ ghost use Rattle.arrow_arrays.specs.UnionParts.{mode_by, union_layout, union_row
 ghost use Rattle.arrow_flat_growable.specs.Grown.{AreOfOneType, HasFailed, IsFailedOrMemory, bound_to, empty_over, first_type};
 ghost use Rattle.arrow_growable.specs.AnyGrowable.{grown_of};
 ghost use Rattle.arrow_growable.specs.Growable.{IsGrowable};
-ghost use Rattle.arrow_growable.specs.Variants.{no_offsets, offsets_in, union_children};
+ghost use Rattle.arrow_growable.specs.GrownUnion.{no_offsets, offsets_in, union_children};
 
 use crate::growable::Growable;
 use crate::growable::any::AnyGrowable;
@@ -64,7 +64,7 @@ impl<'a> Model for GrowableUnion<'a> {
     ghost use Rattle.arrow_arrays.specs.TypeDepth.{type_depth};
     ghost use Rattle.arrow_arrays.specs.UnionParts.{union_layout};
     ghost use Rattle.arrow_flat_growable.specs.Grown.{Grown, grown_code};
-    ghost use Rattle.arrow_growable.specs.Variants.{IsGrownUnion, offsets_in, variant_rows};
+    ghost use Rattle.arrow_growable.specs.GrownUnion.{IsGrownUnion, offsets_in, variant_rows};
 
     ghost Value = { Grown };
 

@@ -15,7 +15,7 @@ ghost use Rattle.arrow_arrays.specs.UnionParts.{child_rows_of, mode_by, union_la
 ghost use Rattle.arrow_flat_growable.specs.Grown.{CannotHold, FitsItself, FitsWith, null_rows_of, source_at};
 ghost use Rattle.arrow_growable.specs.AnyGrowable.{grown_of};
 ghost use Rattle.arrow_growable.specs.Child.{AreBoundAs, BindsRows, IsWell, SomeCannotHoldNulls, bound_rows};
-ghost use Rattle.arrow_growable.specs.Variants.{AreFew, GrowsVariants, HoldsVariants, IsBoundUnion, IsUnionOver, NullsRefused, OthersCannotHold, RowsRefused, RunRefused, nth_grown, offsets_in, placed_behind, source_type, variant_rows, with_others, with_rows, with_run};
+ghost use Rattle.arrow_growable.specs.GrownUnion.{AreFew, GrowsVariants, HoldsVariants, IsBoundUnion, IsUnionOver, NullsRefused, OthersCannotHold, RowsRefused, RunRefused, nth_grown, offsets_in, placed_behind, source_type, variant_rows, with_others, with_rows, with_run};
 
 use crate::growable::Growable;
 use crate::growable::any::AnyGrowable;
