@@ -8,6 +8,7 @@ use Rattle.arrow_types.specs.Physical.{physical_type_of, plain_physical_type}
 use Rattle.arrow_types.specs.TypeOf.{field_of, fields_of}
 use Rattle.arrow_types.specs.declared.datatypes.Field.{Field}
 use Rattle.arrow_arrays.specs.Any.{Kind, fixed_size_list_kind, kind_in, list_kind, map_kind, struct_kind}
+use Rattle.arrow_arrays.specs.TypeParts.{field_types}
 use Rattle.arrow_arrays.proofs.ShapeLemmas.{list_shape, shape_of}
 use Rattle.arrow_growable.specs.Form.{child_type, child_types}
 use Rattle.arrow_growable.specs.Growable.{AreGrowable, IsGrowable}
@@ -76,15 +77,25 @@ child_grows (plain p) f grows within = absurd (omega (arith, within))
 child_grows (list form (field name t nullable)) zero grows within = grows
 child_grows (list form (field name t nullable)) (suc f) grows within = absurd (omega (arith, within))
 child_grows (struct fs) f grows within = field_grows fs f grows within
-child_grows (union mode ids fs) f grows within = absurd grows
+child_grows (union mode ids fs) f grows within = absurd (omega (arith, within))
 child_grows (dictionary keys ordered t) f grows within = absurd grows
 child_grows (extension name metadata t) f grows within = child_grows t f grows within
 
--- how many lists, structs and extensions there are around a type
+-- and each field of a union
+pub variant_grows : (t : ArrowType) (f : ℕ) → IsGrowable t → f < length (field_types t) → IsGrowable (get_or (field_types t) f (plain null))
+variant_grows (plain p) f grows within = absurd (omega (arith, within))
+variant_grows (list form g) f grows within = absurd (omega (arith, within))
+variant_grows (struct fs) f grows within = field_grows fs f grows within
+variant_grows (union mode ids fs) f grows within = field_grows fs f grows within
+variant_grows (dictionary keys ordered t) f grows within = absurd grows
+variant_grows (extension name metadata t) f grows within = variant_grows t f grows within
+
+-- how many lists, structs, unions and extensions there are around a type
 abbrev mutual
   pub wrappers : ArrowType → ℕ
   wrappers (list form (field name t nullable)) = suc (wrappers t)
   wrappers (struct fs) = suc (wrappers_of fs)
+  wrappers (union mode ids fs) = suc (wrappers_of fs)
   wrappers (extension name metadata t) = suc (wrappers t)
   wrappers _ = 0
 
@@ -128,7 +139,6 @@ AreGrowable-next (g ∷ fs) (suc i) f within read all new =
 
 -- the physical types of arrays that can grow
 abbrev pub MayGrow : PhysicalType → Type 0
-MayGrow physical.Union = ⊥
 MayGrow (physical.Dictionary keys) = ⊥
 MayGrow _ = Unit {0}
 
@@ -143,23 +153,24 @@ may_grow (list large f) grows = tt
 may_grow (list (fixed_size s) f) grows = tt
 may_grow (list (mapped sorted) f) grows = tt
 may_grow (struct fs) grows = tt
-may_grow (union mode ids fs) grows = grows
+may_grow (union mode ids fs) grows = tt
 may_grow (dictionary keys ordered t) grows = grows
 may_grow (extension name metadata t) grows = may_grow t grows
 
 -- those that are none of these have children
-pub others_nest : (p : PhysicalType) → MayGrow p → (p ≡ physical.Null → ⊥) → (p ≡ physical.Boolean → ⊥) → ((x : PrimitiveType) → p ≡ physical.Primitive x → ⊥) → (p ≡ physical.Binary → ⊥) → (p ≡ physical.FixedSizeBinary → ⊥) → (p ≡ physical.LargeBinary → ⊥) → (p ≡ physical.Utf8 → ⊥) → (p ≡ physical.LargeUtf8 → ⊥) → IsNestedType p
-others_nest physical.Null may n b x y f z u v = n refl
-others_nest physical.Boolean may n b x y f z u v = b refl
-others_nest (physical.Primitive e) may n b x y f z u v = x e refl
-others_nest physical.Binary may n b x y f z u v = y refl
-others_nest physical.FixedSizeBinary may n b x y f z u v = f refl
-others_nest physical.LargeBinary may n b x y f z u v = z refl
-others_nest physical.Utf8 may n b x y f z u v = u refl
-others_nest physical.LargeUtf8 may n b x y f z u v = v refl
-others_nest physical.List may n b x y f z u v = tt
-others_nest physical.LargeList may n b x y f z u v = tt
-others_nest physical.FixedSizeList may n b x y f z u v = tt
-others_nest physical.Map may n b x y f z u v = tt
-others_nest physical.Struct may n b x y f z u v = tt
-others_nest _ may n b x y f z u v = may
+pub others_nest : (p : PhysicalType) → MayGrow p → (p ≡ physical.Null → ⊥) → (p ≡ physical.Boolean → ⊥) → ((x : PrimitiveType) → p ≡ physical.Primitive x → ⊥) → (p ≡ physical.Binary → ⊥) → (p ≡ physical.FixedSizeBinary → ⊥) → (p ≡ physical.LargeBinary → ⊥) → (p ≡ physical.Utf8 → ⊥) → (p ≡ physical.LargeUtf8 → ⊥) → (p ≡ physical.Union → ⊥) → IsNestedType p
+others_nest physical.Null may n b x y f z u v w = n refl
+others_nest physical.Boolean may n b x y f z u v w = b refl
+others_nest (physical.Primitive e) may n b x y f z u v w = x e refl
+others_nest physical.Binary may n b x y f z u v w = y refl
+others_nest physical.FixedSizeBinary may n b x y f z u v w = f refl
+others_nest physical.LargeBinary may n b x y f z u v w = z refl
+others_nest physical.Utf8 may n b x y f z u v w = u refl
+others_nest physical.LargeUtf8 may n b x y f z u v w = v refl
+others_nest physical.List may n b x y f z u v w = tt
+others_nest physical.LargeList may n b x y f z u v w = tt
+others_nest physical.FixedSizeList may n b x y f z u v w = tt
+others_nest physical.Map may n b x y f z u v w = tt
+others_nest physical.Struct may n b x y f z u v w = tt
+others_nest physical.Union may n b x y f z u v w = w refl
+others_nest _ may n b x y f z u v w = may

@@ -15,3 +15,9 @@ pub mod NestedLemmas
 pub mod SourceLemmas
 pub mod SpreadLemmas
 pub mod StepLemmas
+pub mod UnionBoundLemmas
+pub mod UnionGrowLemmas
+pub mod UnionRunLemmas
+pub mod UnionTypeLemmas
+pub mod VariantColumns
+pub mod VariantLemmas

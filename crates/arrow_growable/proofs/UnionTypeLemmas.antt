@@ -26,7 +26,7 @@ id_given [] f d within = absurd (omega (arith, within))
 id_given (id ∷ ids) zero d within = refl
 id_given (id ∷ ids) (suc f) d within = id_given ids f d (omega (arith, within))
 
-before_or_same : (f g : ℕ) → (f < g) ⊎ ((f ≡ g) ⊎ (g < f))
+pub before_or_same : (f g : ℕ) → (f < g) ⊎ ((f ≡ g) ⊎ (g < f))
 before_or_same zero zero = inr (inl refl)
 before_or_same zero (suc g) = inl (omega arith)
 before_or_same (suc f) zero = inr (inr (omega arith))

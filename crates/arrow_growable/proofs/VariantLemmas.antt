@@ -13,6 +13,7 @@ use Rattle.arrow_types.specs.Fits.{dense_part, sparse_part}
 use Rattle.arrow_types.specs.Slot.{Slot, Null, Variant, id_at, null_slot}
 use Rattle.arrow_types.proofs.FitsLemmas.{dense_part-append}
 use Rattle.arrow_arrays.specs.Layout.{column_of_id, union_items, variant_at}
+use Rattle.arrow_arrays.specs.UnionParts.{child_row_of}
 use Rattle.arrow_growable.specs.Variants.{part_of_id}
 
 -- what the child of an id holds
@@ -97,3 +98,8 @@ module _ (ids : Option (List ℤ)) (cols news : List (List Slot)) (types : List 
       let pairs = zip types places in
       let run = zip (replicate n id) (range_with_len place n) in
       ap (map (λ row. variant_at ids news row.0 row.1)) (zip-append types (replicate n id) places (range_with_len place n) spans) ∙ (map-append (λ row. variant_at ids news row.0 row.1) pairs run ∙ ((λ j. kept_pairs ids cols news grown pairs placed j ++ union_items ids news (replicate (sym many j) id) (range_with_len place (sym many j))) ∙ ap (λ ys. union_items ids cols types places ++ ys) (run_pairs ids news id col more [] (here ∙ ap (λ ys. col ++ ys) (sym (append-nil more))) place at)))
+
+-- naturals as offsets, and back
+pub naturals_back : (ns : List ℕ) → map child_row_of (map pos ns) ≡ ns
+naturals_back [] = refl
+naturals_back (n ∷ ns) = ap (λ rest. n ∷ rest) (naturals_back ns)

@@ -1,6 +1,6 @@
 //! Runs of rows of one field in an array of unions.
 
-ghost use Rattle.std.specs.Prelude.{◌≡◌, ◌+◌, ◌<◌, ◌≤◌, ◌↔◌, ◌≤ℤ◌, IsTrue, All, pos, length, map, replicate, slice_index_or};
+ghost use Rattle.std.specs.Prelude.{◌≡◌, ◌+◌, ◌^◌, ◌<◌, ◌≤◌, ◌↔◌, ◌≤ℤ◌, IsTrue, All, pos, length, map, replicate, slice_index_or};
 ghost use Rattle.std.specs.List.{range_with_len};
 ghost use Rattle.arrow_memory.specs.Sliced.{sliced};
 ghost use Rattle.arrow_arrays.specs.UnionParts.{child_row_of, child_rows_by};
@@ -21,7 +21,7 @@ pub(crate) fn run_of(array: &UnionArray, row: usize, end: usize) -> (usize, usiz
     let (field, child_row) = array.index(row);
     let count = run_length(array, row, end);
     // The last of these rows lies in the child too.
-    prove!(array.index(row + count - 1).1 < usize::MAX);
+    prove!(child_row <= array.index(row + count - 1).1);
     (field, child_row, count)
 }
 
@@ -35,6 +35,8 @@ fn run_length(array: &UnionArray, row: usize, end: usize) -> usize
     ensures places { sliced (child_rows_by array.now.child_rows array.now.start (length array.now.types)) row result ≡ range_with_len (slice_index_or (child_rows_by array.now.child_rows array.now.start (length array.now.types)) row 0) result }
 {
     let ids = array.types().as_slice();
+    // A dense union has an offset for each row.
+    let _ = array.fields();
     match array.offsets() {
         None => same_ids(ids, row, end),
         Some(offsets) => risen(ids, offsets.as_slice(), row, end),

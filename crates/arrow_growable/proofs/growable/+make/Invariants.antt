@@ -1,7 +1,8 @@
 use Rattle.std.proofs.Common.{◌≡◌, ◌+◌, ◌*◌, map, take}
 use Rattle.std.specs.List.{range_with_len}
 use Rattle.arrow_arrays.specs.Any.{layout_of}
-use Rattle.arrow_arrays.specs.TypeDepth.{type_depth}
+use Rattle.arrow_arrays.specs.TypeDepth.{deepest, type_depth}
+use Rattle.arrow_arrays.specs.UnionParts.{union_layout}
 use Rattle.arrow_flat_growable.specs.Grown.{bound_to, first_type}
 use Rattle.arrow_growable.specs.AnyGrowable.{grown_of}
 use Rattle.arrow_growable.specs.Bound.{bound_layouts}
@@ -19,6 +20,20 @@ decreases-nested::GrowableNested::new l = 3 * type_depth (first_type (bound_layo
 
 abbrev pub decreases-nested::make_children : goal.decreases-nested::make_children
 decreases-nested::make_children l = 3 * type_depth (first_type (bound_layouts l.arrays.now))
+
+-- and those of unions
+
+abbrev pub decreases-union::GrowableUnion::new : goal.decreases-union::GrowableUnion::new
+decreases-union::GrowableUnion::new l = 3 * type_depth (first_type (map (λ r. union_layout r.now) l.arrays.items)) + 1
+
+abbrev pub decreases-make::make_each : goal.decreases-make::make_each
+decreases-make::make_each l =
+    3 * deepest (map first_type (map (λ column. map (λ a. layout_of a.now) column.items) l.columns.now))
+
+-- the growables so far are bound to the columns
+abbrev pub invariant-make::make_each-loop-column : goal.invariant-make::make_each-loop-column
+invariant-make::make_each-loop-column l =
+    map grown_of l.growables.items ≡ map bound_to (take l.column-index (map (λ column. map (λ a. layout_of a.now) column.items) l.columns))
 
 -- the children so far are bound to those of the arrays, and have their types
 abbrev pub invariant-nested::make_children-loop-f : goal.invariant-nested::make_children-loop-f
