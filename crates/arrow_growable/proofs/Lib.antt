@@ -16,8 +16,10 @@ pub mod SourceLemmas
 pub mod SpreadLemmas
 pub mod StepLemmas
 pub mod UnionBoundLemmas
+pub mod UnionChildLemmas
 pub mod UnionGrowLemmas
 pub mod UnionRunLemmas
+pub mod UnionStructLemmas
 pub mod UnionTypeLemmas
 pub mod VariantColumns
 pub mod VariantLemmas

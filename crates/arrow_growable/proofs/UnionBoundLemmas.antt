@@ -65,7 +65,7 @@ grows_twice {t} {types} {mid_types} {new_types} {offsets} {mid_offsets} {new_off
 
 -- what they hold fits
 
-length_held : (t : ArrowType) (types : List ℤ) (offsets : Option (List ℤ)) (gs : List Grown) → HoldsVariants t types offsets gs → length (variant_rows t types offsets gs) ≡ length types
+pub length_held : (t : ArrowType) (types : List ℤ) (offsets : Option (List ℤ)) (gs : List Grown) → HoldsVariants t types offsets gs → length (variant_rows t types offsets gs) ≡ length types
 length_held t types offsets gs holds =
     let pairs = length-map (zip types (places_by types offsets)) (λ row. variant_at (field_ids t) (rows_of_all gs) row.0 row.1) in
     omega (arith, pairs, length-zip types (places_by types offsets), holds.rows.spans)

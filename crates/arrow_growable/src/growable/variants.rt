@@ -1,6 +1,6 @@
 //! Rows of unions under construction: each run of rows of one field goes to its child by one call.
 
-ghost use Rattle.std.specs.Prelude.{◌≡◌, ◌+◌, ◌^◌, ◌<◌, ◌≤◌, ◌⊎◌, ◌++◌, ⊥, Err, Some, pos, length, map, replicate, All, IfErr, IfOk, IsOkUnless, OnOk, slice_index_or};
+ghost use Rattle.std.specs.Prelude.{◌≡◌, ◌+◌, ◌^◌, ◌<◌, ◌≤◌, ◌⊎◌, ◌++◌, Err, Some, pos, length, map, replicate, All, IfErr, IfOk, IsOkUnless, OnOk, slice_index_or};
 ghost use Rattle.std.specs.List.{range_with_len};
 ghost use Rattle.arrow_types.specs.declared.error.Error.{Error};
 ghost use Rattle.arrow_types.specs.Fits.{Fits};
