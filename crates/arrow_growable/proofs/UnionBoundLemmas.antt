@@ -15,6 +15,7 @@ use Rattle.arrow_arrays.specs.Crowded.{CrowdedRow, child_at}
 use Rattle.arrow_arrays.specs.Layout.{Layout, field_ids, rows, variant_at}
 use Rattle.arrow_arrays.specs.TypeParts.{field_types, mode_in}
 use Rattle.arrow_arrays.specs.UnionParts.{UnionParts, child_rows_of, mode_by, rows_of_field, union_layout, union_rows}
+use Rattle.arrow_arrays.proofs.TypeLemmas.{union_has_field}
 use Rattle.arrow_flat_growable.specs.Grown.{Grown, AreCrowded, CannotHold, FitsItself, FitsWith, RefusedBy, named_rows, null_rows_of, rows_among, source_at}
 use Rattle.arrow_growable.specs.Child.{AreBoundAs, BindsRows, IsWell, SomeCannotHoldNulls, bound_rows, source_rows}
 use Rattle.arrow_growable.specs.GrownUnion.{AreFew, GrowsVariants, HoldsVariants, IsBoundUnion, IsUnionOver, NullsRefused, OthersCannotHold, RunRefused, absent, nth_grown, places_by, variant_rows}
@@ -163,6 +164,10 @@ module _ (layouts : List Layout) (index : ℕ) (p : UnionParts) (bounded : index
       ]
 
 -- null slots are rows of the first field
+
+-- a carried union has one
+pub some_children : (t : ArrowType) (offsets : Option (List ℤ)) (gs : List Grown) → IsUnionOver t offsets gs → 0 < length gs
+some_children t offsets gs over = omega (arith, union_has_field t over.kind, as_many t gs over.types)
 
 map-replicate : (n : ℕ) (h : Slot → Slot) (x : Slot) → map h (replicate n x) ≡ replicate n (h x)
 map-replicate zero h x = refl

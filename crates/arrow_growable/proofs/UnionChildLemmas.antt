@@ -19,9 +19,14 @@ pub on_both : {T E P Q R : Type 0} (r : Result T E) → OnOk r P → OnOk r Q �
 on_both (Ok x) p q f = f p q
 on_both (Err e) p q f = tt
 
+-- and from four
+pub on_four : {T E P Q R S X : Type 0} (r : Result T E) → OnOk r P → OnOk r Q → OnOk r R → OnOk r S → (P → Q → R → S → X) → OnOk r X
+on_four (Ok x) p q u s f = f p q u s
+on_four (Err e) p q u s f = tt
+
 -- one that is read
-pub nth_read : (xs : List AnyGrowable) (i : ℕ) (e : AnyGrowable) → i < length xs → e ≡ get_or xs i e → nth_grown (map grown_of xs) i ≡ grown_of e
-nth_read xs i e within read = get_or-map grown_of xs i e absent within ∙ ap grown_of (sym read)
+pub nth_read : (xs : List AnyGrowable) (i : ℕ) (e : AnyGrowable) → i < length xs → nth_grown (map grown_of xs) i ≡ grown_of (get_or xs i e)
+nth_read xs i e within = get_or-map grown_of xs i e absent within
 
 -- and changed
 
@@ -53,8 +58,8 @@ same_after (Ok x) old new more grown failed =
 same_after (Err e) old new more grown failed =
     record { same_type = failed.same_type; same_sources = failed.same_sources }
 
-pub grown_well : (old new : Grown) (more : List Slot) → new ≡ appended old more → FitsItself new → IsWell new
-grown_well old new more grown fits = record { well = ap (λ g. g.failed) grown; fits = fits }
+pub grown_well : {old new : Grown} {more : List Slot} → GrownBy old new more → IsWell new
+grown_well grown = record { well = ap (λ g. g.failed) grown.grown; fits = grown.fits }
 
 -- rows that are named of the array that it is bound to
 pub named_are : (g : Grown) (i n first len : ℕ) → BindsRows g i n → named_rows g i first len ≡ sliced (bound_rows g i) first len

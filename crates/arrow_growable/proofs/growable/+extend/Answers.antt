@@ -11,16 +11,17 @@ use Rattle.arrow_flat.specs.Parts.{bits_of_slice}
 use Rattle.arrow_arrays.specs.Layout.{rows}
 use Rattle.arrow_arrays.specs.TypeDepth.{deepest, type_depth}
 use Rattle.arrow_arrays.proofs.SliceLemmas.{all_changed, changed_next, changed_read, in_map, rest_as_was, written}
-use Rattle.arrow_flat_growable.specs.Grown.{Grown, CannotHold, FitsItself, NamesRows, source_at}
+use Rattle.arrow_flat_growable.specs.Grown.{Grown, CannotHold, FitsItself, NamesRows, appended, named_rows, source_at}
 use Rattle.arrow_flat_growable.proofs.FlatLemmas.{too_many}
 use Rattle.arrow_flat_growable.proofs.ResultLemmas.{on_ok, passed_on}
 use Rattle.arrow_flat_growable.proofs.ValidRowLemmas.{run_long}
 use Rattle.arrow_growable.specs.AnyGrowable.{grown_of}
 use Rattle.arrow_growable.specs.Bound.{bound_layouts}
-use Rattle.arrow_growable.specs.Child.{AreBoundAs, BindsRows, CannotGrow, GrownBy, IsWell, LiesIn, SomeCannotGrow, bound_rows, grown_by, spread}
+use Rattle.arrow_growable.specs.Child.{AreBoundAs, BindsRows, CannotGrow, GrownBy, IsWell, LiesIn, SameBound, SomeCannotGrow, bound_rows, grown_by, spread}
 use Rattle.arrow_growable.specs.Form.{nested_rows}
 use Rattle.arrow_growable.specs.FormLaws.{deepest_child}
 use Rattle.arrow_growable.specs.GrowableSpans.{IsSoundForm, PassesGreatest, form_of, form_with, grown_arrays}
+use Rattle.arrow_growable.specs.GrownUnion.{nth_grown}
 use Rattle.arrow_growable.specs.Nested.{IsGrownNested, rows_of_all}
 use Rattle.arrow_growable.specs.Spans.{span_count, span_nulls, span_place}
 use Rattle.arrow_growable.proofs.ChildLemmas.{grows_more, lies_bare, lies_in_all, names_more, names_there, nulls_refused, part_refused, run_refused}
@@ -28,6 +29,7 @@ use Rattle.arrow_growable.proofs.GrownLemmas.{counts, offsets_refused}
 use Rattle.arrow_growable.proofs.LoopLemmas.{as_many_items, bound_after, deepest_at, holds_next, read_is}
 use Rattle.arrow_growable.proofs.SpreadLemmas.{spread_all}
 use Rattle.arrow_growable.proofs.StepLemmas.{Step, all_well, binds_all, bits_counted, bound_map, children_cannot, failed_parts, fits_step, lies_with, names_of, rises_in, spans_lie, spread_part, step}
+use Rattle.arrow_growable.proofs.UnionChildLemmas.{named_are, nth_read, on_both, same_after, set_bound, set_rows, set_well}
 use Rattle.arrow_growable.proofs.growable.+extend.Goals as goal
 use Rattle.arrow_growable.proofs.growable.+extend.Goals.{nested::GrowableNestedGrowable::extend-After-self-4-1}
 
@@ -275,3 +277,66 @@ nested::GrowableNestedGrowable::extend-returns-clause-fits t c =
     let sound = subst (λ a. IsSoundForm a (form_of c.extend.new.self)) c.in_ok-extend.ensures.arrays c.null_slots-new.ensures.sound in
     let all = ap (λ xs. nested_rows (form_of c.extend.new.self) c.extend_from.new.self (rows_of_all (map grown_of xs))) (back_of t c) in
     subst (Fits (type_of c.self.inside.data_type)) (sym all) (fits_step _ _ _ _ _ _ _ _ _ _ _ s (lies_with _ _ _ (spans_lie c.self.inside.spans) c.in_ok-extend.ensures.form) sound (omega (arith, c.in-Some.ensures)))
+
+-- unions
+
+pub variants::extend_chosen-extend-requires : goal.variants::extend_chosen-extend-requires
+variants::extend_chosen-extend-requires t c = ?
+
+pub variants::extend_chosen-returns-clause-ok : goal.variants::extend_chosen-returns-clause-ok
+variants::extend_chosen-returns-clause-ok t c =
+    let xs = c.args.children.now in
+    let f = c.args.field in
+    let g = nth_grown (map grown_of xs) f in
+    let read = nth_read xs f c.index-children-field.result c.requires.field in
+    let named = ap (λ h. named_rows h c.args.index c.args.child_row c.args.count) (sym read) ∙ named_are g c.args.index (c.args.child_row + c.args.count) c.args.child_row c.args.count c.requires.bound in
+    on_ok c.extend.result c.extend.ensures.ok (λ grown. set_rows xs f c.extend.new.self _ c.requires.field (grown ∙ (λ j. appended (sym read j) (named j))))
+
+pub variants::extend_chosen-returns-clause-well : goal.variants::extend_chosen-returns-clause-well
+variants::extend_chosen-returns-clause-well t c =
+    on_both c.extend.result c.extend.ensures.ok c.extend.ensures.fits (λ grown fits. set_well c.args.children.now c.args.field c.extend.new.self c.requires.well (record { well = ap (λ g. g.failed) grown; fits = fits }))
+
+pub variants::extend_chosen-returns-clause-kept : goal.variants::extend_chosen-returns-clause-kept
+variants::extend_chosen-returns-clause-kept t c =
+    let xs = c.args.children.now in
+    let read = nth_read xs c.args.field c.index-children-field.result c.requires.field in
+    set_bound xs c.args.field c.extend.new.self (subst (λ g. SameBound g (grown_of c.extend.new.self)) (sym read) (same_after c.extend.result _ _ _ c.extend.ensures.ok c.extend.ensures.err))
+
+pub variants::extend_chosen-returns-clause-overflow : goal.variants::extend_chosen-returns-clause-overflow
+variants::extend_chosen-returns-clause-overflow t c overflows =
+    let read = nth_read c.args.children.now c.args.field c.index-children-field.result c.requires.field in
+    subst (λ g. CannotHold g c.args.index c.args.child_row c.args.count) (sym read) (c.extend.ensures.overflow overflows)
+
+pub variants::extend_sparse-extend_others-requires : goal.variants::extend_sparse-extend_others-requires
+variants::extend_sparse-extend_others-requires t c = ?
+
+pub variants::extend_sparse-extend_chosen-requires : goal.variants::extend_sparse-extend_chosen-requires
+variants::extend_sparse-extend_chosen-requires t c = ?
+
+pub variants::extend_dense-append_places-requires : goal.variants::extend_dense-append_places-requires
+variants::extend_dense-append_places-requires t c = ?
+
+pub variants::extend_variants-run_of-requires : goal.variants::extend_variants-run_of-requires
+variants::extend_variants-run_of-requires t c = ?
+
+pub variants::extend_variants-loop-row-preserved : goal.variants::extend_variants-loop-row-preserved
+variants::extend_variants-loop-row-preserved t c = ?
+
+pub variants::extend_variants-extend_variant-requires : goal.variants::extend_variants-extend_variant-requires
+variants::extend_variants-extend_variant-requires t c = ?
+
+pub union::GrowableUnionGrowable::extend-extend_variants-requires : goal.union::GrowableUnionGrowable::extend-extend_variants-requires
+union::GrowableUnionGrowable::extend-extend_variants-requires t c = ?
+
+pub union::GrowableUnionGrowable::extend-invariant_of-self-in_err-extend_variants : goal.union::GrowableUnionGrowable::extend-invariant_of-self-in_err-extend_variants
+union::GrowableUnionGrowable::extend-invariant_of-self-in_err-extend_variants t c = ?
+
+pub union::GrowableUnionGrowable::extend-invariant_of-self-2 : goal.union::GrowableUnionGrowable::extend-invariant_of-self-2
+union::GrowableUnionGrowable::extend-invariant_of-self-2 t c = ?
+
+pub union::GrowableUnionGrowable::extend-returns-clause-ok : goal.union::GrowableUnionGrowable::extend-returns-clause-ok
+union::GrowableUnionGrowable::extend-returns-clause-ok t c = ?
+
+pub union::GrowableUnionGrowable::extend-returns-clause-fits : goal.union::GrowableUnionGrowable::extend-returns-clause-fits
+union::GrowableUnionGrowable::extend-returns-clause-fits t c = ?
+

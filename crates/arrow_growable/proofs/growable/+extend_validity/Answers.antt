@@ -15,14 +15,15 @@ use Rattle.arrow_growable.specs.Child.{AreBoundAs, IsWell, SomeCannotHoldNulls, 
 use Rattle.arrow_growable.specs.Form.{nested_rows}
 use Rattle.arrow_growable.specs.FormLaws.{deepest_child, deepest_of_fields}
 use Rattle.arrow_growable.specs.GrowableSpans.{IsSoundForm, form_of, grown_arrays}
-use Rattle.arrow_growable.specs.GrownUnion.{GrowsVariants, offsets_in, variant_rows}
+use Rattle.arrow_growable.specs.GrownUnion.{GrowsVariants, nth_grown, offsets_in, variant_rows}
 use Rattle.arrow_growable.specs.Nested.{IsGrownNested, rows_of_all}
 use Rattle.arrow_growable.proofs.EvenLemmas.{no_grown}
 use Rattle.arrow_growable.proofs.GrownLemmas.{counts, nulls_refused, slots_refused}
 use Rattle.arrow_growable.proofs.LoopLemmas.{as_many_items, bound_after, deepest_at, holds_next, read_is}
 use Rattle.arrow_growable.proofs.StepLemmas.{Step, all_well, bits_counted, bound_map, failed_parts, fits_step, holds_of, lies_with, spans_lie, step_nulls}
-use Rattle.arrow_growable.proofs.UnionBoundLemmas.{bound_next}
-use Rattle.arrow_growable.proofs.UnionChildLemmas.{grown_well, nth_read, nulls_run, nulls_well, on_both, set_well}
+use Rattle.arrow_growable.proofs.UnionBoundLemmas.{bound_next, null_rows_are, nulls_cannot, some_children}
+use Rattle.arrow_growable.proofs.UnionChildLemmas.{grown_well, nth_read, nulls_well, on_both, on_four, set_well}
+use Rattle.arrow_growable.proofs.UnionGrowLemmas.{grows_run}
 use Rattle.arrow_growable.proofs.UnionStructLemmas.{failed_union, grown_fits, grown_union, held_counted}
 use Rattle.arrow_growable.proofs.growable.+extend_validity.Goals as goal
 use Rattle.arrow_growable.proofs.growable.+extend_validity.Goals.{nested::GrowableNestedGrowable::extend_validity-After-self-4-1}
@@ -176,11 +177,11 @@ nested::GrowableNestedGrowable::extend_validity-returns-clause-fits t c =
 
 pub variants::extend_first_nulls-returns-clause-well : goal.variants::extend_first_nulls-returns-clause-well
 variants::extend_first_nulls-returns-clause-well t c =
-    on_ok c.extend_nulls.result c.extend_nulls.ensures.ok (λ grown. set_well c.args.children.now 0 c.extend_nulls.new.child c.requires.well (grown_well _ _ _ grown.grown grown.fits))
+    on_ok c.extend_nulls.result c.extend_nulls.ensures.ok (λ grown. set_well c.args.children.now 0 c.extend_nulls.new.child c.requires.well (grown_well grown))
 
 pub variants::extend_first_nulls-returns-clause-overflow : goal.variants::extend_first_nulls-returns-clause-overflow
 variants::extend_first_nulls-returns-clause-overflow t c overflows =
-    let first = nth_read c.args.children.now 0 c.index-children-0-2.result c.requires.some c.index-children-0-2.is in
+    let first = nth_read c.args.children.now 0 c.index-children-0-2.result c.requires.some in
     inl (subst (λ g. FitsWith g (null_rows_of g c.args.count) → ⊥) (sym first) (c.extend_nulls.ensures.overflow overflows))
 
 pub variants::extend_null_variant-returns-in-None-clause-well : goal.variants::extend_null_variant-returns-in-None-clause-well
@@ -188,16 +189,31 @@ variants::extend_null_variant-returns-in-None-clause-well t c =
     on_both c.extend_all_nulls.result c.extend_all_nulls.ensures.ok c.extend_all_nulls.ensures.fits (λ are fits. nulls_well c.args.count (map grown_of c.args.children.now) (map grown_of c.extend_all_nulls.new.children) are fits)
 
 pub variants::extend_null_variant-returns-in-Some-clause-overflow : goal.variants::extend_null_variant-returns-in-Some-clause-overflow
-variants::extend_null_variant-returns-in-Some-clause-overflow t c overflows = ?
+variants::extend_null_variant-returns-in-Some-clause-overflow t c overflows =
+    rw c.in-Some.is (c.extend_first_nulls.ensures.overflow overflows)
 
 pub variants::extend_null_variants-extend_null_variant-requires : goal.variants::extend_null_variants-extend_null_variant-requires
-variants::extend_null_variants-extend_null_variant-requires t c = ?
+variants::extend_null_variants-extend_null_variant-requires t c =
+    let gs = map grown_of c.args.children.now in
+    let some : 0 < length gs = some_children (type_of c.args.data_type.now) (offsets_in c.args.offsets.now) gs c.requires.over in
+    (omega (arith, c.decreases), (omega (arith, some, length-map c.args.children.now grown_of), (c.requires.holds.well, c.requires.holds.few 0 some)))
 
 pub variants::extend_null_variants-returns-clause-ok : goal.variants::extend_null_variants-returns-clause-ok
-variants::extend_null_variants-returns-clause-ok t c = ?
+variants::extend_null_variants-returns-clause-ok t c =
+    let u = type_of c.args.data_type.now in
+    let gs = map grown_of c.args.children.now in
+    let n = c.args.count in
+    let some : 0 < length gs = some_children u (offsets_in c.args.offsets.now) gs c.requires.over in
+    let call = c.extend_null_variant.ensures in
+    let more = null_rows_of (nth_grown gs 0) n in
+    on_four c.extend_null_variant.result call.ok call.places call.well call.few (λ news places well few. subst (GrowsVariants u c.args.types.now.items (offsets_in c.args.offsets.now) gs c.append_first_id.new.types.items (offsets_in c.extend_null_variant.new.offsets) (map grown_of c.extend_null_variant.new.children)) (null_rows_are u (offsets_in c.args.offsets.now) gs n c.requires.over some) (grows_run u c.args.types.now.items (offsets_in c.args.offsets.now) gs c.requires.over c.requires.holds 0 n more some (length-replicate n (null_slot (nth_grown gs 0).arrow_type)) (map grown_of c.extend_null_variant.new.children) c.append_first_id.new.types.items (offsets_in c.extend_null_variant.new.offsets) news c.in_ok-append_first_id.ensures.ok places well few))
 
 pub variants::extend_null_variants-returns-clause-overflow : goal.variants::extend_null_variants-returns-clause-overflow
-variants::extend_null_variants-returns-clause-overflow t c overflows = ?
+variants::extend_null_variants-returns-clause-overflow t c overflows =
+    let u = type_of c.args.data_type.now in
+    let gs = map grown_of c.args.children.now in
+    let some : 0 < length gs = some_children u (offsets_in c.args.offsets.now) gs c.requires.over in
+    nulls_cannot u c.args.types.now.items (offsets_in c.args.offsets.now) gs c.args.count c.requires.over c.requires.holds some (c.extend_null_variant.ensures.overflow overflows)
 
 pub union::GrowableUnionGrowable::extend_validity-returns-in_default-clause-overflow : goal.union::GrowableUnionGrowable::extend_validity-returns-in_default-clause-overflow
 union::GrowableUnionGrowable::extend_validity-returns-in_default-clause-overflow t c same fits =
