@@ -18,6 +18,7 @@ pub mod StepLemmas
 pub mod UnionBoundLemmas
 pub mod UnionChildLemmas
 pub mod UnionGrowLemmas
+pub mod UnionLoopLemmas
 pub mod UnionOthersLemmas
 pub mod UnionRunLemmas
 pub mod UnionStructLemmas

@@ -6,9 +6,10 @@ use Rattle.std.specs.List.{All}
 use Rattle.std.proofs.lemmas.List.{get_or-map, length-map, map-append}
 use Rattle.std.proofs.lemmas.List.Elements.{All-append, All-cons}
 use Rattle.arrow_types.specs.declared.error.Error.{Error}
+use Rattle.arrow_types.specs.ArrowType.{ArrowType}
 use Rattle.arrow_types.specs.Slot.{Slot}
 use Rattle.arrow_memory.specs.Sliced.{sliced}
-use Rattle.arrow_flat_growable.specs.Grown.{Grown, FitsItself, FitsWith, HasFailed, appended, named_rows, null_rows_of, rows_among}
+use Rattle.arrow_flat_growable.specs.Grown.{Grown, AreThere, CountsRows, FitsItself, FitsWith, HasFailed, NamesRows, appended, named_rows, null_rows_of, rows_among}
 use Rattle.arrow_growable.specs.AnyGrowable.{grown_of}
 use Rattle.arrow_growable.specs.Child.{AreBoundAs, BindsRows, GrownBy, IsWell, SameBound, bound_rows, grown_by_nulls, source_rows}
 use Rattle.arrow_growable.specs.GrownUnion.{absent, nth_grown, with_others, with_rows, with_run}
@@ -61,6 +62,18 @@ same_after (Err e) old new more grown failed =
 pub grown_well : {old new : Grown} {more : List Slot} → GrownBy old new more → IsWell new
 grown_well grown = record { well = ap (λ g. g.failed) grown.grown; fits = grown.fits }
 
+-- so many rows that are bound are there
+pub binds_names : (g : Grown) (i first len : ℕ) → BindsRows g i (first + len) → NamesRows g i first len
+binds_names g i first len binds =
+    subst (λ s. AreThere s i first len) (sym binds.sources) (binds.bound, binds.within)
+
+-- a child that has not failed has as many rows as it counts
+pub place_is : (xs : List AnyGrowable) (i place : ℕ) (e : AnyGrowable) → i < length xs → All IsWell (map grown_of xs) → place ≡ (grown_of (get_or xs i e)).count → CountsRows (grown_of (get_or xs i e)) → place ≡ length (nth_grown (map grown_of xs) i).rows
+place_is xs i place e within well is counts =
+    let read = nth_read xs i e within in
+    let one : IsWell (grown_of (get_or xs i e)) = subst IsWell read (well i absent (omega (arith, within, length-map xs grown_of))) in
+    is ∙ (counts one.well ∙ ap (λ g. length g.rows) (sym read))
+
 -- rows that are named of the array that it is bound to
 pub named_are : (g : Grown) (i n first len : ℕ) → BindsRows g i n → named_rows g i first len ≡ sliced (bound_rows g i) first len
 named_are g i n first len binds =
@@ -77,3 +90,8 @@ nulls_well n gs news are fits =
 pub nulls_run : (n : ℕ) (gs : List Grown) → 0 < length gs → map (grown_by_nulls n) gs ≡ with_run None 0 (null_rows_of (nth_grown gs 0) n) n gs
 nulls_run n [] some = absurd (omega (arith, some))
 nulls_run n (g ∷ gs) some = refl
+
+-- as many children as of the same types
+pub as_many_types : (xs ys : List AnyGrowable) (ts : List ArrowType) → map (λ g. g.arrow_type) (map grown_of xs) ≡ ts → map (λ g. g.arrow_type) (map grown_of ys) ≡ ts → length xs ≡ length ys
+as_many_types xs ys ts first second =
+    omega (arith, length-map xs grown_of, length-map ys grown_of, length-map (map grown_of xs) (λ (g : Grown). g.arrow_type), length-map (map grown_of ys) (λ (g : Grown). g.arrow_type), ap length first, ap length second)

@@ -13,6 +13,7 @@ use Rattle.arrow_memory.specs.Sliced.{sliced}
 use Rattle.arrow_memory.proofs.SlicedLemmas.{length-sliced, sliced-cut}
 use Rattle.arrow_arrays.specs.Crowded.{CrowdedRow, CrowdedVariant, child_at, nth_layout}
 use Rattle.arrow_arrays.specs.Layout.{Layout, column_of_id, flat, field_ids, rows, to_layouts, type_of_layout, union_items}
+use Rattle.arrow_arrays.specs.TypeParts.{field_types}
 use Rattle.arrow_arrays.specs.UnionParts.{FindsField, SpansRows, UnionParts, child_row_of, child_rows_by, rows_of_field, union_layout, union_layout_by, union_rows}
 use Rattle.arrow_arrays.proofs.PartLemmas.{range-sliced, union_items-sliced}
 use Rattle.arrow_arrays.proofs.StructLemmas.{columns_of-to_layouts}
@@ -135,13 +136,14 @@ module _ (p : UnionParts) (row f j n g last : ℕ) (some : 0 < n) (part : row + 
       let read = read_part all_places (range_with_len (get_or all_places row 0) n) row n (n - 1) 0 places (omega (arith, some)) in
       sym (get_or_from_slice_get all_places (row + n - 1) last 0 last_place) ∙ (ap (λ k. get_or all_places k 0) (sym at) ∙ (read ∙ (get_or-range_with_len (get_or all_places row 0) n (n - 1) 0 (omega (arith, some)) ∙ ap (λ k. k + (n - 1)) j_is)))
 
-  pub is_run : FindsField ids (length p.children) (get_or p.types row (pos 0)) (Some f) → FindsField ids (length p.children) (get_or p.types (row + n - 1) (pos 0)) (Some g) → last < length (rows_of_field p.children g) → IsRun p row f j n
-  is_run first_field last_field inside =
+  pub is_run : FindsField ids (length p.children) (get_or p.types row (pos 0)) (Some f) → FindsField ids (length p.children) (get_or p.types (row + n - 1) (pos 0)) (Some g) → last < length (rows_of_field p.children g) → map type_of_layout p.children ≡ field_types p.arrow_type → IsRun p row f j n
+  is_run first_field last_field inside fields =
       let at : row + (n - 1) ≡ row + n - 1 = omega (arith, some) in
       let read = read_part p.types (replicate n (get_or p.types row (pos 0))) row n (n - 1) (pos 0) types (omega (arith, some)) in
       let same_id : get_or p.types (row + n - 1) (pos 0) ≡ get_or p.types row (pos 0) = ap (λ k. get_or p.types k (pos 0)) (sym at) ∙ (read ∙ get_or-replicate n (n - 1) (get_or p.types row (pos 0)) (pos 0) (omega (arith, some))) in
       let same : f ≡ g = found_same ids (length p.children) (get_or p.types row (pos 0)) f g first_field (subst (λ id. FindsField ids (length p.children) id (Some g)) same_id last_field) in
       record {
+        width = sym (length-map p.children type_of_layout) ∙ ap length fields;
         field = first_field.0;
         types = types ∙ ap (replicate n) (sym first_field.1);
         places = places ∙ ap (λ k. range_with_len k n) j_is;

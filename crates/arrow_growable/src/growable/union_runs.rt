@@ -18,6 +18,8 @@ pub(crate) fn run_of(array: &UnionArray, row: usize, end: usize) -> (usize, usiz
     ensures part { row + result.2 ≤ end }
     ensures run { IsRun array.now row result.0 result.1 result.2 }
 {
+    // There is a child for each field.
+    let _ = array.fields();
     let (field, child_row) = array.index(row);
     let count = run_length(array, row, end);
     // The last of these rows lies in the child too.

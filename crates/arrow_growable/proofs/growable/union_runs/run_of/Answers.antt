@@ -11,4 +11,4 @@ prove-unreachable-requires c =
 pub returns-clause-run : goal.returns-clause-run
 returns-clause-run c =
     let run = c.run_length-count.ensures in
-    is_run c.args.array.now c.args.row c.index-field.result.0 c.index-field.result.1 c.run_length-count.result c.index.result.0 c.index.result.1 run.some (omega (arith, run.part, c.requires.part)) run.types run.places c.index-field.ensures.child_row c.index.ensures.child_row c.index-field.ensures.field c.index.ensures.field c.index.ensures.within
+    is_run c.args.array.now c.args.row c.index-field.result.0 c.index-field.result.1 c.run_length-count.result c.index.result.0 c.index.result.1 run.some (omega (arith, run.part, c.requires.part)) run.types run.places c.index-field.ensures.child_row c.index.ensures.child_row c.index-field.ensures.field c.index.ensures.field c.index.ensures.within c.fields.ensures.fields
