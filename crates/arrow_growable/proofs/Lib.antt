@@ -17,8 +17,10 @@ pub mod SpreadLemmas
 pub mod StepLemmas
 pub mod UnionBoundLemmas
 pub mod UnionChildLemmas
+pub mod UnionFinishLemmas
 pub mod UnionGrowLemmas
 pub mod UnionLoopLemmas
+pub mod UnionMakeLemmas
 pub mod UnionOthersLemmas
 pub mod UnionRunLemmas
 pub mod UnionStructLemmas

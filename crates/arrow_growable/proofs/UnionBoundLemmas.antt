@@ -71,7 +71,7 @@ length_held t types offsets gs holds =
     let pairs = length-map (zip types (places_by types offsets)) (λ row. variant_at (field_ids t) (rows_of_all gs) row.0 row.1) in
     omega (arith, pairs, length-zip types (places_by types offsets), holds.rows.spans)
 
-part_of_child : (t : ArrowType) (types : List ℤ) (offsets : Option (List ℤ)) (gs : List Grown) → HoldsVariants t types offsets gs → (f : ℕ) → f < length gs → (nth_grown gs f).rows ≡ field_part t f (variant_rows t types offsets gs)
+pub part_of_child : (t : ArrowType) (types : List ℤ) (offsets : Option (List ℤ)) (gs : List Grown) → HoldsVariants t types offsets gs → (f : ℕ) → f < length gs → (nth_grown gs f).rows ≡ field_part t f (variant_rows t types offsets gs)
 part_of_child t types offsets gs holds f within =
     sym (column_is gs f within) ∙ holds.rows.parts f (omega (arith, within, length-map gs (λ (h : Grown). h.rows)))
 

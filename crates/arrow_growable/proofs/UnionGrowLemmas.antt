@@ -133,7 +133,7 @@ few_behind None place n k few = tt
 few_behind (Some os) place n k few = few
 
 -- a sparse union has as many rows as each child
-part_long : (mode : UnionMode) (id : ℤ) (t : ArrowType) (xs : List Slot) → mode ≡ Sparse → length (part_of_id mode id t xs) ≡ length xs
+pub part_long : (mode : UnionMode) (id : ℤ) (t : ArrowType) (xs : List Slot) → mode ≡ Sparse → length (part_of_id mode id t xs) ≡ length xs
 part_long Sparse id t xs sparse = length-map xs (sparse_part id t)
 part_long Dense id t xs sparse = cc
 

@@ -69,7 +69,7 @@ run_place p row f j n k run within =
 
 -- a row of a child that is crowded makes its row so
 
-abbrev none_there : Layout
+abbrev pub none_there : Layout
 none_there = flat (plain null) []
 
 nth_from : (ls : List Layout) (f : ℕ) → nth_layout (to_layouts ls) f ≡ get_or ls f none_there

@@ -129,6 +129,11 @@ abbrev pub union_children : List Layout → List (List Layout)
 union_children layouts =
     map (λ f. map (child_at f) layouts) (range_with_len 0 (length (field_types (first_type layouts))))
 
+-- the children of each field have its type
+abbrev pub HaveFieldTypes : List Layout → Type 0
+HaveFieldTypes layouts =
+    (f : ℕ) → f < length (field_types (first_type layouts)) → All (λ l. type_of_layout l ≡ variant_type (first_type layouts) f) (map (child_at f) layouts)
+
 -- the offsets of no row: none in a sparse union
 abbrev pub no_offsets : UnionMode → Option (List ℤ)
 no_offsets Sparse = None

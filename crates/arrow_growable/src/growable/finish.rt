@@ -156,23 +156,24 @@ fn struct_array(data_type: DataType, values: Vec<AnyArray>, validity: Option<Bit
     AnyArray::Struct(array)
 }
 
-/// An array of unions, dense where there are offsets.
+/// An array of unions of a data type, dense where there are offsets.
 ///
 /// # Errors
 /// `OutOfMemory` where memory is refused.
 pub(crate) fn union_array(
     alloc: Global,
-    data_type: DataType,
+    data_type: &DataType,
     types: Vec<i8>,
     values: Vec<AnyArray>,
     offsets: Option<Vec<i32>>,
 ) -> Result<UnionArray, Error>
-    requires { HoldsUnion (type_of data_type) types.items (map layout_of values.items) (offsets_in offsets) }
-    ensures ok { IfOk result (λ array. array ≡ (record { arrow_type = type_of data_type; types = types.items; child_rows = child_rows_of (offsets_in offsets); start = 0; children = map layout_of values.items })) }
+    requires { HoldsUnion (type_of data_type.now) types.items (map layout_of values.items) (offsets_in offsets) }
+    ensures ok { IfOk result (λ array. array ≡ (record { arrow_type = type_of data_type.now; types = types.items; child_rows = child_rows_of (offsets_in offsets); start = 0; children = map layout_of values.items })) }
     ensures err { IsOkUnless result Error.OutOfMemory }
 {
     let types = Buffer::from_vec(alloc, types)?;
     let offsets = offset_buffer(alloc, offsets)?;
+    let data_type = data_type.clone()?;
     let Ok(array) = UnionArray::try_new(data_type, types, values, offsets) else {
         unreachable!();
     };

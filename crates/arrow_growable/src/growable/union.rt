@@ -1,18 +1,17 @@
 //! Arrays of unions under construction.
 
-ghost use Rattle.std.specs.Prelude.{◌≡◌, ◌<◌, ◌↔◌, true, Err, Some, length, map, IfErr, IfOk, IsOkUnless, OnErr, OnOk};
-ghost use Rattle.std.specs.List.{range_with_len};
+ghost use Rattle.std.specs.Prelude.{◌≡◌, ◌<◌, ◌↔◌, true, Err, Some, length, map, All, IfErr, IfOk, IsOkUnless, OnErr, OnOk};
 ghost use Rattle.arrow_types.specs.declared.error.Error.{Error};
-ghost use Rattle.arrow_types.specs.TypeOf.{type_of};
 ghost use Rattle.arrow_arrays.specs.Any.{layout_of};
 ghost use Rattle.arrow_arrays.specs.Crowded.{child_at};
 ghost use Rattle.arrow_arrays.specs.Layout.{type_of_layout};
-ghost use Rattle.arrow_arrays.specs.TypeParts.{field_types, mode_in};
-ghost use Rattle.arrow_arrays.specs.UnionParts.{mode_by, union_layout, union_rows};
+ghost use Rattle.arrow_arrays.specs.TypeParts.{field_types};
+ghost use Rattle.arrow_arrays.specs.UnionParts.{union_layout, union_rows};
 ghost use Rattle.arrow_flat_growable.specs.Grown.{AreOfOneType, HasFailed, IsFailedOrMemory, bound_to, empty_over, first_type};
 ghost use Rattle.arrow_growable.specs.AnyGrowable.{grown_of};
 ghost use Rattle.arrow_growable.specs.Growable.{IsGrowable};
-ghost use Rattle.arrow_growable.specs.GrownUnion.{no_offsets, offsets_in, union_children};
+ghost use Rattle.arrow_growable.specs.GrownUnion.{HaveFieldTypes, no_offsets, offsets_in, union_children};
+ghost use Rattle.arrow_growable.specs.Variants.{variant_type};
 
 use crate::growable::Growable;
 use crate::growable::any::AnyGrowable;
@@ -126,12 +125,11 @@ impl<'a> GrowableUnion<'a> {
         requires some { 0 < length arrays.items }
         requires one_type { AreOfOneType (map (λ r. union_layout r.now) arrays.items) }
         requires children { map grown_of children.items ≡ map bound_to (union_children (map (λ r. union_layout r.now) arrays.items)) }
+        requires types { map (λ g. g.arrow_type) (map grown_of children.items) ≡ field_types (first_type (map (λ r. union_layout r.now) arrays.items)) }
         ensures ok { IfOk result (λ growable. growable ≡ bound_to (map (λ r. union_layout r.now) arrays.entry.items)) }
         ensures err { IsOkUnless result Error.OutOfMemory }
     {
         let first: &'a UnionArray = arrays[0];
-        // There is a child of the type of each field.
-        let _ = first.fields();
         let data_type = first.data_type().clone()?;
         let types = Vec::with_capacity(alloc, capacity)?;
         let offsets = new_offsets(alloc, mode(&data_type), capacity)?;
@@ -173,12 +171,11 @@ impl<'a> GrowableUnion<'a> {
             return Err(Error::Failed);
         }
         self.has_failed = true;
-        let data_type = self.data_type.clone()?;
-        let fresh = new_offsets(self.alloc, mode(&data_type), 0)?;
         let values = box_children(self.alloc, &mut self.children)?;
+        let fresh = without_offsets(self.alloc, mode(&self.data_type));
         let types = mem::replace(&mut self.types, Vec::new(self.alloc));
         let offsets = mem::replace(&mut self.offsets, fresh);
-        let array = union_array(self.alloc, data_type, types, values, offsets)?;
+        let array = union_array(self.alloc, &self.data_type, types, values, offsets)?;
         self.len = 0;
         self.has_failed = false;
         Ok(array)
@@ -242,7 +239,17 @@ impl<'a> Growable<'a> for GrowableUnion<'a> {
     }
 }
 
-/// No offsets, with room for so many, in a dense union, and none at all in a sparse one.
+/// No offsets in a dense union, and none at all in a sparse one.
+fn without_offsets(alloc: Global, mode: UnionMode) -> Option<Vec<i32>>
+    ensures { offsets_in result ≡ no_offsets mode }
+{
+    match mode {
+        UnionMode::Sparse => None,
+        UnionMode::Dense => Some(Vec::new(alloc)),
+    }
+}
+
+/// The same with room for so many.
 fn new_offsets(alloc: Global, mode: UnionMode, capacity: usize) -> Result<Option<Vec<i32>>, Error>
     ensures ok { IfOk result (λ offsets. offsets_in offsets ≡ no_offsets mode) }
     ensures err { IsOkUnless result Error.OutOfMemory }
@@ -261,6 +268,7 @@ fn all_columns<'a>(
     requires some { 0 < length arrays.now }
     requires one_type { AreOfOneType (map (λ r. union_layout r.now) arrays.now) }
     ensures ok { IfOk result (λ columns. map (λ column. map (λ a. layout_of a.now) column.items) columns.items ≡ union_children (map (λ r. union_layout r.now) arrays.now)) }
+    ensures types { OnOk result (HaveFieldTypes (map (λ r. union_layout r.now) arrays.now)) }
     ensures err { IsOkUnless result Error.OutOfMemory }
 {
     let width = arrays[0].fields().len();
@@ -280,6 +288,7 @@ fn column_of<'a>(
     requires one_type { AreOfOneType (map (λ r. union_layout r.now) arrays.now) }
     requires child { f < length (field_types (first_type (map (λ r. union_layout r.now) arrays.now))) }
     ensures ok { IfOk result (λ column. map (λ a. layout_of a.now) column.items ≡ map (child_at f) (map (λ r. union_layout r.now) arrays.now)) }
+    ensures types { OnOk result (All (λ l. type_of_layout l ≡ variant_type (first_type (map (λ r. union_layout r.now) arrays.now)) f) (map (child_at f) (map (λ r. union_layout r.now) arrays.now))) }
     ensures err { IsOkUnless result Error.OutOfMemory }
 {
     let mut column: Vec<&'a AnyArray> = Vec::with_capacity(alloc, arrays.len())?;

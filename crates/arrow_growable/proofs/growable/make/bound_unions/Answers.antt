@@ -1,0 +1,22 @@
+use Rattle.std.proofs.Common.{arith, ◌≡◌, Bor, map, ap, sym, ◌∙◌}
+use Rattle.arrow_types.specs.Physical.{physical_type_of}
+use Rattle.arrow_arrays.specs.Any.{kind_in, layout_of}
+use Rattle.arrow_arrays.specs.UnionParts.{union_layout}
+use Rattle.arrow_growable.proofs.MakeLemmas.{bind_all, bind_next, type_at}
+use Rattle.arrow_growable.proofs.growable.make.bound_unions.Goals as goal
+
+pub loop-array-init : goal.loop-array-init
+loop-array-init c = ap (map (λ (r : Bor _). union_layout r.now)) c.in_ok-unions.ensures.items
+
+pub as_union-requires : goal.as_union-requires
+as_union-requires c =
+    let same = type_at (λ (a : Bor _). layout_of a.now) c.args.arrays.now c.array-item.result c.loop-array.array-index c.loop-array-test.true c.array-item.is c.requires.one_type in
+    sym c.data_type.ensures.kind ∙ (ap (λ t. kind_in (physical_type_of t)) same ∙ ap kind_in c.requires.kind)
+
+pub loop-array-preserved : goal.loop-array-preserved
+loop-array-preserved c =
+    rw c.in_ok-push.ensures.items (bind_next (λ (r : Bor _). union_layout r.now) (λ (a : Bor _). layout_of a.now) c.loop-array.unions.items c.as_union.result c.args.arrays.now c.array-item.result c.loop-array.array-index c.loop-array-test.true c.array-item.is c.as_union.ensures c.loop-array.invariant)
+
+pub returns-clause-ok : goal.returns-clause-ok
+returns-clause-ok c =
+    bind_all (λ (r : Bor _). union_layout r.now) (λ (a : Bor _). layout_of a.now) c.loop-array.unions.items c.args.arrays.now c.loop-array.array-index (omega (arith, c.loop-array-test.false)) c.loop-array.invariant
