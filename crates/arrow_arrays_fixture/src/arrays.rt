@@ -61,8 +61,8 @@ pub const FLATS: [Shape; 9] = [
     Shape::FixedSizeBinary,
 ];
 
-/// The shapes with children whose arrays can grow.
-pub const NESTED: [Shape; 7] = [
+/// The shapes with children.
+pub const NESTED: [Shape; 9] = [
     Shape::Lists(ListKind::Small),
     Shape::Lists(ListKind::Large),
     Shape::Lists(ListKind::Named),
@@ -70,6 +70,8 @@ pub const NESTED: [Shape; 7] = [
     Shape::Lists(ListKind::Map),
     Shape::Pairs(None),
     Shape::Dictionary,
+    Shape::Pairs(Some(UnionMode::Sparse)),
+    Shape::Pairs(Some(UnionMode::Dense)),
 ];
 
 /// The shapes whose rows are told apart by their letters, each with its physical type.
@@ -137,20 +139,32 @@ fn flat_array(alloc: Global, shape: Shape, letters: &[u8]) -> Result<AnyArray, E
     }
 }
 
-/// Keys of the letters a to z.
+/// The letters of what a dictionary or a dense union holds, valid and null ones.
+const LETTERS: &[u8] = b"abcdefghijklmnopqrstuvwxyz0123456789ABCDEFGHIJKLMNOPQRSTUVWXYZ";
+
+/// Where a letter stands among these; a null one for any other.
+fn place_of(letter: u8) -> u8 {
+    match letter {
+        b'a'..=b'z' => letter - b'a',
+        b'0'..=b'9' => letter - b'0' + 26,
+        b'A'..=b'Z' => letter - b'A' + 36,
+        _ => 36,
+    }
+}
+
+/// Keys of letters.
 fn keys_of(alloc: Global, letters: &[u8]) -> Result<AnyKeys, Error> {
     let mut keys = Vec::with_capacity(alloc, letters.len())?;
     for letter in letters {
-        let key = letter.to_ascii_lowercase().saturating_sub(b'a');
-        keys.push(i8::try_from(key).unwrap_or(-1))?;
+        keys.push(i8::try_from(place_of(*letter)).unwrap_or(-1))?;
     }
     let (keys, validity) = (Buffer::from_vec(alloc, keys)?, validity_of(alloc, letters)?);
     Ok(AnyKeys::Int8(PrimitiveArray::<i8>::try_new(DataType::Int8, keys, validity)?))
 }
 
-/// A dictionary of the texts a to z.
+/// A dictionary of all letters.
 fn dictionary(alloc: Global, letters: &[u8]) -> Result<Box<AnyArray>, Error> {
-    let values = flat(alloc, Shape::Utf8, b"abcdefghijklmnopqrstuvwxyz")?;
+    let values = flat(alloc, Shape::Utf8, LETTERS)?;
     let keys = keys_of(alloc, letters)?;
     let data_type = read(alloc, "utf8 dictionary:i8")?;
     let array = DictionaryArray::try_new(data_type, keys, values)?;
@@ -354,22 +368,17 @@ fn ids_and_offsets(alloc: Global, letters: &[u8]) -> Result<(Vec<i8>, Vec<i32>),
     let (mut ids, mut offsets) = (Vec::new(alloc), Vec::new(alloc));
     for letter in letters {
         ids.push(if *letter % 2 == 1 { 5 } else { 7 })?;
-        let first = if letter.is_ascii_lowercase() {
-            b'a'
-        } else {
-            b'A' - 8
-        };
-        offsets.push(i32::from(letter.saturating_sub(first)))?;
+        offsets.push(i32::from(place_of(*letter)))?;
     }
     Ok((ids, offsets))
 }
 
-/// A capital is null in the children. Those of a dense union are the letters a to h and A to H.
+/// A capital is null in the children. Those of a dense union have all letters.
 fn unions(alloc: Global, mode: UnionMode, letters: &[u8]) -> Result<Box<AnyArray>, Error> {
     let (ids, offsets) = ids_and_offsets(alloc, letters)?;
     match mode {
         UnionMode::Sparse => union_over(alloc, mode, letters, &ids, None),
-        UnionMode::Dense => union_over(alloc, mode, b"abcdefghABCDEFGH", &ids, Some(&offsets)),
+        UnionMode::Dense => union_over(alloc, mode, LETTERS, &ids, Some(&offsets)),
     }
 }
 

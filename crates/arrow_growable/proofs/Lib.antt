@@ -7,10 +7,10 @@ pub mod EvenLemmas
 pub mod FieldLemmas
 pub mod FinishLemmas
 pub mod FixedSizeLemmas
-pub mod GrowableLemmas
 pub mod GrowLemmas
 pub mod GrownLemmas
 pub mod JoinedLemmas
+pub mod KindLemmas
 pub mod ListLemmas
 pub mod LoopLemmas
 pub mod MakeLemmas
@@ -19,3 +19,15 @@ pub mod SourceLemmas
 pub mod SpreadLemmas
 pub mod StepLemmas
 pub mod UnjoinedLemmas
+pub mod UnionBoundLemmas
+pub mod UnionChildLemmas
+pub mod UnionFinishLemmas
+pub mod UnionGrowLemmas
+pub mod UnionLoopLemmas
+pub mod UnionMakeLemmas
+pub mod UnionOthersLemmas
+pub mod UnionRunLemmas
+pub mod UnionStructLemmas
+pub mod UnionTypeLemmas
+pub mod VariantColumns
+pub mod VariantLemmas

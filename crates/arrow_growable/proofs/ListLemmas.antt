@@ -29,7 +29,7 @@ use Rattle.arrow_flat_growable.specs.GrownRows.{AreGrown, filled, total, valid_v
 use Rattle.arrow_flat_growable.specs.MaskLaws.{mask-append, mask-filled, mask-part, mask-unset, length-bits_of_slice, length-filled}
 use Rattle.arrow_flat_growable.proofs.GrownRowLemmas.{empty_grown, empty_rows, last_behind, sliced-cut, total_pieces}
 use Rattle.arrow_flat_growable.proofs.ValidRowLemmas.{valid_grown, valid_last, valid_moved}
-use Rattle.arrow_growable.proofs.GrowableLemmas.{no_plain}
+use Rattle.arrow_growable.proofs.KindLemmas.{no_plain}
 use Rattle.arrow_growable.specs.Child.{GrownBy}
 use Rattle.arrow_growable.specs.Lists.{AnyItems, FitsLists, HoldsLists, IsListType, SparesItems, greatest_in, lists_rows}
 

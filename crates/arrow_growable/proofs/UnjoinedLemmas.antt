@@ -1,6 +1,8 @@
 -- Dictionaries of a child that can't be joined: neither can those of the arrays that hold it.
-use Rattle.std.proofs.Common.{arith, ◌≡◌, ◌+◌, ◌<◌, ◌⊎◌, inl, inr, ℕ, zero, suc, List, [], ◌∷◌, ◌++◌, length, map, take, get_or, refl, ap, sym, subst, ◌∙◌, append_assoc}
-use Rattle.std.specs.Prelude.{slice_index_or}
+use Rattle.std.proofs.Common.{arith, ◌≡◌, ◌+◌, ◌<◌, ◌⊎◌, inl, inr, ℕ, ℤ, zero, suc, Option, Some, None, List, [], ◌∷◌, ◌++◌, Result, Ok, Err, length, map, take, get_or, refl, ap, sym, subst, ◌∙◌, append_assoc}
+use Rattle.std.specs.Prelude.{IsErrAnd, IsOkUnless, slice_index_or}
+use Rattle.arrow_types.specs.declared.error.Error.{Error}
+use Rattle.arrow_types.specs.declared.error.Error.TheVariants.{OutOfMemory}
 use Rattle.std.specs.List.{All}
 use Rattle.std.proofs.lemmas.List.{append-nil, length-map}
 use Rattle.std.proofs.lemmas.List.Elements.{All-cons}
@@ -13,16 +15,17 @@ use Rattle.arrow_flat.specs.DictionaryScalar.{values_in}
 use Rattle.arrow_arrays.specs.Any.{dictionary_kind, kind_in}
 use Rattle.arrow_arrays.specs.TypeDepth.{type_depth}
 use Rattle.arrow_arrays.proofs.ShapeLemmas.{dictionary_child}
-use Rattle.arrow_arrays.specs.Crowded.{CrowdedAmong, CrowdedRow, Unjoined, UnjoinedBy, UnjoinedPart, child_at, child_of}
+use Rattle.arrow_arrays.specs.Crowded.{CrowdedAmong, CrowdedRow, Unjoined, UnjoinedBy, UnjoinedPart, child_at, child_of, nth_layout}
 use Rattle.arrow_arrays.specs.KeyedParts.{KeyedParts, keyed_layout}
-use Rattle.arrow_arrays.specs.Layout.{Layout, Layouts, listed, fixed, fielded, no_layouts, more_layouts, from_layouts, rows, type_of_layout}
+use Rattle.arrow_arrays.specs.UnionParts.{UnionParts, union_layout, union_layout_by}
+use Rattle.arrow_arrays.specs.Layout.{Layout, Layouts, listed, fixed, fielded, no_layouts, more_layouts, from_layouts, to_layouts, rows, type_of_layout}
 use Rattle.arrow_flat_growable.specs.Grown.{AreOfOneType, first_type, source_at}
 use Rattle.arrow_flat_growable.proofs.FlatLemmas.{first_is}
 use Rattle.arrow_growable.specs.Form.{Form, by_offsets, by_size, by_fields}
 use Rattle.arrow_growable.specs.Join.{CannotAppendAll, CannotJoin}
 use Rattle.arrow_growable.specs.Source.{IsOfForm, no_child, nth_child}
 use Rattle.arrow_growable.proofs.CrowdLemmas.{field_child, listed_child, same_map, sized_child}
-use Rattle.arrow_growable.proofs.GrowableLemmas.{shape_of_dictionaries}
+use Rattle.arrow_growable.proofs.KindLemmas.{shape_of_dictionaries}
 use Rattle.arrow_growable.proofs.MakeLemmas.{first_type_of, map_twice, one_type_of}
 
 -- a field of structs, of those from field g on
@@ -52,6 +55,24 @@ pub child_unjoined : (form : Form) (layouts : List Layout) (f : ℕ) → All (Is
 child_unjoined form [] f each inner = inner
 child_unjoined form (l ∷ ls) f each inner =
     by_first form l (l ∷ ls) f each (each 0 l (omega arith)) inner
+
+-- a field of unions, of those from field g on
+nth_unjoined : (cs : Layouts) (all : List Layout) (g f h : ℕ) → h ≡ g + f → UnjoinedBy (nth_layout cs f) (map (child_at h) all) → UnjoinedPart cs g all
+nth_unjoined no_layouts all g f h at inner = inner
+nth_unjoined (more_layouts l ls) all g zero h at inner =
+    inl (subst (λ k. UnjoinedBy l (map (child_at k) all)) (omega (arith, at)) inner)
+nth_unjoined (more_layouts l ls) all g (suc f) h at inner =
+    inr (nth_unjoined ls all (suc g) f h (omega (arith, at)) inner)
+
+by_union : (t : ArrowType) (types : List ℤ) (child_rows : Option (List ℕ)) (start : ℕ) (children all : List Layout) (f : ℕ) → UnjoinedBy (child_at f (union_layout_by t types child_rows start children)) (map (child_at f) all) → UnjoinedBy (union_layout_by t types child_rows start children) all
+by_union t types None start children all f inner = nth_unjoined (to_layouts children) all 0 f f (omega arith) inner
+by_union t types (Some child_rows) start children all f inner = nth_unjoined (to_layouts children) all 0 f f (omega arith) inner
+
+pub field_unjoined : {A : Type 0} (g : A → UnionParts) (arrays : List A) (f : ℕ) → Unjoined (map (child_at f) (map (λ a. union_layout (g a)) arrays)) → Unjoined (map (λ a. union_layout (g a)) arrays)
+field_unjoined g [] f inner = inner
+field_unjoined g (a ∷ arrays) f inner =
+    let p = g a in
+    by_union p.arrow_type p.types p.child_rows p.start p.children (map (λ b. union_layout (g b)) (a ∷ arrays)) f inner
 
 -- dictionaries whose values can't be joined
 pub values_unjoined : {A : Type 0} (f : A → KeyedParts) (arrays : List A) → CannotJoin (map child_of (map (λ a. keyed_layout (f a)) arrays)) → 0 < length arrays → Unjoined (map (λ a. keyed_layout (f a)) arrays)
@@ -98,3 +119,8 @@ crowded_among before (l ∷ ls) zero j bound inside row =
     inl (j, inside, subst (λ b. CrowdedRow b l j) (append-nil before) row)
 crowded_among before (l ∷ ls) (suc i) j bound inside row =
     inr (crowded_among (before ++ l ∷ []) ls i j (omega (arith, bound)) inside (subst (λ b. CrowdedRow b (source_at ls i) j) (sym (append_assoc before (l ∷ []) (take i ls))) row))
+
+-- a call that is refused for want of memory alone
+pub only_memory : {A : Type 0} (r : Result A Error) (e : Error) → IsErrAnd r (λ x. x ≡ e) → e ≡ OutOfMemory → IsOkUnless r OutOfMemory
+only_memory (Ok x) e err is = absurd err
+only_memory (Err x) e err is = err ∙ is

@@ -1,7 +1,7 @@
 -- An array of any type under construction, as contracts see it.
 use Rattle.arrow_flat_growable.specs.Grown.{Grown}
 use Rattle.arrow_growable.specs.declared.growable.any.AnyGrowable.{AnyGrowable}
-use Rattle.arrow_growable.specs.declared.growable.any.AnyGrowable.TheVariants.{Null, Boolean, Primitive, Utf8, LargeUtf8, Binary, LargeBinary, FixedSizeBinary, Nested, Dictionary}
+use Rattle.arrow_growable.specs.declared.growable.any.AnyGrowable.TheVariants.{Null, Boolean, Primitive, Utf8, LargeUtf8, Binary, LargeBinary, FixedSizeBinary, Nested, Dictionary, Union}
 use Rattle.arrow_growable.specs.declared.growable.any.AnyGrowablePrimitive.{AnyGrowablePrimitive}
 use Rattle.arrow_growable.specs.declared.growable.any.AnyGrowablePrimitive.TheVariants.{Int8, Int16, Int32, Int64, Int128, Int256, UInt8, UInt16, UInt32, UInt64, DaysMs, MonthDayNano}
 
@@ -30,3 +30,4 @@ grown_of (LargeBinary g) = g
 grown_of (FixedSizeBinary g) = g
 grown_of (Nested g) = g
 grown_of (Dictionary g) = g
+grown_of (Union g) = g

@@ -5,12 +5,14 @@ pub mod Dictionary
 pub mod Falls
 pub mod Form
 pub mod FormLaws
-pub mod Growable
 pub mod Growing
 pub mod GrowableSpans
 pub mod Join
+pub mod GrownUnion
 pub mod Lies
 pub mod Lists
 pub mod Nested
 pub mod Source
 pub mod Spans
+pub mod UnionRuns
+pub mod Variants

@@ -11,6 +11,9 @@ mod make;
 mod nested;
 mod spans;
 mod typed;
+mod union;
+mod union_runs;
+mod variants;
 
 pub use any::{AnyGrowable, AnyGrowablePrimitive};
 pub use arrow_flat_growable::growable::{
@@ -21,6 +24,7 @@ pub use arrow_flat_growable::growable::{
 pub use bound::NestedArray;
 pub use dictionary::GrowableDictionary;
 pub use join::join_arrays;
-pub use make::{is_growable, make_growable};
+pub use make::make_growable;
 pub use nested::GrowableNested;
 pub use typed::{GrowableFixedSizeList, GrowableList, GrowableMap, GrowableOf, GrowableStruct};
+pub use union::GrowableUnion;

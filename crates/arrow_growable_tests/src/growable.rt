@@ -3,11 +3,13 @@
 mod any;
 mod dictionary;
 mod typed;
+mod unions;
 
 #[test]
 fn growables(rt: HostRuntime) {
     any::check_shapes(&rt);
     any::check_elements(&rt);
+    unions::check_stored(&rt);
     typed::check_typed(&rt);
     typed::check_null_arrays(&rt);
     typed::check_nested(&rt);

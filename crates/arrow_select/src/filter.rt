@@ -7,12 +7,13 @@ ghost use Rattle.arrow_types.specs.Rows.{mask_of, select};
 ghost use Rattle.arrow_arrays.specs.Any.{any_array_type, any_array_rows, layout_of};
 ghost use Rattle.arrow_flat_growable.specs.Grown.{bound_to};
 ghost use Rattle.arrow_flat.specs.Parts.{boolean_rows};
+ghost use Rattle.arrow_growable.specs.AnyGrowable.{grown_of};
 ghost use Rattle.arrow_growable.specs.Growing.{HasAppended};
 ghost use Rattle.arrow_memory.specs.Grown.{IsGrowthError};
 
 use arrow_arrays::array::AnyArray;
 use arrow_flat::array::BooleanArray;
-use arrow_growable::growable::{Growable, make_growable};
+use arrow_growable::growable::{AnyGrowable, Growable, make_growable};
 use arrow_types::error::Error;
 use std::alloc::Global;
 
@@ -38,12 +39,12 @@ pub fn filter(alloc: Global, array: &AnyArray, filter: &BooleanArray) -> Result<
 }
 
 /// The rows at which the predicate is true, by a growable over the array that has none yet.
-fn selected<'a, G: Growable<'a> + Drop>(
-    growable: G,
+fn selected(
+    growable: AnyGrowable,
     array: &AnyArray,
     filter: &BooleanArray,
 ) -> Result<AnyArray, Error>
-    requires bound { G.state growable ≡ bound_to (layout_of array.now ∷ []) }
+    requires bound { grown_of growable ≡ bound_to (layout_of array.now ∷ []) }
     requires lengths { length (boolean_rows filter.now) ≡ length (any_array_rows array.now) }
     ensures array_type { IfOk result (λ kept. any_array_type kept ≡ any_array_type array.now) }
     ensures rows { IfOk result (λ kept. any_array_rows kept ≡ select (mask_of (boolean_rows filter.now)) (any_array_rows array.now)) }
@@ -65,14 +66,14 @@ fn is_true(filter: &BooleanArray, row: usize) -> bool
 }
 
 /// Appends the rows at which the predicate is true.
-fn append_selected<'a, G: Growable<'a>>(
-    growable: &mut G,
+fn append_selected(
+    growable: &mut AnyGrowable,
     array: &AnyArray,
     filter: &BooleanArray,
 ) -> Result<(), Error>
-    requires bound { G.state growable.old ≡ bound_to (layout_of array.now ∷ []) }
+    requires bound { grown_of growable.old ≡ bound_to (layout_of array.now ∷ []) }
     requires lengths { length (boolean_rows filter.now) ≡ length (any_array_rows array.now) }
-    ensures ok { OnOk result (HasAppended (layout_of array.now ∷ []) (G.state growable.new) (select (mask_of (boolean_rows filter.now)) (any_array_rows array.now))) }
+    ensures ok { OnOk result (HasAppended (layout_of array.now ∷ []) (grown_of growable.new) (select (mask_of (boolean_rows filter.now)) (any_array_rows array.now))) }
     ensures overflow { result ≡ Err Error.Overflow → Fits (any_array_type array.now) (select (mask_of (boolean_rows filter.now)) (any_array_rows array.now)) → ⊥ }
     ensures others { IfErr result IsGrowthError }
 {

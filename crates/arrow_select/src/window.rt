@@ -7,13 +7,14 @@ ghost use Rattle.arrow_types.specs.Fits.{Fits};
 ghost use Rattle.arrow_types.specs.Rows.{shifted};
 ghost use Rattle.arrow_arrays.specs.Any.{any_array_type, any_array_rows, layout_of};
 ghost use Rattle.arrow_flat_growable.specs.Grown.{bound_to};
+ghost use Rattle.arrow_growable.specs.AnyGrowable.{grown_of};
 ghost use Rattle.arrow_growable.specs.Growing.{HasAppended};
 ghost use Rattle.arrow_select.specs.Growing.{between};
 ghost use Rattle.arrow_memory.specs.Grown.{IsGrowthError};
 ghost use Rattle.arrow_select.specs.Refusals.{IsShiftRefusal, PassesLength};
 
 use arrow_arrays::array::AnyArray;
-use arrow_growable::growable::{Growable, make_growable};
+use arrow_growable::growable::{AnyGrowable, Growable, make_growable};
 use arrow_types::error::{ArgumentFault, Error};
 use std::alloc::Global;
 
@@ -45,13 +46,13 @@ pub fn shift(alloc: Global, array: &AnyArray, offset: i64) -> Result<AnyArray, E
 }
 
 /// What [`append_between`] appends, by a growable over the array that has no row yet.
-fn rows_between<'a, G: Growable<'a> + Drop>(
-    growable: G,
+fn rows_between(
+    growable: AnyGrowable,
     array: &AnyArray,
     front: usize,
     behind: usize,
 ) -> Result<AnyArray, Error>
-    requires bound { G.state growable ≡ bound_to (layout_of array.now ∷ []) }
+    requires bound { grown_of growable ≡ bound_to (layout_of array.now ∷ []) }
     requires within { front + behind ≤ length (any_array_rows array.now) }
     ensures array_type { IfOk result (λ moved. any_array_type moved ≡ any_array_type array.now) }
     ensures rows { IfOk result (λ moved. any_array_rows moved ≡ between (any_array_rows array.now) front behind (any_array_type array.now)) }
@@ -66,15 +67,15 @@ fn rows_between<'a, G: Growable<'a> + Drop>(
 
 /// Appends `front` null slots, then rows, and then `behind` null slots: as many as the array has. The
 /// rows are those from row `behind` on.
-fn append_between<'a, G: Growable<'a>>(
-    growable: &mut G,
+fn append_between(
+    growable: &mut AnyGrowable,
     array: &AnyArray,
     front: usize,
     behind: usize,
 ) -> Result<(), Error>
-    requires bound { G.state growable.old ≡ bound_to (layout_of array.now ∷ []) }
+    requires bound { grown_of growable.old ≡ bound_to (layout_of array.now ∷ []) }
     requires within { front + behind ≤ length (any_array_rows array.now) }
-    ensures ok { OnOk result (HasAppended (layout_of array.now ∷ []) (G.state growable.new) (between (any_array_rows array.now) front behind (any_array_type array.now))) }
+    ensures ok { OnOk result (HasAppended (layout_of array.now ∷ []) (grown_of growable.new) (between (any_array_rows array.now) front behind (any_array_type array.now))) }
     ensures overflow { result ≡ Err Error.Overflow → Fits (any_array_type array.now) (between (any_array_rows array.now) front behind (any_array_type array.now)) → ⊥ }
     ensures others { IfErr result IsGrowthError }
 {

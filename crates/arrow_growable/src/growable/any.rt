@@ -4,7 +4,7 @@ ghost use Rattle.arrow_growable.specs.AnyGrowable.{grown_of, primitive_grown_of}
 
 use crate::growable::{
     BoundNulls, Growable, GrowableBinary, GrowableBoolean, GrowableDictionary,
-    GrowableFixedSizeBinary, GrowableNested, GrowablePrimitive, GrowableUtf8,
+    GrowableFixedSizeBinary, GrowableNested, GrowablePrimitive, GrowableUnion, GrowableUtf8,
 };
 use arrow_arrays::array::AnyArray;
 use arrow_types::error::Error;
@@ -39,6 +39,7 @@ pub enum AnyGrowable<'a> {
     FixedSizeBinary(GrowableFixedSizeBinary<'a>),
     Nested(GrowableNested<'a>),
     Dictionary(GrowableDictionary<'a>),
+    Union(GrowableUnion<'a>),
 }
 
 /// What an expression says of the growable, whatever its element type.
@@ -75,6 +76,7 @@ macro_rules! of_any {
             AnyGrowable::FixedSizeBinary($growable) => $result,
             AnyGrowable::Nested($growable) => $result,
             AnyGrowable::Dictionary($growable) => $result,
+            AnyGrowable::Union($growable) => $result,
         }
     };
 }

@@ -152,7 +152,7 @@ pub(crate) fn extend_all_nulls(children: &mut [AnyGrowable], count: usize) -> Re
 
 /// Appends so many null slots to a child.
 #[cycle(extend_validity)]
-fn extend_nulls(child: &mut AnyGrowable, count: usize) -> Result<(), Error>
+pub(crate) fn extend_nulls(child: &mut AnyGrowable, count: usize) -> Result<(), Error>
     requires well { IsWell (grown_of child.old) }
     ensures ok { OnOk result (GrownBy (grown_of child.old) (grown_of child.new) (null_rows_of (grown_of child.old) count)) }
     ensures kept { SameBound (grown_of child.old) (grown_of child.new) }

@@ -16,7 +16,6 @@ ghost use Rattle.arrow_arrays.specs.KeyedParts.{AreKeys, keyed_layout, keyed_row
 ghost use Rattle.arrow_arrays.specs.Layout.{type_of_layout};
 ghost use Rattle.arrow_flat_growable.specs.Grown.{AreOfOneType, CannotHold, FitsItself, HasFailed, IsFailedOrMemory, IsRefusal, NamesRows, appended, bound_to, empty_over, first_type, named_rows};
 ghost use Rattle.arrow_growable.specs.Dictionary.{StartsAt, AreUncrowded, joined_values};
-ghost use Rattle.arrow_growable.specs.Growable.{IsGrowable};
 
 use crate::growable::join::join_arrays;
 use crate::growable::{Growable, GrowableKeys, GrowableValidity};
@@ -83,8 +82,7 @@ impl<'a> GrowableDictionary<'a> {
     /// the other; those of one array alone are shared as they are.
     ///
     /// # Requires
-    /// There is an array at least, and all are of one data type, whose arrays can grow
-    /// ([`crate::growable::is_growable`]).
+    /// There is an array at least, and all are of one data type.
     ///
     /// # Errors
     /// `Overflow` only where the dictionaries can't be joined, and never of one array alone; `OutOfMemory` where
@@ -100,7 +98,6 @@ impl<'a> GrowableDictionary<'a> {
     ) -> Result<GrowableDictionary<'a>, Error>
         requires some { 0 < length arrays.now }
         requires one_type { AreOfOneType (map (λ r. keyed_layout r.now) arrays.now) }
-        requires growable { IsGrowable (first_type (map (λ r. keyed_layout r.now) arrays.now)) }
         ensures ok { IfOk result (λ growable. growable ≡ bound_to (map (λ r. keyed_layout r.now) arrays.now)) }
         ensures overflow { result ≡ Err Error.Overflow → Unjoined (map (λ r. keyed_layout r.now) arrays.now) }
         ensures alone { length arrays.now ≡ 1 → IsOkUnless result Error.OutOfMemory }
@@ -217,7 +214,6 @@ fn as_dictionary(array: &AnyArray) -> &DictionaryArray
 fn join_values(alloc: Global, arrays: &[&DictionaryArray]) -> Result<AnyArray, Error>
     requires some { 0 < length arrays.now }
     requires one_type { AreOfOneType (map (λ r. keyed_layout r.now) arrays.now) }
-    requires growable { IsGrowable (first_type (map (λ r. keyed_layout r.now) arrays.now)) }
     ensures child { IfOk result (λ values. any_array_type values ≡ values_in (first_type (map (λ r. keyed_layout r.now) arrays.now))) }
     ensures joined { IfOk result (λ values. any_array_rows values ≡ joined_values (map (λ r. keyed_layout r.now) arrays.now)) }
     ensures overflow { result ≡ Err Error.Overflow → Unjoined (map (λ r. keyed_layout r.now) arrays.now) }

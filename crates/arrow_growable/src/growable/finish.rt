@@ -14,16 +14,19 @@ ghost use Rattle.arrow_arrays.specs.FixedListParts.{FitsItems};
 ghost use Rattle.arrow_arrays.specs.Layout.{fixed_items, list_items, struct_items};
 ghost use Rattle.arrow_arrays.specs.StructParts.{FitsColumns};
 ghost use Rattle.arrow_arrays.specs.TypeParts.{field_types, item_type, list_size};
+ghost use Rattle.arrow_arrays.specs.UnionParts.{HoldsUnion, child_rows_of};
 ghost use Rattle.arrow_growable.specs.Form.{child_types, nested_rows};
 ghost use Rattle.arrow_growable.specs.GrowableSpans.{IsFormOf, form_of, grown_arrays};
 ghost use Rattle.arrow_growable.specs.Nested.{AreWhole};
+ghost use Rattle.arrow_growable.specs.GrownUnion.{offsets_in};
 
 use crate::growable::GrowableValidity;
 use crate::growable::grown_spans::GrowableSpans;
 use arrow_arrays::array::{
-    AnyArray, AnyOffsetsBuffer, FixedSizeListArray, ListArray, MapArray, StructArray,
+    AnyArray, AnyOffsetsBuffer, FixedSizeListArray, ListArray, MapArray, StructArray, UnionArray,
 };
 use arrow_memory::bitmap::Bitmap;
+use arrow_memory::buffer::Buffer;
 use arrow_memory::offset::OffsetsBuffer;
 use arrow_types::datatypes::DataType;
 use arrow_types::error::Error;
@@ -151,4 +154,39 @@ fn struct_array(data_type: DataType, values: Vec<AnyArray>, validity: Option<Bit
         unreachable!();
     };
     AnyArray::Struct(array)
+}
+
+/// An array of unions of a data type, dense where there are offsets.
+///
+/// # Errors
+/// `OutOfMemory` where memory is refused.
+pub(crate) fn union_array(
+    alloc: Global,
+    data_type: &DataType,
+    types: Vec<i8>,
+    values: Vec<AnyArray>,
+    offsets: Option<Vec<i32>>,
+) -> Result<UnionArray, Error>
+    requires { HoldsUnion (type_of data_type.now) types.items (map layout_of values.items) (offsets_in offsets) }
+    ensures ok { IfOk result (λ array. array ≡ (record { arrow_type = type_of data_type.now; types = types.items; child_rows = child_rows_of (offsets_in offsets); start = 0; children = map layout_of values.items })) }
+    ensures err { IsOkUnless result Error.OutOfMemory }
+{
+    let types = Buffer::from_vec(alloc, types)?;
+    let offsets = offset_buffer(alloc, offsets)?;
+    let data_type = data_type.clone()?;
+    let Ok(array) = UnionArray::try_new(data_type, types, values, offsets) else {
+        unreachable!();
+    };
+    Ok(array)
+}
+
+/// The offsets, if there are any, as a buffer.
+fn offset_buffer(alloc: Global, offsets: Option<Vec<i32>>) -> Result<Option<Buffer<i32>>, Error>
+    ensures ok { IfOk result (λ buffer. buffer ≡ offsets_in offsets) }
+    ensures err { IsOkUnless result Error.OutOfMemory }
+{
+    match offsets {
+        None => Ok(None),
+        Some(offsets) => Ok(Some(Buffer::from_vec(alloc, offsets)?)),
+    }
 }

@@ -1,27 +1,26 @@
 //! Growables over arrays of any type.
 
-ghost use Rattle.std.specs.Prelude.{◌≡◌, ◌<◌, ◌↔◌, Err, length, map, IfErr, IfOk, IsOkUnless, IsTrue};
+ghost use Rattle.std.specs.Prelude.{◌≡◌, ◌<◌, Err, length, map, All, IfErr, IfOk, IsOkUnless};
 ghost use Rattle.arrow_types.specs.declared.error.Error.{Error};
 ghost use Rattle.arrow_types.specs.declared.datatypes.physical_type.PhysicalType.TheVariants as physical;
 ghost use Rattle.arrow_types.specs.Physical.{physical_type_of};
-ghost use Rattle.arrow_types.specs.TypeOf.{fields_of, type_of};
 ghost use Rattle.arrow_memory.specs.Grown.{IsGrowthError};
 ghost use Rattle.arrow_arrays.specs.Crowded.{Unjoined};
 ghost use Rattle.arrow_arrays.specs.Any.{kind_in, kind_of, layout_of, null_kind};
 ghost use Rattle.arrow_arrays.specs.TypeParts.{IsFlatType};
 ghost use Rattle.arrow_growable.specs.AnyGrowable.{grown_of, primitive_grown_of};
-ghost use Rattle.arrow_growable.specs.Growable.{AreGrowable, IsGrowable};
+ghost use Rattle.arrow_growable.specs.GrownUnion.{CanBind, SomeColumnUnjoined};
 ghost use Rattle.arrow_flat_growable.specs.Grown.{AreOfOneType, bound_to, first_type};
 ghost use Rattle.arrow_flat_growable.specs.Nulls.{null_layout};
 
 use crate::growable::bound::BoundNested;
 use crate::growable::{
     AnyGrowable, AnyGrowablePrimitive, BoundNulls, FlatGrowable, GrowableDictionary,
-    GrowableNested, GrowableValues, dictionary,
+    GrowableNested, GrowableUnion, GrowableValues, dictionary, union,
 };
 use arrow_arrays::array::AnyArray;
 use arrow_flat::array::NullArray;
-use arrow_types::datatypes::{DataType, Field, PhysicalType};
+use arrow_types::datatypes::PhysicalType;
 use arrow_types::error::Error;
 use arrow_types::types::PrimitiveType;
 use std::alloc::Global;
@@ -31,7 +30,7 @@ use std::alloc::Global;
 /// row may be null; no row depends on that.
 ///
 /// # Requires
-/// There is an array at least, and all are of one data type, whose arrays can grow ([`is_growable`]).
+/// There is an array at least, and all are of one data type.
 ///
 /// # Errors
 /// `Overflow` only where dictionaries in the arrays can't be joined, and never of one array alone; `OutOfMemory`
@@ -47,7 +46,6 @@ pub fn make_growable<'a>(
 ) -> Result<AnyGrowable<'a>, Error>
     requires some { 0 < length arrays.now }
     requires one_type { AreOfOneType (map (λ a. layout_of a.now) arrays.now) }
-    requires growable { IsGrowable (first_type (map (λ a. layout_of a.now) arrays.now)) }
     ensures ok { IfOk result (λ growable. grown_of growable ≡ bound_to (map (λ a. layout_of a.now) arrays.now)) }
     ensures overflow { result ≡ Err Error.Overflow → Unjoined (map (λ a. layout_of a.now) arrays.now) }
     ensures alone { length arrays.now ≡ 1 → IsOkUnless result Error.OutOfMemory }
@@ -68,8 +66,37 @@ pub fn make_growable<'a>(
             let nested = BoundNested::of_any(alloc, arrays)?;
             Ok(AnyGrowable::Nested(GrowableNested::new(alloc, nested, use_validity, capacity)?))
         }
+        PhysicalType::Union => {
+            let bound = union::bind(alloc, arrays)?;
+            Ok(AnyGrowable::Union(GrowableUnion::new(alloc, bound, capacity)?))
+        }
         physical_type => make_flat(alloc, arrays, physical_type, use_validity, capacity),
     }
+}
+
+/// Growables without rows over each of these columns of arrays, with room for so many rows.
+///
+/// # Errors
+/// `Overflow` only where dictionaries in a column can't be joined, and never of columns of one array each;
+/// `OutOfMemory` where memory is refused, as for a capacity that is too great.
+#[cycle(make)]
+pub(crate) fn make_each<'a>(
+    alloc: Global,
+    columns: &[Vec<&'a AnyArray>],
+    use_validity: bool,
+    capacity: usize,
+) -> Result<Vec<AnyGrowable<'a>>, Error>
+    requires { All CanBind (map (λ column. map (λ a. layout_of a.now) column.items) columns.now) }
+    ensures ok { IfOk result (λ growables. map grown_of growables.items ≡ map bound_to (map (λ column. map (λ a. layout_of a.now) column.items) columns.now)) }
+    ensures overflow { result ≡ Err Error.Overflow → SomeColumnUnjoined (map (λ column. map (λ a. layout_of a.now) column.items) columns.now) }
+    ensures alone { All (λ column. length column ≡ 1) (map (λ column. map (λ a. layout_of a.now) column.items) columns.now) → IsOkUnless result Error.OutOfMemory }
+    ensures others { IfErr result IsGrowthError }
+{
+    let mut growables: Vec<AnyGrowable<'a>> = Vec::with_capacity(alloc, columns.len())?;
+    for column in columns {
+        growables.push(make_growable(alloc, column, use_validity, capacity)?)?;
+    }
+    Ok(growables)
 }
 
 /// The same over arrays without children.
@@ -114,37 +141,6 @@ fn make_flat<'a>(
         }
         _ => unreachable!(),
     }
-}
-
-/// Whether arrays of a data type can grow, as [`make_growable`] asks: a type without children, or lists of any form,
-/// maps, structs or dictionaries, at any depth, of such types.
-#[cycle(is_growable)]
-pub fn is_growable(data_type: &DataType) -> bool
-    ensures { IsTrue result ↔ IsGrowable (type_of data_type.now) }
-{
-    match data_type {
-        DataType::List(field) | DataType::LargeList(field) => is_growable(field.data_type()),
-        DataType::FixedSizeList(field, _size) => is_growable(field.data_type()),
-        DataType::Map(field, _sorted) => is_growable(field.data_type()),
-        DataType::Struct(fields) => are_growable(fields),
-        DataType::Extension(_, inner, _) => is_growable(inner),
-        DataType::Dictionary(_, values, _) => is_growable(values),
-        DataType::Union(_, _, _) => false,
-        _ => true,
-    }
-}
-
-/// Whether arrays of the type of each field can grow.
-#[cycle(is_growable)]
-fn are_growable(fields: &[Field]) -> bool
-    ensures { IsTrue result ↔ AreGrowable (fields_of fields.now) }
-{
-    for field in fields {
-        if !is_growable(field.data_type()) {
-            return false;
-        }
-    }
-    true
 }
 
 /// A growable over arrays that lie in memory as its values do.

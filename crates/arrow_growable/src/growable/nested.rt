@@ -8,7 +8,6 @@ ghost use Rattle.arrow_flat_growable.specs.Grown.{AreOfOneType, bound_to, first_
 ghost use Rattle.arrow_growable.specs.AnyGrowable.{grown_of};
 ghost use Rattle.arrow_growable.specs.Bound.{bound_layouts};
 ghost use Rattle.arrow_growable.specs.Form.{child_types};
-ghost use Rattle.arrow_growable.specs.Growable.{IsGrowable};
 ghost use Rattle.arrow_growable.specs.GrowableSpans.{IsFresh};
 ghost use Rattle.arrow_growable.specs.Nested.{SomeUnjoined, fresh_children};
 
@@ -91,8 +90,7 @@ impl<'a> GrowableNested<'a> {
     /// once a row may be null; no row depends on that.
     ///
     /// # Requires
-    /// There is an array at least, and all are of one data type, whose arrays can grow
-    /// ([`crate::growable::is_growable`]).
+    /// There is an array at least, and all are of one data type.
     ///
     /// # Errors
     /// `Overflow` only where dictionaries in the arrays can't be joined, and never of one array alone;
@@ -106,7 +104,6 @@ impl<'a> GrowableNested<'a> {
     ) -> Result<GrowableNested<'a>, Error>
         requires some { 0 < length (bound_layouts arrays) }
         requires one_type { AreOfOneType (bound_layouts arrays) }
-        requires growable { IsGrowable (first_type (bound_layouts arrays)) }
         ensures ok { IfOk result (λ growable. growable ≡ bound_to (bound_layouts arrays.entry)) }
         ensures overflow { result ≡ Err Error.Overflow → Unjoined (bound_layouts arrays.entry) }
         ensures alone { length (bound_layouts arrays.entry) ≡ 1 → IsOkUnless result Error.OutOfMemory }
@@ -168,7 +165,6 @@ fn make_children<'a>(
 ) -> Result<Vec<AnyGrowable<'a>>, Error>
     requires some { 0 < length (bound_layouts arrays.now) }
     requires one_type { AreOfOneType (bound_layouts arrays.now) }
-    requires growable { IsGrowable (first_type (bound_layouts arrays.now)) }
     ensures ok { IfOk result (λ children. map grown_of children.items ≡ fresh_children (bound_layouts arrays.now)) }
     ensures types { IfOk result (λ children. map (λ g. g.arrow_type) (map grown_of children.items) ≡ child_types (first_type (bound_layouts arrays.now))) }
     ensures overflow { result ≡ Err Error.Overflow → SomeUnjoined (bound_layouts arrays.now) }

@@ -6,7 +6,6 @@ ghost use Rattle.arrow_memory.specs.Grown.{IsGrowthError};
 ghost use Rattle.arrow_arrays.specs.Crowded.{Unjoined};
 ghost use Rattle.arrow_arrays.specs.Layout.{rows, type_of_layout};
 ghost use Rattle.arrow_flat_growable.specs.Grown.{AreOfOneType, IsFailedOrMemory, bound_to, first_type};
-ghost use Rattle.arrow_growable.specs.Growable.{IsGrowable};
 
 use crate::growable::Growable;
 use crate::growable::bound::NestedArray;
@@ -56,8 +55,7 @@ impl<'a, A: NestedArray> GrowableOf<'a, A> {
     /// once a row may be null; no row depends on that.
     ///
     /// # Requires
-    /// There is an array at least, and all are of one data type, whose arrays can grow
-    /// ([`crate::growable::is_growable`]).
+    /// There is an array at least, and all are of one data type.
     ///
     /// # Errors
     /// `Overflow` only where dictionaries in the arrays can't be joined, and never of one array alone;
@@ -72,7 +70,6 @@ impl<'a, A: NestedArray> GrowableOf<'a, A> {
     ) -> Result<GrowableOf<'a, A>, Error>
         requires some { 0 < length arrays.items }
         requires one_type { AreOfOneType (map (λ r. A.layout_in r.now) arrays.items) }
-        requires growable { IsGrowable (first_type (map (λ r. A.layout_in r.now) arrays.items)) }
         ensures ok { IfOk result (λ growable. growable ≡ bound_to (map (λ r. A.layout_in r.now) arrays.entry.items)) }
         ensures overflow { result ≡ Err Error.Overflow → Unjoined (map (λ r. A.layout_in r.now) arrays.entry.items) }
         ensures alone { length arrays.entry.items ≡ 1 → IsOkUnless result Error.OutOfMemory }

@@ -161,6 +161,10 @@ fn check_array(
     if matches!(kind, Kind::Rows(Shape::Null)) {
         nulls = letters.len();
     }
+    // no row of a union is null
+    if matches!(kind, Kind::Rows(Shape::Pairs(Some(_)))) {
+        nulls = 0;
+    }
     check!(rt; array.null_count() == nulls);
 }
 

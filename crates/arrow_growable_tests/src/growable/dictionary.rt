@@ -95,7 +95,11 @@ pub fn check_keys(rt: &(impl Abort + Alloc<A = Global>)) {
         if refused == Err(Error::OutOfMemory) {
             refused = grow_stored(rt, &left, &right, want);
         }
-        let over = if want.is_empty() { Err(Error::Overflow) } else { Ok(()) };
+        let over = if want.is_empty() {
+            Err(Error::Overflow)
+        } else {
+            Ok(())
+        };
         check!(rt; refused == over);
     }
 }

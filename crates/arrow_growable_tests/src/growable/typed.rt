@@ -8,7 +8,7 @@ ghost use Rattle.arrow_arrays.specs.Layout.{rows};
 ghost use Rattle.arrow_arrays.specs.StructParts.{struct_layout};
 
 use crate::lent::{check_same, from_row};
-use arrow_arrays::array::{AnyArray, AnyOffset, DictionaryArray, StructArray};
+use arrow_arrays::array::{AnyArray, AnyOffset, DictionaryArray, StructArray, UnionArray};
 use arrow_arrays_fixture::arrays::{
     ListKind, NESTED, Shape, array_of, boxed, lists_of, make_structs, nulls,
 };
@@ -17,7 +17,8 @@ use arrow_flat::array::{
 };
 use arrow_growable::growable::{
     FlatGrowable, Growable, GrowableBits, GrowableBytes, GrowableDictionary, GrowableFixedRows,
-    GrowableKind, GrowableNull, GrowableOf, GrowableStruct, GrowableValues, NestedArray,
+    GrowableKind, GrowableNull, GrowableOf, GrowableStruct, GrowableUnion, GrowableValues,
+    NestedArray,
 };
 use arrow_types::datatypes::DataType;
 use arrow_types::error::Error;
@@ -234,6 +235,17 @@ fn grow_keys_twice(
     growable.into_array()
 }
 
+/// The same of unions.
+fn grow_union_twice(
+    rt: &(impl Abort + Alloc<A = Global>),
+    array: &UnionArray,
+) -> Result<UnionArray, Error> {
+    let mut growable = GrowableUnion::new(rt.alloc(), vec![in rt.alloc(); array]?, 0)?;
+    growable.extend(0, 0, array.len())?;
+    growable.extend(0, 0, array.len())?;
+    growable.into_array()
+}
+
 /// The same of an array of any type.
 fn grow_nested(rt: &(impl Abort + Alloc<A = Global>), array: &AnyArray) -> Result<AnyArray, Error> {
     match array {
@@ -244,6 +256,7 @@ fn grow_nested(rt: &(impl Abort + Alloc<A = Global>), array: &AnyArray) -> Resul
         AnyArray::Map(array) => Ok(AnyArray::Map(grow_twice(rt, array, array.len())?)),
         AnyArray::Struct(array) => Ok(AnyArray::Struct(grow_twice(rt, array, array.len())?)),
         AnyArray::Dictionary(array) => Ok(AnyArray::Dictionary(grow_keys_twice(rt, array)?)),
+        AnyArray::Union(array) => Ok(AnyArray::Union(grow_union_twice(rt, array)?)),
         _ => Err(Error::Failed),
     }
 }

@@ -143,7 +143,10 @@ fn deep_lists(
 
 /// What structs in lists hold.
 const DEEP: [[Shape; 2]; 3] = [
-    [Shape::Lists(ListKind::Map), Shape::Lists(ListKind::FixedSize)],
+    [
+        Shape::Lists(ListKind::Map),
+        Shape::Lists(ListKind::FixedSize),
+    ],
     [Shape::Dictionary, Shape::Pairs(Some(UnionMode::Sparse))],
     [Shape::Pairs(Some(UnionMode::Dense)), Shape::Dictionary],
 ];

@@ -101,7 +101,8 @@ fn keyed(
 fn check_case(rt: &(impl Abort + Alloc<A = Global>), shape: Shape, case: Case) {
     let left = made!(rt; keyed(rt.alloc(), shape, case.left, case.left_marks, case.left_letters));
     let left = from_row(rt, left, case.from);
-    let right = made!(rt; keyed(rt.alloc(), shape, case.right, case.right_marks, case.right_letters));
+    let right =
+        made!(rt; keyed(rt.alloc(), shape, case.right, case.right_marks, case.right_letters));
     let both = made!(rt; join_two(rt.alloc(), &left, &right));
     let want = made!(rt; keyed(rt.alloc(), shape, case.want, case.want_marks, case.want_letters));
     check!(rt; *both == *want, case);
@@ -113,7 +114,12 @@ fn hundred(alloc: Global, key: i8, marks: &str) -> Result<Box<AnyArray>, Error> 
 }
 
 /// Of keys of 8 bits behind a hundred values the greatest that fits is 27; a null does, whatever lies beneath.
-fn check_crowded(rt: &(impl Abort + Alloc<A = Global>), key: i8, marks: &str, refusal: Option<Error>) {
+fn check_crowded(
+    rt: &(impl Abort + Alloc<A = Global>),
+    key: i8,
+    marks: &str,
+    refusal: Option<Error>,
+) {
     let left = made!(rt; hundred(rt.alloc(), 99, "-"));
     let right = made!(rt; hundred(rt.alloc(), key, marks));
     let answer = made!(rt; answered(join_two(rt.alloc(), &left, &right)));

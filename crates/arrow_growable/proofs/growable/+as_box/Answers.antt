@@ -1,18 +1,23 @@
-use Rattle.std.proofs.Common.{arith, ◌≡◌, ◌<◌, length, map, refl, ap, sym, subst, ◌∙◌}
+use Rattle.std.proofs.Common.{arith, rules, ◌≡◌, ◌<◌, length, map, refl, ap, sym, subst, ◌∙◌}
 use Rattle.std.proofs.lemmas.List.{length-map, length-set, take_all}
 use Rattle.arrow_types.specs.TypeOf.{type_of}
-use Rattle.arrow_arrays.specs.Any.{any_array_rows, any_array_type}
+use Rattle.arrow_arrays.specs.Any.{any_array_rows, any_array_type, layout_of}
 use Rattle.arrow_arrays.specs.TypeDepth.{deepest, type_depth}
+use Rattle.arrow_arrays.specs.UnionParts.{child_rows_of}
 use Rattle.arrow_arrays.proofs.SliceLemmas.{all_changed, changed_next, changed_read, in_map, rest_as_was, written}
 use Rattle.arrow_flat_growable.specs.Grown.{Grown, HoldsRows}
 use Rattle.arrow_growable.specs.AnyGrowable.{grown_of}
 use Rattle.arrow_growable.specs.Child.{AreBoundAs, IsWell, emptied_of}
-use Rattle.arrow_growable.specs.FormLaws.{deepest_child}
+use Rattle.arrow_growable.specs.FormLaws.{deepest_child, deepest_of_fields}
 use Rattle.arrow_growable.specs.GrowableSpans.{form_of, grown_arrays}
+use Rattle.arrow_growable.specs.GrownUnion.{no_offsets, offsets_in}
 use Rattle.arrow_growable.specs.Nested.{AreWhole, rows_of_all}
 use Rattle.arrow_growable.proofs.ChildLemmas.{only_memory}
 use Rattle.arrow_growable.proofs.LoopLemmas.{as_many_items, bound_after, deepest_at, taken_next}
 use Rattle.arrow_growable.proofs.StepLemmas.{all_well, bound_map, emptied_same, failed_parts, parts_left, spans_lie, whole_of}
+use Rattle.arrow_growable.proofs.UnionBoundLemmas.{bound_next}
+use Rattle.arrow_growable.proofs.UnionFinishLemmas.{holds_array, rows_in_array}
+use Rattle.arrow_growable.proofs.UnionStructLemmas.{failed_union, left_union, none_mode}
 use Rattle.arrow_growable.proofs.growable.+as_box.Goals as goal
 
 -- all children
@@ -125,3 +130,50 @@ nested::GrowableNestedGrowable::as_box-invariant_of-self-2 t c =
     let form = ap form_of c.replace-spans.ensures.after ∙ c.in_ok-spans.ensures.ok in
     let left = subst (λ xs. map grown_of c.box_children.new.children ≡ map emptied_of (map grown_of xs)) c.deref_mut.ensures.value c.in_ok-values.ensures.left in
     rw back (parts_left _ _ _ _ _ _ _ _ _ _ _ _ c.self.invariant (spans_lie c.self.inside.spans) arrays form left (c.replace-validity.ensures.after ∙ c.in_ok-validity.ensures.ok))
+
+-- unions
+
+pub union::GrowableUnion::take_array-box_children-requires : goal.union::GrowableUnion::take_array-box_children-requires
+union::GrowableUnion::take_array-box_children-requires t c =
+    let u = type_of c.self.inside.data_type in
+    let parts = c.self.invariant in
+    let outer = ap (λ (g : Grown). type_depth g.arrow_type) c.self.view_is in
+    let inner = ap (λ xs. deepest (map (λ g. g.arrow_type) (map grown_of xs))) c.deref_mut.ensures.value ∙ ap deepest parts.bound.over.types in
+    (omega (arith, inner, deepest_of_fields u, outer, c.decreases), rw c.deref_mut.ensures.value (parts.holds c.if-self.false).well)
+
+pub union::GrowableUnion::take_array-invariant_of-self : goal.union::GrowableUnion::take_array-invariant_of-self
+union::GrowableUnion::take_array-invariant_of-self t c =
+    let kept = subst (λ xs. AreBoundAs (map grown_of xs) (map grown_of c.box_children.new.children)) c.deref_mut.ensures.value c.in_err-values.ensures.kept in
+    let back = written c.box_children.new.children c.self.inside.children.items c.self.inside.children.len (as_many_items c.deref_mut.result.now c.box_children.new.children c.in_err-values.ensures.kept ∙ c.deref_mut.ensures.len) in
+    rw back (failed_union _ _ _ _ _ _ (bound_next _ _ _ _ _ _ c.self.invariant.bound kept refl))
+
+pub union::GrowableUnion::take_array-union_array-requires : goal.union::GrowableUnion::take_array-union_array-requires
+union::GrowableUnion::take_array-union_array-requires t c =
+    let inside = c.self.inside in
+    let u = type_of inside.data_type in
+    let types = c.in_ok-values.ensures.types ∙ ap (λ xs. map (λ (g : Grown). g.arrow_type) (map grown_of xs)) c.deref_mut.ensures.value in
+    let rows = c.in_ok-values.ensures.rows ∙ ap (λ xs. map (λ (g : Grown). g.rows) (map grown_of xs)) c.deref_mut.ensures.value in
+    rw (c.replace-types.ensures.value, c.replace-offsets.ensures.value) (holds_array u inside.types.items (offsets_in inside.offsets) (map grown_of inside.children.items) c.in_ok-values.values.items c.self.invariant.bound.over (c.self.invariant.holds c.if-self.false) types rows)
+
+pub union::GrowableUnion::take_array-invariant_of-self-in_err-array : goal.union::GrowableUnion::take_array-invariant_of-self-in_err-array
+union::GrowableUnion::take_array-invariant_of-self-in_err-array t c =
+    let kept = subst (λ xs. AreBoundAs (map grown_of xs) (map grown_of c.box_children.new.children)) c.deref_mut.ensures.value c.in_ok-values.ensures.kept in
+    let back = written c.box_children.new.children c.self.inside.children.items c.self.inside.children.len (as_many_items c.deref_mut.result.now c.box_children.new.children c.in_ok-values.ensures.kept ∙ c.deref_mut.ensures.len) in
+    let none = ap offsets_in c.replace-offsets.ensures.after ∙ (c.without_offsets-fresh.ensures ∙ ap no_offsets c.mode.ensures) in
+    rw back (failed_union _ _ _ _ _ _ (bound_next _ _ _ _ _ _ c.self.invariant.bound kept (none_mode _ _ _ _ c.self.invariant.bound.over none)))
+
+pub union::GrowableUnion::take_array-invariant_of-self-2 : goal.union::GrowableUnion::take_array-invariant_of-self-2
+union::GrowableUnion::take_array-invariant_of-self-2 t c =
+    let back = written c.box_children.new.children c.self.inside.children.items c.self.inside.children.len (as_many_items c.deref_mut.result.now c.box_children.new.children c.in_ok-values.ensures.kept ∙ c.deref_mut.ensures.len) in
+    let none = ap offsets_in c.replace-offsets.ensures.after ∙ (c.without_offsets-fresh.ensures ∙ ap no_offsets c.mode.ensures) in
+    let left = subst (λ xs. map grown_of c.box_children.new.children ≡ map emptied_of (map grown_of xs)) c.deref_mut.ensures.value c.in_ok-values.ensures.left in
+    rw back (left_union _ _ _ _ _ _ _ c.self.invariant.bound left (search rules) none)
+
+pub union::GrowableUnion::take_array-returns-clause-ok : goal.union::GrowableUnion::take_array-returns-clause-ok
+union::GrowableUnion::take_array-returns-clause-ok t c =
+    let inside = c.self.inside in
+    let u = type_of inside.data_type in
+    let types = c.in_ok-values.ensures.types ∙ ap (λ xs. map (λ (g : Grown). g.arrow_type) (map grown_of xs)) c.deref_mut.ensures.value in
+    let rows = c.in_ok-values.ensures.rows ∙ ap (λ xs. map (λ (g : Grown). g.rows) (map grown_of xs)) c.deref_mut.ensures.value in
+    let made = c.in_ok-array.ensures.ok ∙ (λ j. record { arrow_type = u; types = (c.replace-types.ensures.value j).items; child_rows = child_rows_of (offsets_in (c.replace-offsets.ensures.value j)); start = 0; children = map layout_of c.in_ok-values.values.items }) in
+    rw (← c.self.view_is) (rows_in_array u inside.types.items (offsets_in inside.offsets) (map grown_of inside.children.items) c.in_ok-values.values.items c.self.invariant.bound.over (c.self.invariant.holds c.if-self.false) types rows c.in_ok-array.array made)

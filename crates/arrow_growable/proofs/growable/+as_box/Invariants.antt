@@ -9,13 +9,21 @@ use Rattle.arrow_growable.proofs.growable.+as_box.Given as goal
 -- each call goes to a less deep growable, or comes nearer to one
 
 abbrev pub decreases-children::box_children : goal.decreases-children::box_children
-decreases-children::box_children l = 3 * deepest (map (λ g. g.arrow_type) (map grown_of l.children.now))
+decreases-children::box_children l = 4 * deepest (map (λ g. g.arrow_type) (map grown_of l.children.now))
 
 abbrev pub decreases-any::AnyGrowableGrowable::as_box : goal.decreases-any::AnyGrowableGrowable::as_box
-decreases-any::AnyGrowableGrowable::as_box l = 3 * type_depth ((grown_of l.self.now).arrow_type) + 2
+decreases-any::AnyGrowableGrowable::as_box l = 4 * type_depth ((grown_of l.self.now).arrow_type) + 3
 
 abbrev pub decreases-nested::GrowableNestedGrowable::as_box : goal.decreases-nested::GrowableNestedGrowable::as_box
-decreases-nested::GrowableNestedGrowable::as_box l = 3 * type_depth l.self.now.arrow_type + 1
+decreases-nested::GrowableNestedGrowable::as_box l = 4 * type_depth l.self.now.arrow_type + 1
+
+-- and those of a union
+
+abbrev pub decreases-union::GrowableUnionGrowable::as_box : goal.decreases-union::GrowableUnionGrowable::as_box
+decreases-union::GrowableUnionGrowable::as_box l = 4 * type_depth l.self.now.arrow_type + 2
+
+abbrev pub decreases-union::GrowableUnion::take_array : goal.decreases-union::GrowableUnion::take_array
+decreases-union::GrowableUnion::take_array l = 4 * type_depth l.self.now.arrow_type + 1
 
 -- the arrays so far are those of the children, which are left without rows; the others are as they were
 abbrev pub invariant-children::box_children-loop-child : goal.invariant-children::box_children-loop-child

@@ -1,4 +1,4 @@
-use Rattle.std.proofs.Common.{rules, arith, ◌≡◌, ◌+◌, ◌<◌, ◌≤◌, ◌++◌, ℕ, Bool, false, List, Option, drop, length, map, take, Some, None, Err, inl, refl, ap, sym, subst, ◌∙◌}
+use Rattle.std.proofs.Common.{rules, arith, ◌≡◌, ◌+◌, ◌<◌, ◌≤◌, ◌++◌, ℕ, Bool, false, Bor, List, Option, drop, length, map, take, Some, None, Err, inl, refl, ap, sym, subst, ◌∙◌}
 use Rattle.std.specs.Prelude.{IfSome, option_copied}
 use Rattle.std.proofs.lemmas.List.{length-map, length-set}
 use Rattle.std.proofs.lemmas.List.Elements.{All-map}
@@ -8,19 +8,23 @@ use Rattle.arrow_types.specs.TypeOf.{type_of}
 use Rattle.arrow_memory.specs.Sliced.{sliced}
 use Rattle.arrow_memory.proofs.SlicedLemmas.{length-sliced}
 use Rattle.arrow_flat.specs.Parts.{bits_of_slice}
-use Rattle.arrow_arrays.specs.Layout.{rows}
+use Rattle.arrow_types.specs.ArrowType.{ArrowType}
+use Rattle.arrow_arrays.specs.Layout.{Layout, rows}
+use Rattle.arrow_arrays.specs.UnionParts.{union_layout}
+use Rattle.arrow_growable.specs.declared.growable.any.AnyGrowable.{AnyGrowable}
 use Rattle.arrow_arrays.specs.TypeDepth.{deepest, type_depth}
 use Rattle.arrow_arrays.proofs.SliceLemmas.{all_changed, changed_next, changed_read, in_map, rest_as_was, written}
-use Rattle.arrow_flat_growable.specs.Grown.{Grown, CannotHold, FitsItself, NamesRows, source_at}
-use Rattle.arrow_flat_growable.proofs.FlatLemmas.{too_many}
+use Rattle.arrow_flat_growable.specs.Grown.{Grown, CannotHold, FitsItself, NamesRows, appended, named_rows, source_at}
+use Rattle.arrow_flat_growable.proofs.FlatLemmas.{source_is, too_many}
 use Rattle.arrow_flat_growable.proofs.ResultLemmas.{on_ok, passed_on}
 use Rattle.arrow_flat_growable.proofs.ValidRowLemmas.{run_long}
 use Rattle.arrow_growable.specs.AnyGrowable.{grown_of}
 use Rattle.arrow_growable.specs.Bound.{bound_layouts}
-use Rattle.arrow_growable.specs.Child.{AreBoundAs, BindsRows, CannotGrow, GrownBy, IsWell, LiesIn, SomeCannotGrow, bound_rows, grown_by, spread}
+use Rattle.arrow_growable.specs.Child.{AreBoundAs, BindsRows, CannotGrow, GrownBy, IsWell, LiesIn, SameBound, SomeCannotGrow, bound_rows, grown_by, spread}
 use Rattle.arrow_growable.specs.Form.{nested_rows}
-use Rattle.arrow_growable.specs.FormLaws.{deepest_child}
+use Rattle.arrow_growable.specs.FormLaws.{deepest_child, deepest_of_fields}
 use Rattle.arrow_growable.specs.GrowableSpans.{IsSoundForm, PassesGreatest, form_of, form_with, grown_arrays}
+use Rattle.arrow_growable.specs.GrownUnion.{GrowsVariants, HoldsVariants, IsBoundUnion, nth_grown, offsets_in, source_type, variant_rows, with_rows}
 use Rattle.arrow_growable.specs.Nested.{IsGrownNested, rows_of_all}
 use Rattle.arrow_growable.specs.Spans.{span_count, span_nulls, span_place}
 use Rattle.arrow_growable.proofs.ChildLemmas.{grows_more, lies_bare, lies_in_all, names_more, names_there, nulls_refused, part_refused, run_refused}
@@ -28,6 +32,11 @@ use Rattle.arrow_growable.proofs.GrownLemmas.{counts, offsets_refused}
 use Rattle.arrow_growable.proofs.LoopLemmas.{as_many_items, bound_after, deepest_at, holds_next, read_is}
 use Rattle.arrow_growable.proofs.SpreadLemmas.{spread_all}
 use Rattle.arrow_growable.proofs.StepLemmas.{Step, all_well, binds_all, bits_counted, bound_map, children_cannot, failed_parts, fits_step, lies_with, names_of, rises_in, spans_lie, spread_part, step}
+use Rattle.arrow_growable.proofs.UnionChildLemmas.{as_many_types, binds_names, named_are, nth_read, on_both, place_is, same_after, set_bound, set_rows, set_well}
+use Rattle.arrow_growable.proofs.UnionBoundLemmas.{bound_next}
+use Rattle.arrow_growable.proofs.UnionGrowLemmas.{with_others_here}
+use Rattle.arrow_growable.proofs.UnionLoopLemmas.{among, run_binds, run_more, run_stops}
+use Rattle.arrow_growable.proofs.UnionStructLemmas.{failed_union, grown_fits, grown_union, held_counted}
 use Rattle.arrow_growable.proofs.growable.+extend.Goals as goal
 use Rattle.arrow_growable.proofs.growable.+extend.Goals.{nested::GrowableNestedGrowable::extend-After-self-4-1}
 
@@ -275,3 +284,207 @@ nested::GrowableNestedGrowable::extend-returns-clause-fits t c =
     let sound = subst (λ a. IsSoundForm a (form_of c.extend.new.self)) c.in_ok-extend.ensures.arrays c.null_slots-new.ensures.sound in
     let all = ap (λ xs. nested_rows (form_of c.extend.new.self) c.extend_from.new.self (rows_of_all (map grown_of xs))) (back_of t c) in
     subst (Fits (type_of c.self.inside.data_type)) (sym all) (fits_step _ _ _ _ _ _ _ _ _ _ _ s (lies_with _ _ _ (spans_lie c.self.inside.spans) c.in_ok-extend.ensures.form) sound (omega (arith, c.in-Some.ensures)))
+
+-- unions
+
+pub variants::extend_chosen-extend-requires : goal.variants::extend_chosen-extend-requires
+variants::extend_chosen-extend-requires t c =
+    let xs = c.args.children.now in
+    let f = c.args.field in
+    let e = c.index-children-field.result in
+    (omega (arith, c.decreases, deepest_at xs f e c.requires.field), subst (λ g. NamesRows g c.args.index c.args.child_row c.args.count) (nth_read xs f e c.requires.field) (binds_names _ c.args.index c.args.child_row c.args.count c.requires.bound))
+
+pub variants::extend_chosen-returns-clause-ok : goal.variants::extend_chosen-returns-clause-ok
+variants::extend_chosen-returns-clause-ok t c =
+    let xs = c.args.children.now in
+    let f = c.args.field in
+    let g = nth_grown (map grown_of xs) f in
+    let read = nth_read xs f c.index-children-field.result c.requires.field in
+    let named = ap (λ h. named_rows h c.args.index c.args.child_row c.args.count) (sym read) ∙ named_are g c.args.index (c.args.child_row + c.args.count) c.args.child_row c.args.count c.requires.bound in
+    on_ok c.extend.result c.extend.ensures.ok (λ grown. set_rows xs f c.extend.new.self _ c.requires.field (grown ∙ (λ j. appended (sym read j) (named j))))
+
+pub variants::extend_chosen-returns-clause-well : goal.variants::extend_chosen-returns-clause-well
+variants::extend_chosen-returns-clause-well t c =
+    on_both c.extend.result c.extend.ensures.ok c.extend.ensures.fits (λ grown fits. set_well c.args.children.now c.args.field c.extend.new.self c.requires.well (record { well = ap (λ g. g.failed) grown; fits = fits }))
+
+pub variants::extend_chosen-returns-clause-kept : goal.variants::extend_chosen-returns-clause-kept
+variants::extend_chosen-returns-clause-kept t c =
+    let xs = c.args.children.now in
+    let read = nth_read xs c.args.field c.index-children-field.result c.requires.field in
+    set_bound xs c.args.field c.extend.new.self (subst (λ g. SameBound g (grown_of c.extend.new.self)) (sym read) (same_after c.extend.result _ _ _ c.extend.ensures.ok c.extend.ensures.err))
+
+pub variants::extend_chosen-returns-clause-overflow : goal.variants::extend_chosen-returns-clause-overflow
+variants::extend_chosen-returns-clause-overflow t c overflows =
+    let read = nth_read c.args.children.now c.args.field c.index-children-field.result c.requires.field in
+    subst (λ g. CannotHold g c.args.index c.args.child_row c.args.count) (sym read) (c.extend.ensures.overflow overflows)
+
+pub variants::extend_sparse-extend_others-requires : goal.variants::extend_sparse-extend_others-requires
+variants::extend_sparse-extend_others-requires t c = record { field = c.requires.field; well = c.requires.well }
+
+pub variants::extend_sparse-extend_chosen-requires : goal.variants::extend_sparse-extend_chosen-requires
+variants::extend_sparse-extend_chosen-requires t c =
+    let others = c.in_ok-extend_others.ensures in
+    let news = c.extend_others.new.children in
+    let many = as_many_items c.args.children.now news others.kept in
+    let within : c.args.field < length (map grown_of c.args.children.now) = omega (arith, c.requires.field, length-map c.args.children.now grown_of) in
+    let same = ap (λ gs. nth_grown gs c.args.field) others.ok ∙ with_others_here c.args.field c.args.count (map grown_of c.args.children.now) within in
+    (omega (arith, c.decreases, ap deepest others.kept.same_types), (omega (arith, c.requires.field, many), (subst (λ g. BindsRows g c.args.index (c.args.child_row + c.args.count)) (sym same) c.requires.bound, others.well)))
+
+pub variants::extend_dense-append_places-requires : goal.variants::extend_dense-append_places-requires
+variants::extend_dense-append_places-requires t c =
+    let place = place_is c.args.children.now c.args.field c.len-place.result c.index-children-field.result c.requires.field c.requires.well c.len-place.ensures.count c.len-place.ensures.rows in
+    omega (arith, place, c.requires.few)
+
+pub variants::extend_variants-loop-row-preserved : goal.variants::extend_variants-loop-row-preserved
+variants::extend_variants-loop-row-preserved t c =
+    let array = c.index-arrays-index.result in
+    let layouts = map (λ (r : Bor _). union_layout r.now) c.args.arrays.now in
+    let source = source_is (λ (r : Bor _). union_layout r.now) c.args.arrays.now c.args.index array c.requires.index c.index-arrays-index.is in
+    let bounded : c.args.index < length layouts = omega (arith, c.requires.index, length-map c.args.arrays.now (λ (r : Bor _). union_layout r.now)) in
+    let inv = c.loop-row.invariant in
+    let found = c.run_of-field in
+    let gs = map grown_of c.loop-row.children in
+    let offsets = offsets_in c.loop-row.offsets in
+    let call = c.in_ok-extend_variant.ensures in
+    let more = run_more layouts c.args.index array.now bounded source offsets gs inv.2 c.loop-row.row found.result.0 found.result.1 found.result.2 found.ensures.run c.loop-row.types.items c.args.types.now.items (offsets_in c.args.offsets.now) (map grown_of c.args.children.now) c.args.start inv.3 inv.0 c.append_ids.new.types.items (offsets_in c.extend_variant.new.offsets) (map grown_of c.extend_variant.new.children) c.in_ok-append_ids.ensures.ok call.ok call.places call.well call.few in
+    (omega (arith, inv.0), found.ensures.part, bound_next layouts _ offsets _ gs _ inv.2 call.kept call.mode, more)
+
+pub variants::extend_variants-extend_variant-requires : goal.variants::extend_variants-extend_variant-requires
+variants::extend_variants-extend_variant-requires t c =
+    let array = c.index-arrays-index.result in
+    let layouts = map (λ (r : Bor _). union_layout r.now) c.args.arrays.now in
+    let source = source_is (λ (r : Bor _). union_layout r.now) c.args.arrays.now c.args.index array c.requires.index c.index-arrays-index.is in
+    let bounded : c.args.index < length layouts = omega (arith, c.requires.index, length-map c.args.arrays.now (λ (r : Bor _). union_layout r.now)) in
+    let inv = c.loop-row.invariant in
+    let found = c.run_of-field in
+    let gs = map grown_of c.loop-row.children in
+    let offsets = offsets_in c.loop-row.offsets in
+    let within : found.result.0 < length gs = among layouts c.args.index array.now bounded source offsets gs inv.2 c.loop-row.row found.result.0 found.result.1 found.result.2 found.ensures.run in
+    let types = ap deepest (inv.2.over.types ∙ sym c.requires.bound.over.types) in
+    (omega (arith, c.decreases, types), (omega (arith, within, length-map c.loop-row.children grown_of), (run_binds layouts c.args.index array.now bounded source offsets gs inv.2 c.loop-row.row found.result.0 found.result.1 found.result.2 found.ensures.run, (inv.3.holds.well, inv.3.holds.few found.result.0 within))))
+
+pub union::GrowableUnionGrowable::extend-extend_variants-requires : goal.union::GrowableUnionGrowable::extend-extend_variants-requires
+union::GrowableUnionGrowable::extend-extend_variants-requires t c =
+    let inside = c.self.inside in
+    let layouts = map (λ (r : Bor _). union_layout r.now) inside.arrays.items in
+    let u = type_of inside.data_type in
+    let there = subst (λ h. NamesRows h c.args.index c.args.start c.args.len) (sym c.self.view_is) c.requires in
+    let parts = c.self.invariant in
+    let lent = ap (map (λ (r : Bor _). union_layout r.now)) c.deref.ensures.value in
+    let type_is = ap (λ ls. source_type ls c.args.index) lent ∙ parts.bound.one_type c.args.index _ there.0 in
+    let outer = ap (λ (g : Grown). type_depth g.arrow_type) c.self.view_is in
+    let inner = ap (λ xs. deepest (map (λ g. g.arrow_type) (map grown_of xs))) c.deref_mut.ensures.value ∙ ap deepest parts.bound.over.types in
+    let bound = subst {A = (List Layout × ArrowType) × List AnyGrowable} (λ q. IsBoundUnion q.0.0 q.0.1 (offsets_in inside.offsets) (map grown_of q.1)) (λ j. ((sym lent j, sym type_is j), sym c.deref_mut.ensures.value j)) parts.bound in
+    let holds = subst {A = ArrowType × List AnyGrowable} (λ q. HoldsVariants q.0 inside.types.items (offsets_in inside.offsets) (map grown_of q.1)) (λ j. (sym type_is j, sym c.deref_mut.ensures.value j)) (parts.holds c.if-self.false) in
+    (omega (arith, inner, deepest_of_fields u, outer, c.decreases), (omega (arith, there.0, ap length lent, length-map c.deref.result.now (λ (r : Bor _). union_layout r.now)), (subst (λ ls. c.args.start + c.args.len ≤ length (rows (source_at ls c.args.index))) (sym lent) there.1, (bound, holds))))
+
+pub union::GrowableUnionGrowable::extend-invariant_of-self-in_err-extend_variants : goal.union::GrowableUnionGrowable::extend-invariant_of-self-in_err-extend_variants
+union::GrowableUnionGrowable::extend-invariant_of-self-in_err-extend_variants t c =
+    let inside = c.self.inside in
+    let layouts = map (λ (r : Bor _). union_layout r.now) inside.arrays.items in
+    let u = type_of inside.data_type in
+    let there = subst (λ h. NamesRows h c.args.index c.args.start c.args.len) (sym c.self.view_is) c.requires in
+    let lent = ap (map (λ (r : Bor _). union_layout r.now)) c.deref.ensures.value in
+    let type_is = ap (λ ls. source_type ls c.args.index) lent ∙ c.self.invariant.bound.one_type c.args.index _ there.0 in
+    let call = c.in_err-extend_variants.ensures in
+    let bound : IsBoundUnion layouts u (offsets_in c.extend_variants.new.offsets) (map grown_of c.extend_variants.new.children) = subst {A = List Layout × ArrowType} (λ q. IsBoundUnion q.0 q.1 (offsets_in c.extend_variants.new.offsets) (map grown_of c.extend_variants.new.children)) (λ j. (lent j, type_is j)) call.bound in
+    let same = ap (λ xs. map (λ (g : Grown). g.arrow_type) (map grown_of xs)) c.deref_mut.ensures.value ∙ c.self.invariant.bound.over.types in
+    let back = written c.extend_variants.new.children inside.children.items inside.children.len (as_many_types c.extend_variants.new.children c.deref_mut.result.now _ bound.over.types same ∙ c.deref_mut.ensures.len) in
+    rw back (failed_union _ _ _ _ _ _ bound)
+
+pub union::GrowableUnionGrowable::extend-invariant_of-self-2 : goal.union::GrowableUnionGrowable::extend-invariant_of-self-2
+union::GrowableUnionGrowable::extend-invariant_of-self-2 t c =
+    let inside = c.self.inside in
+    let layouts = map (λ (r : Bor _). union_layout r.now) inside.arrays.items in
+    let u = type_of inside.data_type in
+    let there = subst (λ h. NamesRows h c.args.index c.args.start c.args.len) (sym c.self.view_is) c.requires in
+    let lent = ap (map (λ (r : Bor _). union_layout r.now)) c.deref.ensures.value in
+    let type_is = ap (λ ls. source_type ls c.args.index) lent ∙ c.self.invariant.bound.one_type c.args.index _ there.0 in
+    let call = c.in_ok-extend_variants.ensures in
+    let bound : IsBoundUnion layouts u (offsets_in c.extend_variants.new.offsets) (map grown_of c.extend_variants.new.children) = subst {A = List Layout × ArrowType} (λ q. IsBoundUnion q.0 q.1 (offsets_in c.extend_variants.new.offsets) (map grown_of c.extend_variants.new.children)) (λ j. (lent j, type_is j)) call.bound in
+    let same = ap (λ xs. map (λ (g : Grown). g.arrow_type) (map grown_of xs)) c.deref_mut.ensures.value ∙ c.self.invariant.bound.over.types in
+    let back = written c.extend_variants.new.children inside.children.items inside.children.len (as_many_types c.extend_variants.new.children c.deref_mut.result.now _ bound.over.types same ∙ c.deref_mut.ensures.len) in
+    let named = sliced (rows (source_at layouts c.args.index)) c.args.start c.args.len in
+    let grows : GrowsVariants u inside.types.items (offsets_in inside.offsets) (map grown_of inside.children.items) c.extend_variants.new.types.items (offsets_in c.extend_variants.new.offsets) (map grown_of c.extend_variants.new.children) named = subst {A = (List Layout × ArrowType) × List AnyGrowable} (λ q. GrowsVariants q.0.1 inside.types.items (offsets_in inside.offsets) (map grown_of q.1) c.extend_variants.new.types.items (offsets_in c.extend_variants.new.offsets) (map grown_of c.extend_variants.new.children) (sliced (rows (source_at q.0.0 c.args.index)) c.args.start c.args.len)) (λ j. ((lent j, type_is j), c.deref_mut.ensures.value j)) call.ok in
+    let count : c.in-Some.total ≡ inside.len + length named = omega (arith, c.in-Some.ensures, length-sliced (rows (source_at layouts c.args.index)) c.args.start c.args.len there.1) in
+    rw back (grown_union _ _ _ _ _ _ _ _ _ _ named c.in-Some.total c.self.invariant c.if-self.false bound grows count)
+
+pub union::GrowableUnionGrowable::extend-returns-clause-ok : goal.union::GrowableUnionGrowable::extend-returns-clause-ok
+union::GrowableUnionGrowable::extend-returns-clause-ok t c =
+    let inside = c.self.inside in
+    let layouts = map (λ (r : Bor _). union_layout r.now) inside.arrays.items in
+    let u = type_of inside.data_type in
+    let there = subst (λ h. NamesRows h c.args.index c.args.start c.args.len) (sym c.self.view_is) c.requires in
+    let lent = ap (map (λ (r : Bor _). union_layout r.now)) c.deref.ensures.value in
+    let type_is = ap (λ ls. source_type ls c.args.index) lent ∙ c.self.invariant.bound.one_type c.args.index _ there.0 in
+    let call = c.in_ok-extend_variants.ensures in
+    let bound : IsBoundUnion layouts u (offsets_in c.extend_variants.new.offsets) (map grown_of c.extend_variants.new.children) = subst {A = List Layout × ArrowType} (λ q. IsBoundUnion q.0 q.1 (offsets_in c.extend_variants.new.offsets) (map grown_of c.extend_variants.new.children)) (λ j. (lent j, type_is j)) call.bound in
+    let same = ap (λ xs. map (λ (g : Grown). g.arrow_type) (map grown_of xs)) c.deref_mut.ensures.value ∙ c.self.invariant.bound.over.types in
+    let back = written c.extend_variants.new.children inside.children.items inside.children.len (as_many_types c.extend_variants.new.children c.deref_mut.result.now _ bound.over.types same ∙ c.deref_mut.ensures.len) in
+    let named = sliced (rows (source_at layouts c.args.index)) c.args.start c.args.len in
+    let grows : GrowsVariants u inside.types.items (offsets_in inside.offsets) (map grown_of inside.children.items) c.extend_variants.new.types.items (offsets_in c.extend_variants.new.offsets) (map grown_of c.extend_variants.new.children) named = subst {A = (List Layout × ArrowType) × List AnyGrowable} (λ q. GrowsVariants q.0.1 inside.types.items (offsets_in inside.offsets) (map grown_of q.1) c.extend_variants.new.types.items (offsets_in c.extend_variants.new.offsets) (map grown_of c.extend_variants.new.children) (sliced (rows (source_at q.0.0 c.args.index)) c.args.start c.args.len)) (λ j. ((lent j, type_is j), c.deref_mut.ensures.value j)) call.ok in
+    let count : c.in-Some.total ≡ inside.len + length named = omega (arith, c.in-Some.ensures, length-sliced (rows (source_at layouts c.args.index)) c.args.start c.args.len there.1) in
+    let all = ap (λ xs. variant_rows u c.extend_variants.new.types.items (offsets_in c.extend_variants.new.offsets) (map grown_of xs)) back ∙ grows.rows in
+    rw (← c.self.view_is) (λ j. record { arrow_type = u; sources = Some layouts; rows = all j; count = count j; failed = false })
+
+pub union::GrowableUnionGrowable::extend-returns-clause-fits : goal.union::GrowableUnionGrowable::extend-returns-clause-fits
+union::GrowableUnionGrowable::extend-returns-clause-fits t c =
+    let inside = c.self.inside in
+    let layouts = map (λ (r : Bor _). union_layout r.now) inside.arrays.items in
+    let u = type_of inside.data_type in
+    let there = subst (λ h. NamesRows h c.args.index c.args.start c.args.len) (sym c.self.view_is) c.requires in
+    let lent = ap (map (λ (r : Bor _). union_layout r.now)) c.deref.ensures.value in
+    let type_is = ap (λ ls. source_type ls c.args.index) lent ∙ c.self.invariant.bound.one_type c.args.index _ there.0 in
+    let call = c.in_ok-extend_variants.ensures in
+    let bound : IsBoundUnion layouts u (offsets_in c.extend_variants.new.offsets) (map grown_of c.extend_variants.new.children) = subst {A = List Layout × ArrowType} (λ q. IsBoundUnion q.0 q.1 (offsets_in c.extend_variants.new.offsets) (map grown_of c.extend_variants.new.children)) (λ j. (lent j, type_is j)) call.bound in
+    let same = ap (λ xs. map (λ (g : Grown). g.arrow_type) (map grown_of xs)) c.deref_mut.ensures.value ∙ c.self.invariant.bound.over.types in
+    let back = written c.extend_variants.new.children inside.children.items inside.children.len (as_many_types c.extend_variants.new.children c.deref_mut.result.now _ bound.over.types same ∙ c.deref_mut.ensures.len) in
+    let named = sliced (rows (source_at layouts c.args.index)) c.args.start c.args.len in
+    let grows : GrowsVariants u inside.types.items (offsets_in inside.offsets) (map grown_of inside.children.items) c.extend_variants.new.types.items (offsets_in c.extend_variants.new.offsets) (map grown_of c.extend_variants.new.children) named = subst {A = (List Layout × ArrowType) × List AnyGrowable} (λ q. GrowsVariants q.0.1 inside.types.items (offsets_in inside.offsets) (map grown_of q.1) c.extend_variants.new.types.items (offsets_in c.extend_variants.new.offsets) (map grown_of c.extend_variants.new.children) (sliced (rows (source_at q.0.0 c.args.index)) c.args.start c.args.len)) (λ j. ((lent j, type_is j), c.deref_mut.ensures.value j)) call.ok in
+    let count : c.in-Some.total ≡ inside.len + length named = omega (arith, c.in-Some.ensures, length-sliced (rows (source_at layouts c.args.index)) c.args.start c.args.len there.1) in
+    let all = ap (λ xs. variant_rows u c.extend_variants.new.types.items (offsets_in c.extend_variants.new.offsets) (map grown_of xs)) back in
+    subst (Fits u) (sym all) (grown_fits _ _ _ _ _ _ _ _ _ _ named c.in-Some.total c.self.invariant c.if-self.false bound grows count (omega (arith, c.in-Some.ensures)))
+
+pub variants::extend_sparse-returns-clause-ok : goal.variants::extend_sparse-returns-clause-ok
+variants::extend_sparse-returns-clause-ok t c =
+    let others = c.in_ok-extend_others.ensures in
+    let within : c.args.field < length (map grown_of c.args.children.now) = omega (arith, c.requires.field, length-map c.args.children.now grown_of) in
+    let same = ap (λ gs. nth_grown gs c.args.field) others.ok ∙ with_others_here c.args.field c.args.count (map grown_of c.args.children.now) within in
+    on_ok c.extend_chosen.result c.extend_chosen.ensures.ok (λ is. is ∙ (λ j. with_rows c.args.field (sliced (bound_rows (same j) c.args.index) c.args.child_row c.args.count) (others.ok j)))
+
+pub variants::extend_sparse-returns-clause-overflow : goal.variants::extend_sparse-returns-clause-overflow
+variants::extend_sparse-returns-clause-overflow t c overflows =
+    let others = c.in_ok-extend_others.ensures in
+    let within : c.args.field < length (map grown_of c.args.children.now) = omega (arith, c.requires.field, length-map c.args.children.now grown_of) in
+    let same = ap (λ gs. nth_grown gs c.args.field) others.ok ∙ with_others_here c.args.field c.args.count (map grown_of c.args.children.now) within in
+    inl (subst (λ g. CannotHold g c.args.index c.args.child_row c.args.count) same (c.extend_chosen.ensures.overflow overflows))
+
+pub variants::extend_variants-returns-in_err-extend_variant-clause-bound : goal.variants::extend_variants-returns-in_err-extend_variant-clause-bound
+variants::extend_variants-returns-in_err-extend_variant-clause-bound t c =
+    let call = c.in_err-extend_variant.ensures in
+    bound_next _ _ _ _ _ _ c.loop-row.invariant.2 call.kept call.mode
+
+pub variants::extend_variants-returns-in_err-extend_variant-clause-overflow : goal.variants::extend_variants-returns-in_err-extend_variant-clause-overflow
+variants::extend_variants-returns-in_err-extend_variant-clause-overflow t c overflows =
+    let array = c.index-arrays-index.result in
+    let layouts = map (λ (r : Bor _). union_layout r.now) c.args.arrays.now in
+    let source = source_is (λ (r : Bor _). union_layout r.now) c.args.arrays.now c.args.index array c.requires.index c.index-arrays-index.is in
+    let bounded : c.args.index < length layouts = omega (arith, c.requires.index, length-map c.args.arrays.now (λ (r : Bor _). union_layout r.now)) in
+    let inv = c.loop-row.invariant in
+    let found = c.run_of-field in
+    let gs = map grown_of c.loop-row.children in
+    let offsets = offsets_in c.loop-row.offsets in
+    let refused = c.in_err-extend_variant.ensures.overflow (ap Err (passed_on c.from_residual-in_err-extend_variant.result _ _ c.from_residual-in_err-extend_variant.ensures.1 overflows)) in
+    let to = found.ensures.part in
+    let long = ap (λ l. length (rows l)) source in
+    run_stops layouts c.args.index array.now bounded source offsets gs inv.2 c.loop-row.row found.result.0 found.result.1 found.result.2 found.ensures.run c.loop-row.types.items c.args.types.now.items (offsets_in c.args.offsets.now) (map grown_of c.args.children.now) c.args.start inv.3 inv.0 c.args.len to (omega (arith, to, c.requires.part, long, c.len.ensures.rows, c.len.ensures.types)) refused
+
+pub union::GrowableUnionGrowable::extend-returns-in_default-clause-overflow : goal.union::GrowableUnionGrowable::extend-returns-in_default-clause-overflow
+union::GrowableUnionGrowable::extend-returns-in_default-clause-overflow t c same =
+    let inside = c.self.inside in
+    let layouts = map (λ (r : Bor _). union_layout r.now) inside.arrays.items in
+    let u = type_of inside.data_type in
+    let there = subst (λ h. NamesRows h c.args.index c.args.start c.args.len) (sym c.self.view_is) c.requires in
+    let before = variant_rows u inside.types.items (offsets_in inside.offsets) (map grown_of inside.children.items) in
+    let named = sliced (rows (source_at layouts c.args.index)) c.args.start c.args.len in
+    subst (λ h. CannotHold h c.args.index c.args.start c.args.len) c.self.view_is (inl (λ fits. too_many u before named inside.len c.args.len fits (held_counted _ _ _ _ _ _ _ c.self.invariant c.if-self.false) (length-sliced _ c.args.start c.args.len there.1) (omega (arith, c.in_default.ensures))))

@@ -1,12 +1,15 @@
-use Rattle.std.proofs.Common.{◌≡◌, ◌+◌, ◌-◌, ◌*◌, ◌<◌, length, map, get_or}
+use Rattle.std.proofs.Common.{◌≡◌, ◌+◌, ◌-◌, ◌*◌, ◌<◌, ◌≤◌, length, map, get_or}
 use Rattle.std.specs.Prelude.{option_copied}
 use Rattle.arrow_memory.specs.Sliced.{sliced}
 use Rattle.arrow_flat.specs.Parts.{bits_of_slice}
+use Rattle.arrow_arrays.specs.Layout.{rows}
 use Rattle.arrow_arrays.specs.TypeDepth.{deepest, type_depth}
+use Rattle.arrow_arrays.specs.UnionParts.{union_layout}
 use Rattle.arrow_arrays.proofs.SliceLemmas.{ChangedUpTo}
-use Rattle.arrow_flat_growable.specs.Grown.{FitsItself}
+use Rattle.arrow_flat_growable.specs.Grown.{FitsItself, source_at}
 use Rattle.arrow_growable.specs.AnyGrowable.{grown_of}
 use Rattle.arrow_growable.specs.Child.{grown_by}
+use Rattle.arrow_growable.specs.GrownUnion.{GrowsVariants, IsBoundUnion, offsets_in, source_type}
 use Rattle.arrow_growable.specs.Spans.{span_nulls, span_place}
 use Rattle.arrow_growable.proofs.ChildLemmas.{GrowsTo}
 use Rattle.arrow_growable.proofs.growable.+extend.Given as goal
@@ -14,22 +17,42 @@ use Rattle.arrow_growable.proofs.growable.+extend.Given as goal
 -- each call goes to a less deep growable, or comes nearer to one: all children, one child, its runs, one run
 
 abbrev pub decreases-children::extend_children : goal.decreases-children::extend_children
-decreases-children::extend_children l = 6 * deepest (map (λ g. g.arrow_type) (map grown_of l.children.now))
+decreases-children::extend_children l = 10 * deepest (map (λ g. g.arrow_type) (map grown_of l.children.now))
 
 abbrev pub decreases-children::extend_child : goal.decreases-children::extend_child
-decreases-children::extend_child l = 6 * type_depth ((grown_of l.child.now).arrow_type) + 5
+decreases-children::extend_child l = 10 * type_depth ((grown_of l.child.now).arrow_type) + 8
 
 abbrev pub decreases-children::extend_runs : goal.decreases-children::extend_runs
-decreases-children::extend_runs l = 6 * type_depth ((grown_of l.child.now).arrow_type) + 4
+decreases-children::extend_runs l = 10 * type_depth ((grown_of l.child.now).arrow_type) + 7
 
 abbrev pub decreases-children::extend_run : goal.decreases-children::extend_run
-decreases-children::extend_run l = 6 * type_depth ((grown_of l.child.now).arrow_type) + 3
+decreases-children::extend_run l = 10 * type_depth ((grown_of l.child.now).arrow_type) + 6
 
 abbrev pub decreases-any::AnyGrowableGrowable::extend : goal.decreases-any::AnyGrowableGrowable::extend
-decreases-any::AnyGrowableGrowable::extend l = 6 * type_depth ((grown_of l.self.now).arrow_type) + 2
+decreases-any::AnyGrowableGrowable::extend l = 10 * type_depth ((grown_of l.self.now).arrow_type) + 5
 
 abbrev pub decreases-nested::GrowableNestedGrowable::extend : goal.decreases-nested::GrowableNestedGrowable::extend
-decreases-nested::GrowableNestedGrowable::extend l = 6 * type_depth l.self.now.arrow_type + 1
+decreases-nested::GrowableNestedGrowable::extend l = 10 * type_depth l.self.now.arrow_type + 1
+
+-- and those of a union: all runs, one run, in a sparse or a dense one, the child of its field
+
+abbrev pub decreases-union::GrowableUnionGrowable::extend : goal.decreases-union::GrowableUnionGrowable::extend
+decreases-union::GrowableUnionGrowable::extend l = 10 * type_depth l.self.now.arrow_type + 4
+
+abbrev pub decreases-variants::extend_variants : goal.decreases-variants::extend_variants
+decreases-variants::extend_variants l = 10 * deepest (map (λ g. g.arrow_type) (map grown_of l.children.now)) + 3
+
+abbrev pub decreases-variants::extend_variant : goal.decreases-variants::extend_variant
+decreases-variants::extend_variant l = 10 * deepest (map (λ g. g.arrow_type) (map grown_of l.children.now)) + 2
+
+abbrev pub decreases-variants::extend_sparse : goal.decreases-variants::extend_sparse
+decreases-variants::extend_sparse l = 10 * deepest (map (λ g. g.arrow_type) (map grown_of l.children.now)) + 1
+
+abbrev pub decreases-variants::extend_dense : goal.decreases-variants::extend_dense
+decreases-variants::extend_dense l = 10 * deepest (map (λ g. g.arrow_type) (map grown_of l.children.now)) + 1
+
+abbrev pub decreases-variants::extend_chosen : goal.decreases-variants::extend_chosen
+decreases-variants::extend_chosen l = 10 * deepest (map (λ g. g.arrow_type) (map grown_of l.children.now))
 
 -- the children so far have grown, and fit; the others are as they were
 abbrev pub invariant-children::extend_children-loop-child : goal.invariant-children::extend_children-loop-child
@@ -43,3 +66,12 @@ invariant-children::extend_runs-loop-row l =
 
 abbrev pub decreases-children::extend_runs-loop-row : goal.decreases-children::extend_runs-loop-row
 decreases-children::extend_runs-loop-row l = l.end - l.row
+
+-- the rows up to this one are appended
+abbrev pub invariant-variants::extend_variants-loop-row : goal.invariant-variants::extend_variants-loop-row
+invariant-variants::extend_variants-loop-row l =
+    let layouts = map (λ r. union_layout r.now) l.arrays in
+    (l.start ≤ l.row) × (l.row ≤ l.end) × IsBoundUnion layouts (source_type layouts l.index) (offsets_in l.offsets) (map grown_of l.children) × GrowsVariants (source_type layouts l.index) l.initial.types.items (offsets_in l.initial.offsets) (map grown_of l.initial.children) l.types.items (offsets_in l.offsets) (map grown_of l.children) (sliced (rows (source_at layouts l.index)) l.start (l.row - l.start))
+
+abbrev pub decreases-variants::extend_variants-loop-row : goal.decreases-variants::extend_variants-loop-row
+decreases-variants::extend_variants-loop-row l = l.end - l.row

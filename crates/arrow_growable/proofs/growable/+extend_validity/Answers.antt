@@ -1,4 +1,4 @@
-use Rattle.std.proofs.Common.{arith, ◌≡◌, ◌+◌, ◌*◌, ◌<◌, ◌≤◌, ◌^◌, ◌++◌, ℕ, false, drop, length, map, replicate, take, Some, Err, refl, ap, sym, subst, ◌∙◌}
+use Rattle.std.proofs.Common.{arith, ◌≡◌, ◌+◌, ◌*◌, ◌<◌, ◌≤◌, ◌^◌, ◌++◌, ℕ, None, inl, inr, false, drop, length, map, replicate, take, Some, Err, refl, ap, sym, subst, ◌∙◌}
 use Rattle.std.proofs.lemmas.List.{length-map, length-replicate, length-set}
 use Rattle.std.proofs.lemmas.List.Elements.{All-map}
 use Rattle.arrow_types.specs.Fits.{Fits}
@@ -8,18 +8,23 @@ use Rattle.arrow_arrays.specs.TypeDepth.{deepest, type_depth}
 use Rattle.arrow_arrays.proofs.SliceLemmas.{all_changed, changed_next, changed_read, in_map, rest_as_was, written}
 use Rattle.arrow_flat_growable.specs.Grown.{Grown, FitsItself, FitsWith, null_rows_of}
 use Rattle.arrow_flat_growable.proofs.FlatLemmas.{too_many}
-use Rattle.arrow_flat_growable.proofs.ResultLemmas.{passed_on}
+use Rattle.arrow_flat_growable.proofs.ResultLemmas.{on_ok, passed_on}
 use Rattle.arrow_growable.specs.AnyGrowable.{grown_of}
 use Rattle.arrow_growable.specs.Bound.{bound_layouts}
 use Rattle.arrow_growable.specs.Child.{AreBoundAs, IsWell, SomeCannotHoldNulls, grown_by_nulls}
 use Rattle.arrow_growable.specs.Form.{nested_rows}
-use Rattle.arrow_growable.specs.FormLaws.{deepest_child}
+use Rattle.arrow_growable.specs.FormLaws.{deepest_child, deepest_of_fields}
 use Rattle.arrow_growable.specs.GrowableSpans.{IsSoundForm, form_of, grown_arrays}
+use Rattle.arrow_growable.specs.GrownUnion.{GrowsVariants, nth_grown, offsets_in, variant_rows}
 use Rattle.arrow_growable.specs.Nested.{IsGrownNested, rows_of_all}
 use Rattle.arrow_growable.proofs.EvenLemmas.{no_grown}
 use Rattle.arrow_growable.proofs.GrownLemmas.{counts, nulls_refused, slots_refused}
 use Rattle.arrow_growable.proofs.LoopLemmas.{as_many_items, bound_after, deepest_at, holds_next, read_is}
 use Rattle.arrow_growable.proofs.StepLemmas.{Step, all_well, bits_counted, bound_map, failed_parts, fits_step, holds_of, lies_with, spans_lie, step_nulls}
+use Rattle.arrow_growable.proofs.UnionBoundLemmas.{bound_next, null_rows_are, nulls_cannot, some_children}
+use Rattle.arrow_growable.proofs.UnionChildLemmas.{grown_well, nth_read, nulls_well, on_both, on_four, set_well}
+use Rattle.arrow_growable.proofs.UnionGrowLemmas.{grows_run}
+use Rattle.arrow_growable.proofs.UnionStructLemmas.{failed_union, grown_fits, grown_union, held_counted}
 use Rattle.arrow_growable.proofs.growable.+extend_validity.Goals as goal
 use Rattle.arrow_growable.proofs.growable.+extend_validity.Goals.{nested::GrowableNestedGrowable::extend_validity-After-self-4-1}
 
@@ -167,3 +172,92 @@ nested::GrowableNestedGrowable::extend_validity-returns-clause-fits t c =
     let sound = subst (λ a. IsSoundForm a (form_of c.extend_nulls-2.new.self)) c.in_ok-extend_nulls-2.ensures.arrays c.null_slots-new.ensures.sound in
     let all = ap (λ xs. nested_rows (form_of c.extend_nulls-2.new.self) c.extend_nulls.new.self (rows_of_all (map grown_of xs))) (back_of t c) in
     subst (Fits (type_of c.self.inside.data_type)) (sym all) (fits_step _ _ _ _ _ _ _ _ _ _ _ s (lies_with _ _ _ (spans_lie c.self.inside.spans) c.in_ok-extend_nulls-2.ensures.form) sound (omega (arith, c.in-Some.ensures)))
+
+-- unions
+
+pub variants::extend_first_nulls-returns-clause-well : goal.variants::extend_first_nulls-returns-clause-well
+variants::extend_first_nulls-returns-clause-well t c =
+    on_ok c.extend_nulls.result c.extend_nulls.ensures.ok (λ grown. set_well c.args.children.now 0 c.extend_nulls.new.child c.requires.well (grown_well grown))
+
+pub variants::extend_first_nulls-returns-clause-overflow : goal.variants::extend_first_nulls-returns-clause-overflow
+variants::extend_first_nulls-returns-clause-overflow t c overflows =
+    let first = nth_read c.args.children.now 0 c.index-children-0-2.result c.requires.some in
+    inl (subst (λ g. FitsWith g (null_rows_of g c.args.count) → ⊥) (sym first) (c.extend_nulls.ensures.overflow overflows))
+
+pub variants::extend_null_variant-returns-in-None-clause-well : goal.variants::extend_null_variant-returns-in-None-clause-well
+variants::extend_null_variant-returns-in-None-clause-well t c =
+    on_both c.extend_all_nulls.result c.extend_all_nulls.ensures.ok c.extend_all_nulls.ensures.fits (λ are fits. nulls_well c.args.count (map grown_of c.args.children.now) (map grown_of c.extend_all_nulls.new.children) are fits)
+
+pub variants::extend_null_variant-returns-in-Some-clause-overflow : goal.variants::extend_null_variant-returns-in-Some-clause-overflow
+variants::extend_null_variant-returns-in-Some-clause-overflow t c overflows =
+    rw c.in-Some.is (c.extend_first_nulls.ensures.overflow overflows)
+
+pub variants::extend_null_variants-extend_null_variant-requires : goal.variants::extend_null_variants-extend_null_variant-requires
+variants::extend_null_variants-extend_null_variant-requires t c =
+    let gs = map grown_of c.args.children.now in
+    let some : 0 < length gs = some_children (type_of c.args.data_type.now) (offsets_in c.args.offsets.now) gs c.requires.over in
+    (omega (arith, c.decreases), (omega (arith, some, length-map c.args.children.now grown_of), (c.requires.holds.well, c.requires.holds.few 0 some)))
+
+pub variants::extend_null_variants-returns-clause-ok : goal.variants::extend_null_variants-returns-clause-ok
+variants::extend_null_variants-returns-clause-ok t c =
+    let u = type_of c.args.data_type.now in
+    let gs = map grown_of c.args.children.now in
+    let n = c.args.count in
+    let some : 0 < length gs = some_children u (offsets_in c.args.offsets.now) gs c.requires.over in
+    let call = c.extend_null_variant.ensures in
+    let more = null_rows_of (nth_grown gs 0) n in
+    on_four c.extend_null_variant.result call.ok call.places call.well call.few (λ news places well few. subst (GrowsVariants u c.args.types.now.items (offsets_in c.args.offsets.now) gs c.append_first_id.new.types.items (offsets_in c.extend_null_variant.new.offsets) (map grown_of c.extend_null_variant.new.children)) (null_rows_are u (offsets_in c.args.offsets.now) gs n c.requires.over some) (grows_run u c.args.types.now.items (offsets_in c.args.offsets.now) gs c.requires.over c.requires.holds 0 n more some (length-replicate n (null_slot (nth_grown gs 0).arrow_type)) (map grown_of c.extend_null_variant.new.children) c.append_first_id.new.types.items (offsets_in c.extend_null_variant.new.offsets) news c.in_ok-append_first_id.ensures.ok places well few))
+
+pub variants::extend_null_variants-returns-clause-overflow : goal.variants::extend_null_variants-returns-clause-overflow
+variants::extend_null_variants-returns-clause-overflow t c overflows =
+    let u = type_of c.args.data_type.now in
+    let gs = map grown_of c.args.children.now in
+    let some : 0 < length gs = some_children u (offsets_in c.args.offsets.now) gs c.requires.over in
+    nulls_cannot u c.args.types.now.items (offsets_in c.args.offsets.now) gs c.args.count c.requires.over c.requires.holds some (c.extend_null_variant.ensures.overflow overflows)
+
+pub union::GrowableUnionGrowable::extend_validity-returns-in_default-clause-overflow : goal.union::GrowableUnionGrowable::extend_validity-returns-in_default-clause-overflow
+union::GrowableUnionGrowable::extend_validity-returns-in_default-clause-overflow t c same fits =
+    let inside = c.self.inside in
+    let u = type_of inside.data_type in
+    let n = c.args.additional in
+    let fit = subst (λ h. FitsWith h (null_rows_of h n)) (sym c.self.view_is) fits in
+    too_many u (variant_rows u inside.types.items (offsets_in inside.offsets) (map grown_of inside.children.items)) (replicate n (null_slot u)) inside.len n fit (held_counted _ _ _ _ _ _ _ c.self.invariant c.if-self.false) (length-replicate n (null_slot u)) (omega (arith, c.in_default.ensures))
+
+pub union::GrowableUnionGrowable::extend_validity-extend_null_variants-requires : goal.union::GrowableUnionGrowable::extend_validity-extend_null_variants-requires
+union::GrowableUnionGrowable::extend_validity-extend_null_variants-requires t c =
+    let inside = c.self.inside in
+    let outer = ap (λ (g : Grown). type_depth g.arrow_type) c.self.view_is in
+    let parts = c.self.invariant in
+    let inner = ap (λ xs. deepest (map (λ g. g.arrow_type) (map grown_of xs))) c.deref_mut.ensures.value ∙ ap deepest parts.bound.over.types in
+    let fewer = deepest_of_fields (type_of inside.data_type) in
+    (omega (arith, inner, fewer, outer, c.decreases), (omega (arith, c.in-Some.ensures, parts.counted c.if-self.false), (rw c.deref_mut.ensures.value parts.bound.over, rw c.deref_mut.ensures.value (parts.holds c.if-self.false))))
+
+pub union::GrowableUnionGrowable::extend_validity-invariant_of-self-in_err-extend_null_variants : goal.union::GrowableUnionGrowable::extend_validity-invariant_of-self-in_err-extend_null_variants
+union::GrowableUnionGrowable::extend_validity-invariant_of-self-in_err-extend_null_variants t c =
+    let call = c.in_err-extend_null_variants.ensures in
+    let kept = subst (λ xs. AreBoundAs (map grown_of xs) (map grown_of c.extend_null_variants.new.children)) c.deref_mut.ensures.value call.kept in
+    let back = written c.extend_null_variants.new.children c.self.inside.children.items c.self.inside.children.len (as_many_items c.deref_mut.result.now c.extend_null_variants.new.children call.kept ∙ c.deref_mut.ensures.len) in
+    rw back (failed_union _ _ _ _ _ _ (bound_next _ _ _ _ _ _ c.self.invariant.bound kept call.mode))
+
+pub union::GrowableUnionGrowable::extend_validity-invariant_of-self-2 : goal.union::GrowableUnionGrowable::extend_validity-invariant_of-self-2
+union::GrowableUnionGrowable::extend_validity-invariant_of-self-2 t c =
+    let inside = c.self.inside in
+    let u = type_of inside.data_type in
+    let n = c.args.additional in
+    let call = c.in_ok-extend_null_variants.ensures in
+    let kept = subst (λ xs. AreBoundAs (map grown_of xs) (map grown_of c.extend_null_variants.new.children)) c.deref_mut.ensures.value call.kept in
+    let back = written c.extend_null_variants.new.children inside.children.items inside.children.len (as_many_items c.deref_mut.result.now c.extend_null_variants.new.children call.kept ∙ c.deref_mut.ensures.len) in
+    let grows = subst (λ xs. GrowsVariants u inside.types.items (offsets_in inside.offsets) (map grown_of xs) c.extend_null_variants.new.types.items (offsets_in c.extend_null_variants.new.offsets) (map grown_of c.extend_null_variants.new.children) (replicate n (null_slot u))) c.deref_mut.ensures.value call.ok in
+    rw back (grown_union _ _ _ _ _ _ _ _ _ _ (replicate n (null_slot u)) c.in-Some.total c.self.invariant c.if-self.false (bound_next _ _ _ _ _ _ c.self.invariant.bound kept call.mode) grows (omega (arith, c.in-Some.ensures, length-replicate n (null_slot u))))
+
+pub union::GrowableUnionGrowable::extend_validity-returns-clause-fits : goal.union::GrowableUnionGrowable::extend_validity-returns-clause-fits
+union::GrowableUnionGrowable::extend_validity-returns-clause-fits t c =
+    let inside = c.self.inside in
+    let u = type_of inside.data_type in
+    let n = c.args.additional in
+    let call = c.in_ok-extend_null_variants.ensures in
+    let kept = subst (λ xs. AreBoundAs (map grown_of xs) (map grown_of c.extend_null_variants.new.children)) c.deref_mut.ensures.value call.kept in
+    let back = written c.extend_null_variants.new.children inside.children.items inside.children.len (as_many_items c.deref_mut.result.now c.extend_null_variants.new.children call.kept ∙ c.deref_mut.ensures.len) in
+    let grows = subst (λ xs. GrowsVariants u inside.types.items (offsets_in inside.offsets) (map grown_of xs) c.extend_null_variants.new.types.items (offsets_in c.extend_null_variants.new.offsets) (map grown_of c.extend_null_variants.new.children) (replicate n (null_slot u))) c.deref_mut.ensures.value call.ok in
+    let all = ap (λ xs. variant_rows u c.extend_null_variants.new.types.items (offsets_in c.extend_null_variants.new.offsets) (map grown_of xs)) back in
+    subst (Fits u) (sym all) (grown_fits _ _ _ _ _ _ _ _ _ _ (replicate n (null_slot u)) c.in-Some.total c.self.invariant c.if-self.false (bound_next _ _ _ _ _ _ c.self.invariant.bound kept call.mode) grows (omega (arith, c.in-Some.ensures, length-replicate n (null_slot u))) (omega (arith, c.in-Some.ensures)))

@@ -1,26 +1,30 @@
-use Rattle.std.proofs.Common.{arith, ◌≡◌, ◌<◌, Bor, Err, length, map, ap, sym, subst, ◌∙◌}
-use Rattle.std.proofs.lemmas.List.{length-map, take_all}
+use Rattle.std.proofs.Common.{arith, ◌≡◌, ◌<◌, Bor, Err, Global, List, [], Vec, get_or, length, map, ap, sym, subst, ◌∙◌}
+use Rattle.std.specs.List.{All}
+use Rattle.std.proofs.lemmas.List.{get_or_default, length-map, take_all}
 use Rattle.arrow_types.specs.Physical.{physical_type_of}
 use Rattle.std.proofs.lemmas.Result.{IfOk-weaker}
 use Rattle.arrow_types.specs.Rows.{joined}
-use Rattle.arrow_arrays.specs.Any.{kind_in, layout_of, layouts_in}
-use Rattle.arrow_arrays.specs.Crowded.{child_of}
+use Rattle.arrow_arrays.specs.Any.{layout_of, layouts_in}
+use Rattle.arrow_arrays.specs.Crowded.{Unjoined, child_of}
 use Rattle.arrow_arrays.specs.KeyedParts.{keyed_layout}
-use Rattle.arrow_arrays.specs.Layout.{rows}
-use Rattle.arrow_arrays.specs.TypeParts.{IsFlatType}
+use Rattle.arrow_arrays.specs.Layout.{Layout, rows}
 use Rattle.arrow_flat_growable.proofs.ResultLemmas.{passed_on}
-use Rattle.arrow_arrays.specs.TypeDepth.{type_depth}
+use Rattle.arrow_arrays.specs.declared.array.any.AnyArray.{AnyArray}
+use Rattle.arrow_arrays.specs.TypeDepth.{deepest, type_depth}
+use Rattle.arrow_arrays.specs.TypeParts.{field_types}
+use Rattle.arrow_arrays.specs.UnionParts.{union_layout}
 use Rattle.arrow_flat_growable.specs.Grown.{AreOfOneType, bound_to, first_type}
 use Rattle.arrow_flat_growable.proofs.FlatLemmas.{first_is}
 use Rattle.arrow_growable.specs.Bound.{bound_layouts}
 use Rattle.arrow_growable.specs.Form.{child_type, child_types}
-use Rattle.arrow_growable.specs.FormLaws.{child_less_deep}
-use Rattle.arrow_growable.specs.Growable.{IsGrowable}
+use Rattle.arrow_growable.specs.FormLaws.{child_less_deep, deepest_of_fields}
+use Rattle.arrow_growable.specs.GrownUnion.{CanBind, HaveFieldTypes, SomeColumnUnjoined, union_children}
+use Rattle.arrow_growable.proofs.UnionMakeLemmas.{child_list, children_many, column_depth, column_read, columns_alone, columns_bind, columns_types, grown_next, grown_types}
 use Rattle.arrow_growable.specs.Source.{nth_child}
 use Rattle.arrow_growable.specs.GrowableSpans.{form_of}
 use Rattle.arrow_growable.specs.Join.{CannotJoin}
-use Rattle.arrow_growable.proofs.GrowableLemmas.{MayGrow, child_grows, may_grow, others_flat, shape_of_dictionaries, values_grow}
-use Rattle.arrow_growable.proofs.UnjoinedLemmas.{cannot_join, child_unjoined, values_are, values_unjoined}
+use Rattle.arrow_growable.proofs.KindLemmas.{others_flat}
+use Rattle.arrow_growable.proofs.UnjoinedLemmas.{cannot_join, child_unjoined, field_unjoined, only_memory, values_are, values_unjoined}
 use Rattle.arrow_growable.proofs.MakeLemmas.{all_children, made_next, map_twice, one_type_of, first_type_of}
 use Rattle.arrow_growable.proofs.growable.+make.Goals as goal
 
@@ -34,7 +38,7 @@ nested::make_children-make_growable-requires t c =
     let some : 0 < length (map (nth_child f) layouts) = omega (arith, c.requires.some, length-map layouts (nth_child f)) in
     let first = first_type_of (child_type u f) (map (nth_child f) layouts) some c.in_ok-column.ensures.types in
     let type_is = ap first_type column ∙ first in
-    (omega (arith, ap type_depth type_is, child_less_deep u f within, c.decreases), (omega (arith, some, ap length column, length-map c.deref.result.now (λ (a : Bor _). layout_of a.now)), (subst AreOfOneType (sym column) (one_type_of (child_type u f) (map (nth_child f) layouts) some c.in_ok-column.ensures.types), subst IsGrowable (sym type_is) (child_grows u f c.requires.growable within))))
+    (omega (arith, ap type_depth type_is, child_less_deep u f within, c.decreases), (omega (arith, some, ap length column, length-map c.deref.result.now (λ (a : Bor _). layout_of a.now)), subst AreOfOneType (sym column) (one_type_of (child_type u f) (map (nth_child f) layouts) some c.in_ok-column.ensures.types)))
 
 pub nested::make_children-loop-f-preserved : goal.nested::make_children-loop-f-preserved
 nested::make_children-loop-f-preserved t c =
@@ -64,20 +68,15 @@ pub make::make_growable-make_flat-requires : goal.make::make_growable-make_flat-
 make::make_growable-make_flat-requires t c =
     let first = first_is (λ (a : Bor _). layout_of a.now) c.args.arrays.now c.index-arrays-0.result c.requires.some c.index-arrays-0.is in
     let kind = c.to_physical_type.ensures ∙ ap physical_type_of (c.data_type.ensures.same ∙ sym first) in
-    let may = subst MayGrow (sym kind) (may_grow (first_type (map (λ (a : Bor _). layout_of a.now) c.args.arrays.now)) c.requires.growable) in
     let d = c.in_default in
-    let is = d.physical_type-is in
-    record { some = c.requires.some; one_type = c.requires.one_type; kind = sym kind ∙ is; flat = subst IsFlatType is (others_flat c.to_physical_type.result may d.not-List d.not-FixedSizeList d.not-LargeList d.not-Struct d.not-Map d.not-Dictionary) }
+    record { some = c.requires.some; one_type = c.requires.one_type; kind = sym kind; flat = others_flat c.to_physical_type.result d.not-List d.not-FixedSizeList d.not-LargeList d.not-Struct d.not-Map d.not-Union d.not-Dictionary }
 
 pub dictionary::join_values-join_arrays-requires : goal.dictionary::join_values-join_arrays-requires
 dictionary::join_values-join_arrays-requires t c =
     let arrays = c.args.arrays.now in
-    let u = first_type (map (λ (r : Bor _). keyed_layout r.now) arrays) in
     let column = ap (map (λ (a : Bor _). layout_of a.now)) c.deref.ensures.value ∙ c.in_ok-values.ensures.ok in
     let values = values_are (λ (r : Bor _). r.now) arrays _ c.index-arrays-0.result column c.requires.some c.index-arrays-0.is c.data_type.ensures.carried c.data_type.ensures.kind c.in_ok-values.ensures.types c.requires.one_type in
-    let first = first_is (λ (r : Bor _). keyed_layout r.now) arrays c.index-arrays-0.result c.requires.some c.index-arrays-0.is in
-    let shape = shape_of_dictionaries (physical_type_of u) (ap (λ v. kind_in (physical_type_of v)) first ∙ c.data_type.ensures.kind) in
-    (omega (arith, ap type_depth values.first, values.less_deep, c.decreases), (omega (arith, values.some, length-map c.deref.result.now (λ (a : Bor _). layout_of a.now)), (values.one_type, subst IsGrowable (sym values.first) (values_grow u c.requires.growable shape))))
+    (omega (arith, ap type_depth values.first, values.less_deep, c.decreases), (omega (arith, values.some, length-map c.deref.result.now (λ (a : Bor _). layout_of a.now)), values.one_type))
 
 pub dictionary::join_values-returns-clause-child : goal.dictionary::join_values-returns-clause-child
 dictionary::join_values-returns-clause-child t c =
@@ -108,3 +107,82 @@ pub nested::GrowableNested::new-returns-in_err-children-clause-overflow :
 nested::GrowableNested::new-returns-in_err-children-clause-overflow t c overflows =
     let refused = c.in_err-children.ensures.overflow (ap Err (passed_on c.from_residual-in_err-children.result _ _ c.from_residual-in_err-children.ensures.1 overflows)) in
     child_unjoined (form_of c.in_ok-spans.spans) (bound_layouts c.args.arrays) refused.0 c.in_ok-spans.ensures.ok.form refused.1
+
+-- unions
+
+abbrev layouts_by : Vec (Bor AnyArray) Global → List Layout
+layouts_by column = map (λ (a : Bor AnyArray). layout_of a.now) column.items
+
+pub make::make_each-make_growable-requires : goal.make::make_each-make_growable-requires
+make::make_each-make_growable-requires t c =
+    let columns = map layouts_by c.args.columns.now in
+    let k = c.loop-column.column-index in
+    let within : k < length columns = omega (arith, c.loop-column-test.true, length-map c.args.columns.now layouts_by) in
+    let lent : map (λ (a : Bor _). layout_of a.now) c.deref.result.now ≡ get_or columns k [] = ap (map (λ (a : Bor _). layout_of a.now)) c.deref.ensures.value ∙ column_read layouts_by c.args.columns.now k c.column-item.result [] c.loop-column-test.true c.column-item.is in
+    let binds = c.requires k [] within in
+    (omega (arith, ap (λ ls. type_depth (first_type ls)) lent, column_depth columns k [] within, c.decreases), (omega (arith, binds.some, ap length lent, length-map c.deref.result.now (λ (a : Bor _). layout_of a.now)), subst AreOfOneType (sym lent) binds.one_type))
+
+pub make::make_each-loop-column-preserved : goal.make::make_each-loop-column-preserved
+make::make_each-loop-column-preserved t c =
+    let columns = map layouts_by c.args.columns.now in
+    let k = c.loop-column.column-index in
+    let within : k < length columns = omega (arith, c.loop-column-test.true, length-map c.args.columns.now layouts_by) in
+    let lent : map (λ (a : Bor _). layout_of a.now) c.deref.result.now ≡ get_or columns k [] = ap (map (λ (a : Bor _). layout_of a.now)) c.deref.ensures.value ∙ column_read layouts_by c.args.columns.now k c.column-item.result [] c.loop-column-test.true c.column-item.is in
+    rw c.in_ok-push.ensures.items (grown_next columns c.loop-column.growables.items c.in_ok-make_growable.field-0 k [] within (c.in_ok-make_growable.ensures.ok ∙ ap bound_to lent) c.loop-column.invariant)
+
+pub make::make_each-returns-in_err-make_growable-clause-overflow :
+    goal.make::make_each-returns-in_err-make_growable-clause-overflow
+make::make_each-returns-in_err-make_growable-clause-overflow t c overflows =
+    let columns = map layouts_by c.args.columns.now in
+    let k = c.loop-column.column-index in
+    let within : k < length columns = omega (arith, c.loop-column-test.true, length-map c.args.columns.now layouts_by) in
+    let lent : map (λ (a : Bor _). layout_of a.now) c.deref.result.now ≡ get_or columns k [] = ap (map (λ (a : Bor _). layout_of a.now)) c.deref.ensures.value ∙ column_read layouts_by c.args.columns.now k c.column-item.result [] c.loop-column-test.true c.column-item.is in
+    let refused = c.in_err-make_growable.ensures.overflow (ap Err (passed_on c.from_residual-in_err-make_growable.result _ _ c.from_residual-in_err-make_growable.ensures.1 overflows)) in
+    (k, within, λ d. subst Unjoined (lent ∙ get_or_default columns k [] d within) refused)
+
+pub make::make_each-returns-in_err-make_growable-clause-alone :
+    goal.make::make_each-returns-in_err-make_growable-clause-alone
+make::make_each-returns-in_err-make_growable-clause-alone t c alone =
+    let columns = map layouts_by c.args.columns.now in
+    let k = c.loop-column.column-index in
+    let within : k < length columns = omega (arith, c.loop-column-test.true, length-map c.args.columns.now layouts_by) in
+    let lent : map (λ (a : Bor _). layout_of a.now) c.deref.result.now ≡ get_or columns k [] = ap (map (λ (a : Bor _). layout_of a.now)) c.deref.ensures.value ∙ column_read layouts_by c.args.columns.now k c.column-item.result [] c.loop-column-test.true c.column-item.is in
+    only_memory c.from_residual-in_err-make_growable.result _ c.from_residual-in_err-make_growable.ensures.1 (c.in_err-make_growable.ensures.alone (omega (arith, alone k [] within, ap length lent, length-map c.deref.result.now (λ (a : Bor _). layout_of a.now))))
+
+pub union::GrowableUnion::new-make_each-requires : goal.union::GrowableUnion::new-make_each-requires
+union::GrowableUnion::new-make_each-requires t c =
+    let layouts = map (λ (r : Bor _). union_layout r.now) c.args.arrays.items in
+    let lent = ap (map (λ (r : Bor _). union_layout r.now)) c.deref.ensures.value in
+    let columns : map layouts_by c.deref-2.result.now ≡ union_children layouts = ap (map layouts_by) c.deref-2.ensures.value ∙ (c.in_ok-columns.ensures.ok ∙ ap union_children lent) in
+    let types = subst HaveFieldTypes lent c.in_ok-columns.ensures.types in
+    let some : 0 < length layouts = omega (arith, c.requires.some, length-map c.args.arrays.items (λ (r : Bor _). union_layout r.now)) in
+    (omega (arith, ap (λ cs. deepest (map first_type cs)) columns, ap deepest (columns_types layouts some types), deepest_of_fields (first_type layouts), c.decreases), subst (All CanBind) (sym columns) (columns_bind layouts some types))
+
+pub union::GrowableUnion::new-over-requires : goal.union::GrowableUnion::new-over-requires
+union::GrowableUnion::new-over-requires t c =
+    let layouts = map (λ (r : Bor _). union_layout r.now) c.args.arrays.items in
+    let lent = ap (map (λ (r : Bor _). union_layout r.now)) c.deref.ensures.value in
+    let columns : map layouts_by c.deref-2.result.now ≡ union_children layouts = ap (map layouts_by) c.deref-2.ensures.value ∙ (c.in_ok-columns.ensures.ok ∙ ap union_children lent) in
+    let types = subst HaveFieldTypes lent c.in_ok-columns.ensures.types in
+    let some : 0 < length layouts = omega (arith, c.requires.some, length-map c.args.arrays.items (λ (r : Bor _). union_layout r.now)) in
+    let made = c.in_ok-children.ensures.ok ∙ ap (map bound_to) columns in
+    record { some = c.requires.some; one_type = c.requires.one_type; children = made; types = grown_types (union_children layouts) _ made ∙ columns_types layouts some types }
+
+pub union::GrowableUnion::new-returns-in_err-children-clause-overflow :
+    goal.union::GrowableUnion::new-returns-in_err-children-clause-overflow
+union::GrowableUnion::new-returns-in_err-children-clause-overflow t c overflows =
+    let layouts = map (λ (r : Bor _). union_layout r.now) c.args.arrays.items in
+    let lent = ap (map (λ (r : Bor _). union_layout r.now)) c.deref.ensures.value in
+    let columns : map layouts_by c.deref-2.result.now ≡ union_children layouts = ap (map layouts_by) c.deref-2.ensures.value ∙ (c.in_ok-columns.ensures.ok ∙ ap union_children lent) in
+    let refused = subst SomeColumnUnjoined columns (c.in_err-children.ensures.overflow (ap Err (passed_on c.from_residual-in_err-children.result _ _ c.from_residual-in_err-children.ensures.1 overflows))) in
+    let within : refused.0 < length (field_types (first_type layouts)) = omega (arith, refused.1, children_many layouts) in
+    field_unjoined (λ (r : Bor _). r.now) c.args.arrays.items refused.0 (subst Unjoined (child_list layouts refused.0 within []) (refused.2 []))
+
+pub union::GrowableUnion::new-returns-in_err-children-clause-alone :
+    goal.union::GrowableUnion::new-returns-in_err-children-clause-alone
+union::GrowableUnion::new-returns-in_err-children-clause-alone t c one =
+    let layouts = map (λ (r : Bor _). union_layout r.now) c.args.arrays.items in
+    let lent = ap (map (λ (r : Bor _). union_layout r.now)) c.deref.ensures.value in
+    let columns : map layouts_by c.deref-2.result.now ≡ union_children layouts = ap (map layouts_by) c.deref-2.ensures.value ∙ (c.in_ok-columns.ensures.ok ∙ ap union_children lent) in
+    let alone = columns_alone layouts (length-map c.args.arrays.items (λ (r : Bor _). union_layout r.now) ∙ one) in
+    only_memory c.from_residual-in_err-children.result _ c.from_residual-in_err-children.ensures.1 (c.in_err-children.ensures.alone (subst (All (λ column. length column ≡ 1)) (sym columns) alone))

@@ -2,7 +2,8 @@ use Rattle.std.proofs.Common.{◌≡◌, ◌+◌, ◌*◌, map, take}
 use Rattle.std.specs.List.{range_with_len}
 use Rattle.arrow_arrays.specs.Any.{layout_of, layouts_in}
 use Rattle.arrow_arrays.specs.KeyedParts.{keyed_layout}
-use Rattle.arrow_arrays.specs.TypeDepth.{type_depth}
+use Rattle.arrow_arrays.specs.TypeDepth.{deepest, type_depth}
+use Rattle.arrow_arrays.specs.UnionParts.{union_layout}
 use Rattle.arrow_flat_growable.specs.Grown.{bound_to, first_type}
 use Rattle.arrow_growable.specs.AnyGrowable.{grown_of}
 use Rattle.arrow_growable.specs.Bound.{bound_layouts}
@@ -30,6 +31,20 @@ decreases-dictionary::join_values l = 4 * type_depth (first_type (map (λ r. key
 
 abbrev pub decreases-join::join_arrays : goal.decreases-join::join_arrays
 decreases-join::join_arrays l = 4 * type_depth (first_type (layouts_in l.arrays.now)) + 3
+
+-- and those of unions
+
+abbrev pub decreases-union::GrowableUnion::new : goal.decreases-union::GrowableUnion::new
+decreases-union::GrowableUnion::new l = 4 * type_depth (first_type (map (λ r. union_layout r.now) l.arrays.items)) + 1
+
+abbrev pub decreases-make::make_each : goal.decreases-make::make_each
+decreases-make::make_each l =
+    4 * deepest (map first_type (map (λ column. map (λ a. layout_of a.now) column.items) l.columns.now))
+
+-- the growables so far are bound to the columns
+abbrev pub invariant-make::make_each-loop-column : goal.invariant-make::make_each-loop-column
+invariant-make::make_each-loop-column l =
+    map grown_of l.growables.items ≡ map bound_to (take l.column-index (map (λ column. map (λ a. layout_of a.now) column.items) l.columns))
 
 -- the children so far are bound to those of the arrays, and have their types
 abbrev pub invariant-nested::make_children-loop-f : goal.invariant-nested::make_children-loop-f

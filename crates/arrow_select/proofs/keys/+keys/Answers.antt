@@ -3,7 +3,7 @@ use Rattle.arrow_arrays.specs.Any.{layout_of}
 use Rattle.arrow_arrays.specs.Layout.{depth, depth_of_all, to_layouts, type_of_layout}
 use Rattle.arrow_arrays.proofs.DepthLemmas.{depth_at}
 use Rattle.arrow_arrays.proofs.ShapeLemmas.{shape_of}
-use Rattle.arrow_growable.proofs.GrowableLemmas.{shape_of_lists, type_of_fixed_size_lists, type_of_maps}
+use Rattle.arrow_growable.proofs.KindLemmas.{shape_of_lists, type_of_fixed_size_lists, type_of_maps}
 use Rattle.arrow_select.specs.Keys.{HasNoDictionary, HasNoKeys}
 use Rattle.arrow_select.proofs.KeyLemmas.{children_have_none, flat_has_none, items_have_none}
 use Rattle.arrow_select.proofs.keys.+keys.Goals as goal

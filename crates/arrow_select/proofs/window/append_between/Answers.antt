@@ -9,7 +9,7 @@ use Rattle.arrow_select.proofs.window.append_between.Goals as goal
 
 pub returns-in_err-extend_validity-clause-overflow :
     goal.returns-in_err-extend_validity-clause-overflow
-returns-in_err-extend_validity-clause-overflow g c overflows fits =
+returns-in_err-extend_validity-clause-overflow c overflows fits =
     let array = c.args.array.now in
     let t = any_array_type array in
     let layouts = layout_of array ∷ [] in
@@ -19,7 +19,7 @@ returns-in_err-extend_validity-clause-overflow g c overflows fits =
     refuses_whole layouts _ [] none _ _ _ _ (nulls layouts _ [] none _) over (append_assoc (replicate c.args.front (null_slot t)) kept (replicate c.args.behind (null_slot t))) fits
 
 pub returns-in_err-extend-clause-overflow : goal.returns-in_err-extend-clause-overflow
-returns-in_err-extend-clause-overflow g c overflows fits =
+returns-in_err-extend-clause-overflow c overflows fits =
     let array = c.args.array.now in
     let xs = any_array_rows array in
     let layouts = layout_of array ∷ [] in
@@ -30,7 +30,7 @@ returns-in_err-extend-clause-overflow g c overflows fits =
     refuses_whole layouts _ _ front _ _ (replicate c.args.behind (null_slot (any_array_type array))) (between xs c.args.front c.args.behind (any_array_type array)) more (too_many_first layouts _ _ front c.args.behind _ (c.in_err-extend.ensures.overflow overflow)) refl fits
 
 pub returns-clause-ok : goal.returns-clause-ok
-returns-clause-ok g c =
+returns-clause-ok c =
     let array = c.args.array.now in
     let xs = any_array_rows array in
     let layouts = layout_of array ∷ [] in
@@ -41,7 +41,7 @@ returns-clause-ok g c =
     holds_whole layouts _ _ kept c.extend_validity-2.result _ _ _ (between xs c.args.front c.args.behind (any_array_type array)) (nulls layouts _ _ kept _) c.extend_validity-2.ensures.ok c.extend_validity-2.ensures.fits refl
 
 pub returns-clause-overflow : goal.returns-clause-overflow
-returns-clause-overflow g c overflows fits =
+returns-clause-overflow c overflows fits =
     let array = c.args.array.now in
     let xs = any_array_rows array in
     let layouts = layout_of array ∷ [] in

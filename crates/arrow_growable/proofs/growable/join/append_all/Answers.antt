@@ -5,16 +5,17 @@ use Rattle.arrow_arrays.specs.Layout.{rows}
 use Rattle.arrow_flat_growable.specs.Grown.{source_at}
 use Rattle.arrow_flat_growable.proofs.FlatLemmas.{source_is}
 use Rattle.arrow_flat_growable.proofs.ResultLemmas.{passed_on}
+use Rattle.arrow_growable.specs.AnyGrowable.{grown_of}
 use Rattle.arrow_growable.specs.Growing.{HasAppended}
 use Rattle.arrow_growable.proofs.GrowLemmas.{cannot_append, holds_none, holds_more, named, whole_source}
 use Rattle.arrow_growable.proofs.JoinedLemmas.{joined_next, joined_around, rows_read}
 use Rattle.arrow_growable.proofs.growable.join.append_all.Goals as goal
 
 pub loop-index-init : goal.loop-index-init
-loop-index-init g c = holds_none (layouts_in c.args.arrays.now) _ c.requires.bound
+loop-index-init c = holds_none (layouts_in c.args.arrays.now) _ c.requires.bound
 
 pub returns-in_err-extend-clause-overflow : goal.returns-in_err-extend-clause-overflow
-returns-in_err-extend-clause-overflow g c overflows =
+returns-in_err-extend-clause-overflow c overflows =
     let arrays = c.args.arrays.now in
     let layouts = layouts_in arrays in
     let i = c.loop-index.index in
@@ -25,7 +26,7 @@ returns-in_err-extend-clause-overflow g c overflows =
     cannot_append layouts _ _ c.loop-index.invariant i c.len.result _ bound all (c.in_err-extend.ensures.overflow overflow) (joined_around (map rows layouts) i _ (rows_read layouts i bound))
 
 pub loop-index-preserved : goal.loop-index-preserved
-loop-index-preserved g c =
+loop-index-preserved c =
     let arrays = c.args.arrays.now in
     let layouts = layouts_in arrays in
     let i = c.loop-index.index in
@@ -33,4 +34,4 @@ loop-index-preserved g c =
     let source = source_is (λ (a : Bor _). layout_of a.now) arrays i c.index-arrays-index.result c.loop-index-test.true c.index-arrays-index.is in
     let all : c.len.result ≡ length (rows (source_at layouts i)) = c.len.ensures ∙ ap (λ l. length (rows l)) (sym source) in
     let more = named layouts _ _ c.loop-index.invariant i 0 c.len.result ∙ whole_source layouts i c.len.result all in
-    subst (HasAppended layouts (g.G.Growable.state c.extend.new.self)) (sym (joined_next (map rows layouts) i _ (rows_read layouts i bound))) (holds_more layouts _ _ c.loop-index.invariant _ _ _ more c.in_ok-extend.ensures.ok c.in_ok-extend.ensures.fits)
+    subst (HasAppended layouts (grown_of c.extend.new.self)) (sym (joined_next (map rows layouts) i _ (rows_read layouts i bound))) (holds_more layouts _ _ c.loop-index.invariant _ _ _ more c.in_ok-extend.ensures.ok c.in_ok-extend.ensures.fits)

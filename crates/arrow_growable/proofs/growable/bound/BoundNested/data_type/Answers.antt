@@ -6,7 +6,7 @@ use Rattle.arrow_arrays.specs.FixedListParts.{fixed_list_layout}
 use Rattle.arrow_arrays.specs.ListParts.{list_layout}
 use Rattle.arrow_arrays.specs.StructParts.{struct_layout}
 use Rattle.arrow_flat_growable.specs.Grown.{first_type}
-use Rattle.arrow_growable.proofs.GrowableLemmas.{nested_fixed_size_lists, nested_lists, nested_maps, nested_structs}
+use Rattle.arrow_growable.proofs.KindLemmas.{nested_fixed_size_lists, nested_lists, nested_maps, nested_structs}
 use Rattle.arrow_growable.proofs.growable.bound.BoundNested.data_type.Goals as goal
 
 pub returns-in-Lists-clause-carried : goal.returns-in-Lists-clause-carried

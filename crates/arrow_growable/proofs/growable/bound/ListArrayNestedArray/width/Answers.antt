@@ -1,4 +1,4 @@
-use Rattle.arrow_growable.proofs.GrowableLemmas.{shape_of_lists}
+use Rattle.arrow_growable.proofs.KindLemmas.{shape_of_lists}
 use Rattle.arrow_growable.proofs.SourceLemmas.{list_types}
 use Rattle.arrow_growable.proofs.growable.bound.ListArrayNestedArray.width.Goals as goal
 

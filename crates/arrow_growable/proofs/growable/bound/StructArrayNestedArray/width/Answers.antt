@@ -1,7 +1,7 @@
 use Rattle.std.proofs.Common.{length, ap, sym, ◌∙◌}
 use Rattle.std.proofs.lemmas.List.{length-map}
 use Rattle.arrow_arrays.specs.Any.{layout_of}
-use Rattle.arrow_growable.proofs.GrowableLemmas.{type_of_structs}
+use Rattle.arrow_growable.proofs.KindLemmas.{type_of_structs}
 use Rattle.arrow_growable.proofs.SourceLemmas.{from_to, struct_types}
 use Rattle.arrow_growable.proofs.growable.bound.StructArrayNestedArray.width.Goals as goal
 

@@ -1,4 +1,4 @@
-use Rattle.arrow_growable.proofs.GrowableLemmas.{type_of_structs}
+use Rattle.arrow_growable.proofs.KindLemmas.{type_of_structs}
 use Rattle.arrow_growable.proofs.SourceLemmas.{structs_lie}
 use Rattle.arrow_growable.proofs.growable.spans.Spans.of_structs.Goals as goal
 

@@ -1,0 +1,91 @@
+-- Which arrays a physical type has: kinds, shapes, and those without children.
+use Rattle.std.proofs.Common.{arith, ◌≡◌, ◌+◌, ◌<◌, ◌≤◌, ℕ, zero, suc, max, List, [], ◌∷◌, length, map, take, get_or, refl, ap, sym, subst, ◌↔◌}
+use Rattle.arrow_types.specs.declared.datatypes.physical_type.PhysicalType.{PhysicalType}
+use Rattle.arrow_types.specs.declared.datatypes.physical_type.PhysicalType.TheVariants as physical
+use Rattle.arrow_types.specs.declared.datatypes.IntegerType.{IntegerType}
+use Rattle.arrow_types.specs.declared.types.PrimitiveType.{PrimitiveType}
+use Rattle.arrow_types.specs.ArrowType.{ArrowType, ArrowField, ArrowFields, PlainType, plain, list, struct, union, dictionary, extension, field, no_fields, more_fields, from_fields, type_in, mapped, small, large, fixed_size, null}
+use Rattle.arrow_types.specs.Physical.{physical_type_of, plain_physical_type}
+use Rattle.arrow_types.specs.TypeOf.{field_of, fields_of}
+use Rattle.arrow_types.specs.declared.datatypes.Field.{Field}
+use Rattle.arrow_arrays.specs.Any.{Kind, dictionary_kind, fixed_size_list_kind, kind_in, list_kind, map_kind, struct_kind}
+use Rattle.arrow_flat.specs.DictionaryScalar.{values_in}
+use Rattle.arrow_arrays.proofs.ShapeLemmas.{dictionary_shape, list_shape, list_shaped, plain_shape, shape_in, shape_of}
+use Rattle.arrow_arrays.specs.TypeParts.{IsFlatType}
+use Rattle.arrow_growable.specs.Form.{child_type, child_types}
+use Rattle.arrow_growable.specs.Lists.{IsListType}
+use Rattle.arrow_growable.specs.Nested.{IsNestedType}
+
+-- a type without children is none of lists
+pub no_plain : (p : PlainType) → IsListType (plain_physical_type p) → ⊥
+no_plain null is = is
+no_plain _ is = is
+
+-- the kinds of arrays with children that can grow
+abbrev IsNestedKind : Kind → Type 0
+IsNestedKind list_kind = Unit {0}
+IsNestedKind fixed_size_list_kind = Unit {0}
+IsNestedKind map_kind = Unit {0}
+IsNestedKind struct_kind = Unit {0}
+IsNestedKind _ = ⊥
+
+nested_kind : (p : PhysicalType) → IsNestedKind (kind_in p) → IsNestedType p
+nested_kind physical.List is = tt
+nested_kind physical.LargeList is = tt
+nested_kind physical.FixedSizeList is = tt
+nested_kind physical.Map is = tt
+nested_kind physical.Struct is = tt
+nested_kind _ is = is
+
+-- the physical types of these kinds
+pub nested_lists : (p : PhysicalType) → kind_in p ≡ list_kind → IsNestedType p
+nested_lists p is = nested_kind p (subst IsNestedKind (sym is) tt)
+
+pub nested_fixed_size_lists : (p : PhysicalType) → kind_in p ≡ fixed_size_list_kind → IsNestedType p
+nested_fixed_size_lists p is = nested_kind p (subst IsNestedKind (sym is) tt)
+
+pub nested_maps : (p : PhysicalType) → kind_in p ≡ map_kind → IsNestedType p
+nested_maps p is = nested_kind p (subst IsNestedKind (sym is) tt)
+
+pub nested_structs : (p : PhysicalType) → kind_in p ≡ struct_kind → IsNestedType p
+nested_structs p is = nested_kind p (subst IsNestedKind (sym is) tt)
+
+pub type_of_maps : (p : PhysicalType) → kind_in p ≡ map_kind → p ≡ physical.Map
+type_of_maps physical.Map is = refl
+type_of_maps _ is = cc
+
+pub type_of_fixed_size_lists : (p : PhysicalType) → kind_in p ≡ fixed_size_list_kind → p ≡ physical.FixedSizeList
+type_of_fixed_size_lists physical.FixedSizeList is = refl
+type_of_fixed_size_lists _ is = cc
+
+pub type_of_structs : (p : PhysicalType) → kind_in p ≡ struct_kind → p ≡ physical.Struct
+type_of_structs physical.Struct is = refl
+type_of_structs _ is = cc
+
+pub shape_of_lists : (p : PhysicalType) → kind_in p ≡ list_kind → shape_of p ≡ list_shape
+shape_of_lists physical.List is = refl
+shape_of_lists physical.LargeList is = refl
+shape_of_lists _ is = cc
+
+-- those that are none of these have no children
+pub others_flat : (p : PhysicalType) → (p ≡ physical.List → ⊥) → (p ≡ physical.FixedSizeList → ⊥) → (p ≡ physical.LargeList → ⊥) → (p ≡ physical.Struct → ⊥) → (p ≡ physical.Map → ⊥) → (p ≡ physical.Union → ⊥) → ((k : IntegerType) → p ≡ physical.Dictionary k → ⊥) → IsFlatType p
+others_flat physical.List l f g s m u d = l refl
+others_flat physical.FixedSizeList l f g s m u d = f refl
+others_flat physical.LargeList l f g s m u d = g refl
+others_flat physical.Struct l f g s m u d = s refl
+others_flat physical.Map l f g s m u d = m refl
+others_flat physical.Union l f g s m u d = u refl
+others_flat (physical.Dictionary k) l f g s m u d = d k refl
+others_flat physical.Null l f g s m u d = tt
+others_flat physical.Boolean l f g s m u d = tt
+others_flat (physical.Primitive e) l f g s m u d = tt
+others_flat physical.Binary l f g s m u d = tt
+others_flat physical.LargeBinary l f g s m u d = tt
+others_flat physical.Utf8 l f g s m u d = tt
+others_flat physical.LargeUtf8 l f g s m u d = tt
+others_flat physical.FixedSizeBinary l f g s m u d = tt
+
+-- and that of dictionaries
+pub shape_of_dictionaries : (p : PhysicalType) → kind_in p ≡ dictionary_kind → shape_of p ≡ dictionary_shape
+shape_of_dictionaries (physical.Dictionary k) is = refl
+shape_of_dictionaries _ is = cc

@@ -1,0 +1,178 @@
+-- The children of arrays of unions that are bound, those of each field beside one another.
+use Rattle.std.proofs.Common.{arith, ◌≡◌, ◌+◌, ◌<◌, ◌≤◌, ◌⊎◌, inl, inr, ℕ, ℤ, zero, suc, max, false, Option, Some, List, [], ◌∷◌, ◌++◌, length, map, take, get_or, refl, ap, sym, subst, ◌∙◌}
+use Rattle.std.specs.List.{All, range_with_len}
+use Rattle.std.proofs.lemmas.List.{get_or-map, length-map, map-append}
+use Rattle.std.proofs.Math.Nat.{eq-or-lt_of_le}
+use Rattle.std.proofs.Math.Seq.{take-suc}
+use Rattle.std.proofs.lemmas.List.FromFn.{get_or-map-range_with_len, length-map-range_with_len, map-range_with_len_more}
+use Rattle.arrow_types.specs.declared.datatypes.physical_type.PhysicalType.{PhysicalType}
+use Rattle.arrow_types.specs.declared.datatypes.physical_type.PhysicalType.TheVariants as physical
+use Rattle.arrow_types.specs.ArrowType.{ArrowType, plain, null}
+use Rattle.arrow_flat.specs.Faults.{IsCarriedAs}
+use Rattle.arrow_types.specs.Slot.{Slot}
+use Rattle.arrow_arrays.specs.declared.array.any.AnyArray.{AnyArray}
+use Rattle.arrow_arrays.specs.Any.{kind_in, layout_of, union_kind}
+use Rattle.arrow_arrays.specs.Crowded.{child_at}
+use Rattle.arrow_arrays.specs.Layout.{Layout, type_of_layout}
+use Rattle.arrow_arrays.specs.TypeDepth.{deepest, type_depth}
+use Rattle.arrow_arrays.specs.TypeParts.{field_types, mode_in}
+use Rattle.arrow_arrays.specs.UnionParts.{UnionParts, child_rows_of, mode_by, union_layout}
+use Rattle.arrow_flat_growable.specs.Grown.{Grown, AreOfOneType, bound_to, first_type}
+use Rattle.arrow_growable.specs.AnyGrowable.{grown_of}
+use Rattle.arrow_growable.specs.declared.growable.any.AnyGrowable.{AnyGrowable}
+use Rattle.arrow_growable.specs.GrownUnion.{CanBind, HaveFieldTypes, IsBoundUnion, IsGrownUnion, absent, no_offsets, nth_grown, union_children, variant_rows}
+use Rattle.arrow_growable.specs.Variants.{variant_type}
+use Rattle.arrow_growable.proofs.MakeLemmas.{first_type_of, one_type_of}
+use Rattle.arrow_growable.proofs.UnionLoopLemmas.{union_type}
+use Rattle.arrow_growable.proofs.UnionFinishLemmas.{IsBare, bare_mode}
+use Rattle.arrow_growable.proofs.UnionStructLemmas.{bare_union}
+use Rattle.arrow_growable.proofs.UnionRunLemmas.{child_is, none_there}
+
+read_type : (ls : List Layout) (f : ℕ) → get_or (map type_of_layout ls) f (plain null) ≡ type_of_layout (get_or ls f none_there)
+read_type [] f = refl
+read_type (l ∷ ls) zero = refl
+read_type (l ∷ ls) (suc f) = read_type ls f
+
+same_lists : (xs ys : List ArrowType) → length xs ≡ length ys → ((f : ℕ) → f < length xs → get_or xs f (plain null) ≡ get_or ys f (plain null)) → xs ≡ ys
+same_lists [] [] long same = refl
+same_lists [] (y ∷ ys) long same = absurd (omega (arith, long))
+same_lists (x ∷ xs) [] long same = absurd (omega (arith, long))
+same_lists (x ∷ xs) (y ∷ ys) long same =
+    let rest = same_lists xs ys (omega (arith, long)) (λ f within. same (suc f) (omega (arith, within))) in
+    λ j. same 0 (omega arith) j ∷ rest j
+
+types_bound : (columns : List (List Layout)) → map (λ g. g.arrow_type) (map bound_to columns) ≡ map first_type columns
+types_bound [] = refl
+types_bound (c ∷ columns) = ap (λ ts. first_type c ∷ ts) (types_bound columns)
+
+-- the child of a field has its type
+pub child_type_is : (p : UnionParts) (f : ℕ) → map type_of_layout p.children ≡ field_types p.arrow_type → type_of_layout (child_at f (union_layout p)) ≡ variant_type p.arrow_type f
+child_type_is p f fields =
+    ap type_of_layout (child_is p f) ∙ (sym (read_type p.children f) ∙ ap (λ ts. get_or ts f (plain null)) fields)
+
+-- and there is one
+pub child_there : (p : UnionParts) (xs : List AnyArray) (f : ℕ) → map type_of_layout p.children ≡ field_types p.arrow_type → map layout_of xs ≡ p.children → f < length (field_types p.arrow_type) → f < length xs
+child_there p xs f fields same within =
+    omega (arith, within, ap length fields, length-map p.children type_of_layout, ap length same, length-map xs layout_of)
+
+-- the children of one field
+
+pub child_list : (layouts : List Layout) (f : ℕ) → f < length (field_types (first_type layouts)) → (d : List Layout) → get_or (union_children layouts) f d ≡ map (child_at f) layouts
+child_list layouts f within d =
+    get_or-map-range_with_len (λ k. map (child_at k) layouts) 0 (length (field_types (first_type layouts))) f f d within (omega arith)
+
+pub children_many : (layouts : List Layout) → length (union_children layouts) ≡ length (field_types (first_type layouts))
+children_many layouts =
+    length-map-range_with_len (λ k. map (child_at k) layouts) 0 (length (field_types (first_type layouts)))
+
+child_first : (layouts : List Layout) (f : ℕ) → 0 < length layouts → f < length (field_types (first_type layouts)) → HaveFieldTypes layouts → first_type (map (child_at f) layouts) ≡ variant_type (first_type layouts) f
+child_first layouts f some within types =
+    first_type_of (variant_type (first_type layouts) f) (map (child_at f) layouts) (omega (arith, some, length-map layouts (child_at f))) (types f within)
+
+-- those of each field can be bound
+pub columns_bind : (layouts : List Layout) → 0 < length layouts → HaveFieldTypes layouts → All CanBind (union_children layouts)
+columns_bind layouts some types =
+    λ f d inside.
+    let within : f < length (field_types (first_type layouts)) = omega (arith, inside, children_many layouts) in
+    let there : 0 < length (map (child_at f) layouts) = omega (arith, some, length-map layouts (child_at f)) in
+    subst CanBind (sym (child_list layouts f within d)) (record {
+      some = there;
+      one_type = one_type_of (variant_type (first_type layouts) f) (map (child_at f) layouts) there (types f within);
+    })
+
+-- and have the types of the fields
+pub columns_types : (layouts : List Layout) → 0 < length layouts → HaveFieldTypes layouts → map first_type (union_children layouts) ≡ field_types (first_type layouts)
+columns_types layouts some types =
+    same_lists (map first_type (union_children layouts)) (field_types (first_type layouts)) (length-map (union_children layouts) first_type ∙ children_many layouts) (λ f inside.
+    let among : f < length (union_children layouts) = omega (arith, inside, length-map (union_children layouts) first_type) in
+    let within : f < length (field_types (first_type layouts)) = omega (arith, among, children_many layouts) in
+    get_or-map first_type (union_children layouts) f [] (plain null) among ∙ (ap first_type (child_list layouts f within []) ∙ child_first layouts f some within types))
+
+-- growables over them too
+pub grown_types : (columns : List (List Layout)) (grown : List Grown) → grown ≡ map bound_to columns → map (λ g. g.arrow_type) grown ≡ map first_type columns
+grown_types columns grown are = ap (map (λ (g : Grown). g.arrow_type)) are ∙ types_bound columns
+
+-- one of them is less deep than the deepest
+pub column_depth : (columns : List (List Layout)) (k : ℕ) (d : List Layout) → k < length columns → suc (type_depth (first_type (get_or columns k d))) ≤ deepest (map first_type columns)
+column_depth [] k d within = absurd (omega (arith, within))
+column_depth (c ∷ columns) zero d within = omega arith
+column_depth (c ∷ columns) (suc k) d within = omega (arith, column_depth columns k d (omega (arith, within)))
+
+-- the child of a field, by its array
+pub child_read : (p : UnionParts) (xs : List AnyArray) (f : ℕ) (x : AnyArray) → map layout_of xs ≡ p.children → f < length xs → x ≡ get_or xs f x → layout_of x ≡ child_at f (union_layout p)
+child_read p xs f x same within read =
+    ap layout_of read ∙ (sym (get_or-map layout_of xs f x none_there within) ∙ (ap (λ ls. get_or ls f none_there) same ∙ sym (child_is p f)))
+
+-- arrays of one type
+pub same_type : (p : UnionParts) (u : ArrowType) → type_of_layout (union_layout p) ≡ u → p.arrow_type ≡ u
+same_type p u is = sym (union_type p) ∙ is
+
+-- so many fields
+pub field_count : (p : UnionParts) (xs : List AnyArray) (u : ArrowType) (f : ℕ) → map type_of_layout p.children ≡ field_types p.arrow_type → map layout_of xs ≡ p.children → type_of_layout (union_layout p) ≡ u → f < length xs → f < length (field_types u)
+field_count p xs u f fields same is within =
+    omega (arith, within, ap (λ t. length (field_types t)) (same_type p u is), ap length fields, length-map p.children type_of_layout, ap length same, length-map xs layout_of)
+
+pub field_total : (p : UnionParts) (xs : List AnyArray) (u : ArrowType) → map type_of_layout p.children ≡ field_types p.arrow_type → map layout_of xs ≡ p.children → type_of_layout (union_layout p) ≡ u → length xs ≡ length (field_types u)
+field_total p xs u fields same is =
+    omega (arith, ap (λ t. length (field_types t)) (same_type p u is), ap length fields, length-map p.children type_of_layout, ap length same, length-map xs layout_of)
+
+-- one column more
+pub more_columns : {A : Type 0} (layouts : List Layout) (h : A → List Layout) (done : List A) (x : A) (f : ℕ) → h x ≡ map (child_at f) layouts → map h done ≡ map (λ k. map (child_at k) layouts) (range_with_len 0 f) → map h (done ++ x ∷ []) ≡ map (λ k. map (child_at k) layouts) (range_with_len 0 (f + 1))
+more_columns layouts h done x f made so_far =
+    map-append h done (x ∷ []) ∙ ((λ j. so_far j ++ made j ∷ []) ∙ sym (map-range_with_len_more (λ k. map (child_at k) layouts) 0 f f (omega arith)))
+
+pub typed_next : (layouts : List Layout) (f : ℕ) → ((k : ℕ) → k < f → All (λ l. type_of_layout l ≡ variant_type (first_type layouts) k) (map (child_at k) layouts)) → All (λ l. type_of_layout l ≡ variant_type (first_type layouts) f) (map (child_at f) layouts) → (k : ℕ) → k < f + 1 → All (λ l. type_of_layout l ≡ variant_type (first_type layouts) k) (map (child_at k) layouts)
+typed_next layouts f before here k less =
+    elim (eq-or-lt_of_le {n = k} {m = f} (omega (arith, less))) as (λ (x : (k ≡ f) ⊎ (k < f)). All (λ l. type_of_layout l ≡ variant_type (first_type layouts) k) (map (child_at k) layouts)) [ inl same ↦ subst (λ i. All (λ l. type_of_layout l ≡ variant_type (first_type layouts) i) (map (child_at i) layouts)) (sym same) here | inr other ↦ before k other ]
+
+-- a growable over children without rows
+
+bound_bare : (columns : List (List Layout)) → All IsBare (map bound_to columns)
+bound_bare columns =
+    λ k d within.
+    let at : get_or (map bound_to columns) k d ≡ bound_to (get_or columns k []) = get_or-map bound_to columns k [] d (omega (arith, within, length-map columns bound_to)) in
+    subst IsBare (sym at) (record { rows = refl; well = refl })
+
+pub made_union : (layouts : List Layout) (t : ArrowType) (types : List ℤ) (offsets : Option (List ℤ)) (gs : List Grown) → t ≡ first_type layouts → IsCarriedAs physical.Union (first_type layouts) → AreOfOneType layouts → gs ≡ map bound_to (union_children layouts) → map (λ g. g.arrow_type) gs ≡ field_types (first_type layouts) → types ≡ [] → offsets ≡ no_offsets (mode_in t) → IsGrownUnion layouts t types offsets gs 0 false
+made_union layouts t types offsets gs copied kind one_type are fields none offsets_are =
+    let bound : IsBoundUnion layouts t offsets gs = record {
+      over = record {
+        kind = subst (IsCarriedAs physical.Union) (sym copied) kind;
+        types = fields ∙ ap field_types (sym copied);
+        mode = sym (ap (λ os. mode_by (child_rows_of os)) offsets_are ∙ bare_mode (mode_in t));
+      };
+      one_type = λ k d within. one_type k d within ∙ sym copied;
+      sources =
+          λ f within.
+          let many : length gs ≡ length (union_children layouts) = ap length are ∙ length-map (union_children layouts) bound_to in
+          let inside : f < length (field_types (first_type layouts)) = omega (arith, within, many, children_many layouts) in
+          let at : nth_grown gs f ≡ bound_to (map (child_at f) layouts) = ap (λ hs. nth_grown hs f) are ∙ (get_or-map bound_to (union_children layouts) f [] absent (omega (arith, within, many)) ∙ ap bound_to (child_list layouts f inside [])) in
+          ap (λ g. g.sources) at;
+    } in
+    bare_union layouts t types offsets gs bound (subst (All IsBare) (sym are) (bound_bare (union_children layouts))) none offsets_are
+
+pub no_variants : (t : ArrowType) (types : List ℤ) (offsets : Option (List ℤ)) (gs : List Grown) → types ≡ [] → variant_rows t types offsets gs ≡ []
+no_variants t types offsets gs none = ap (λ ids. variant_rows t ids offsets gs) none
+
+-- the physical type of unions
+pub type_of_unions : (p : PhysicalType) → kind_in p ≡ union_kind → p ≡ physical.Union
+type_of_unions physical.Union is = refl
+type_of_unions _ is = cc
+
+-- one column, read
+pub column_read : {A : Type 0} (h : A → List Layout) (columns : List A) (k : ℕ) (e : A) (d : List Layout) → k < length columns → e ≡ get_or columns k e → h e ≡ get_or (map h columns) k d
+column_read h columns k e d within read = ap h read ∙ sym (get_or-map h columns k e d within)
+
+-- one growable more
+pub grown_next : (columns : List (List Layout)) (done : List AnyGrowable) (x : AnyGrowable) (k : ℕ) (d : List Layout) → k < length columns → grown_of x ≡ bound_to (get_or columns k d) → map grown_of done ≡ map bound_to (take k columns) → map grown_of (done ++ x ∷ []) ≡ map bound_to (take (k + 1) columns)
+grown_next columns done x k d within made so_far =
+    let one : suc k ≡ k + 1 = omega arith in
+    let next : take (k + 1) columns ≡ take k columns ++ (get_or columns k d ∷ []) = ap (λ i. take i columns) (sym one) ∙ take-suc columns k d within in
+    map-append grown_of done (x ∷ []) ∙ ((λ j. so_far j ++ made j ∷ []) ∙ (sym (map-append bound_to (take k columns) (get_or columns k d ∷ [])) ∙ ap (map bound_to) (sym next)))
+
+-- of one array each column is one child
+pub columns_alone : (layouts : List Layout) → length layouts ≡ 1 → All (λ column. length column ≡ 1) (union_children layouts)
+columns_alone layouts one =
+    λ f d inside.
+    let within : f < length (field_types (first_type layouts)) = omega (arith, inside, children_many layouts) in
+    ap length (child_list layouts f within d) ∙ (length-map layouts (child_at f) ∙ one)

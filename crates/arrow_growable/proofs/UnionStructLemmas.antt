@@ -1,0 +1,61 @@
+-- The parts of a union under construction after a call.
+use Rattle.std.proofs.Common.{arith, ◌≡◌, ◌+◌, ◌<◌, ◌≤◌, ◌^◌, ℕ, ℤ, Bool, true, false, Option, None, Some, List, [], ◌∷◌, ◌++◌, length, map, refl, ap, sym, subst, ◌∙◌}
+use Rattle.std.specs.List.{All}
+use Rattle.std.proofs.lemmas.List.{length-append}
+use Rattle.arrow_types.specs.ArrowType.{ArrowType}
+use Rattle.arrow_types.specs.Fits.{Fits}
+use Rattle.arrow_types.specs.Slot.{Slot}
+use Rattle.arrow_arrays.specs.Layout.{Layout}
+use Rattle.arrow_arrays.specs.TypeParts.{mode_in}
+use Rattle.arrow_arrays.specs.UnionParts.{child_rows_of, mode_by}
+use Rattle.arrow_flat_growable.specs.Grown.{Grown}
+use Rattle.arrow_growable.specs.Child.{emptied_of}
+use Rattle.arrow_growable.specs.GrownUnion.{GrowsVariants, HoldsVariants, IsBoundUnion, IsGrownUnion, IsUnionOver, no_offsets, variant_rows}
+use Rattle.arrow_growable.proofs.StepLemmas.{bound_map}
+use Rattle.arrow_growable.proofs.UnionBoundLemmas.{bound_next, fits_held, length_held}
+use Rattle.arrow_growable.proofs.UnionFinishLemmas.{IsBare, bare_mode, emptied_bare, holds_none}
+
+-- a growable has as many rows as it counts
+pub held_counted : (layouts : List Layout) (t : ArrowType) (types : List ℤ) (offsets : Option (List ℤ)) (gs : List Grown) (len : ℕ) (failed : Bool) → IsGrownUnion layouts t types offsets gs len failed → failed ≡ false → len ≡ length (variant_rows t types offsets gs)
+held_counted layouts t types offsets gs len failed parts well =
+    omega (arith, parts.counted well, length_held t types offsets gs (parts.holds well))
+
+-- after a call that refused
+pub failed_union : (layouts : List Layout) (t : ArrowType) (types : List ℤ) (offsets : Option (List ℤ)) (gs : List Grown) (len : ℕ) → IsBoundUnion layouts t offsets gs → IsGrownUnion layouts t types offsets gs len true
+failed_union layouts t types offsets gs len bound =
+    record { bound = bound; counted = λ well. cc; holds = λ well. cc }
+
+-- and with rows behind
+module _ (layouts : List Layout) (t : ArrowType) (types : List ℤ) (offsets : Option (List ℤ)) (gs : List Grown) (len : ℕ) (failed : Bool) (new_types : List ℤ) (new_offsets : Option (List ℤ)) (news : List Grown) (more : List Slot) (total : ℕ) (parts : IsGrownUnion layouts t types offsets gs len failed) (well : failed ≡ false) (bound : IsBoundUnion layouts t new_offsets news) (grows : GrowsVariants t types offsets gs new_types new_offsets news more) (count : total ≡ len + length more) where
+  types_long : length new_types ≡ total
+  types_long =
+      omega (arith, length_held t new_types new_offsets news grows.holds, ap length grows.rows, length-append (variant_rows t types offsets gs) more, held_counted layouts t types offsets gs len failed parts well, count)
+
+  pub grown_union : IsGrownUnion layouts t new_types new_offsets news total false
+  grown_union = record { bound = bound; counted = λ still. types_long; holds = λ still. grows.holds }
+
+  pub grown_fits : total < 2 ^ 64 → Fits t (variant_rows t new_types new_offsets news)
+  grown_fits few =
+      fits_held t new_types new_offsets news bound.over grows.holds (omega (arith, types_long, few))
+
+-- one without rows
+pub bare_union : (layouts : List Layout) (t : ArrowType) (new_types : List ℤ) (new_offsets : Option (List ℤ)) (gs : List Grown) → IsBoundUnion layouts t new_offsets gs → All IsBare gs → new_types ≡ [] → new_offsets ≡ no_offsets (mode_in t) → IsGrownUnion layouts t new_types new_offsets gs 0 false
+bare_union layouts t new_types new_offsets gs bound bare none offsets_are =
+    record {
+      bound = bound;
+      counted = λ well. ap length none;
+      holds = λ well. subst {A = List ℤ × Option (List ℤ)} (λ q. HoldsVariants t q.0 q.1 gs) (λ j. (sym none j, sym offsets_are j)) (holds_none t gs bare);
+    }
+
+-- so one whose rows are handed out
+pub left_union : (layouts : List Layout) (t : ArrowType) (offsets : Option (List ℤ)) (gs : List Grown) (new_types : List ℤ) (new_offsets : Option (List ℤ)) (news : List Grown) → IsBoundUnion layouts t offsets gs → news ≡ map emptied_of gs → new_types ≡ [] → new_offsets ≡ no_offsets (mode_in t) → IsGrownUnion layouts t new_types new_offsets news 0 false
+left_union layouts t offsets gs new_types new_offsets news bound news_are none offsets_are =
+    let kept = bound_map emptied_of gs (λ g. refl) (λ g. refl) in
+    let mode = ap (λ os. mode_by (child_rows_of os)) offsets_are ∙ (bare_mode (mode_in t) ∙ bound.over.mode) in
+    let left = bound_next layouts t offsets new_offsets gs (map emptied_of gs) bound kept mode in
+    subst (λ hs. IsGrownUnion layouts t new_types new_offsets hs 0 false) (sym news_are) (bare_union layouts t new_types new_offsets (map emptied_of gs) left (emptied_bare gs) none offsets_are)
+
+-- offsets of none are those of the mode
+pub none_mode : (t : ArrowType) (offsets new_offsets : Option (List ℤ)) (gs : List Grown) → IsUnionOver t offsets gs → new_offsets ≡ no_offsets (mode_in t) → mode_by (child_rows_of new_offsets) ≡ mode_by (child_rows_of offsets)
+none_mode t offsets new_offsets gs over are =
+    ap (λ os. mode_by (child_rows_of os)) are ∙ (bare_mode (mode_in t) ∙ over.mode)
