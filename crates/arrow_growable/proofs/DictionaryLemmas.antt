@@ -15,7 +15,7 @@ use Rattle.arrow_types.specs.Fits.{Fits}
 use Rattle.arrow_types.specs.Greatest.{greatest_number}
 use Rattle.arrow_types.specs.Physical.{physical_type_of}
 use Rattle.arrow_types.specs.Relation.{is_null}
-use Rattle.arrow_types.specs.Rows.{joined, mask}
+use Rattle.arrow_types.specs.Rows.{mask}
 use Rattle.arrow_types.specs.Slot.{Slot, Null, Boolean, Number, DayTime, MonthDayNano, Bytes, Text, Items, Parts as fields, Dict, Variant}
 use Rattle.arrow_types.proofs.RowsLemmas.{length-mask}
 use Rattle.arrow_memory.specs.Sliced.{sliced}

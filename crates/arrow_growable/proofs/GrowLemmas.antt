@@ -1,5 +1,5 @@
 -- A growable over arrays that are bound to it, call by call.
-use Rattle.std.proofs.Common.{arith, ◌≡◌, ◌+◌, ℕ, ◌<◌, List, [], ◌++◌, length, map, replicate, take, false, Result, Ok, Err, Some, ap, sym, subst, ◌∙◌, length-append, inl, inr}
+use Rattle.std.proofs.Common.{arith, ◌≡◌, ◌+◌, ℕ, ◌<◌, List, [], ◌++◌, length, map, replicate, false, Result, Ok, Err, Some, ap, sym, subst, ◌∙◌, length-append, inl, inr}
 use Rattle.std.specs.Prelude.{OnOk}
 use Rattle.std.proofs.lemmas.List.{append-nil, take_all}
 use Rattle.arrow_types.specs.declared.error.Error.{Error}

@@ -1,18 +1,13 @@
 -- Which arrays a physical type has: kinds, shapes, and those without children.
-use Rattle.std.proofs.Common.{arith, ◌≡◌, ◌+◌, ◌<◌, ◌≤◌, ℕ, zero, suc, max, List, [], ◌∷◌, length, map, take, get_or, refl, ap, sym, subst, ◌↔◌}
+use Rattle.std.proofs.Common.{◌≡◌, refl, sym, subst}
 use Rattle.arrow_types.specs.declared.datatypes.physical_type.PhysicalType.{PhysicalType}
 use Rattle.arrow_types.specs.declared.datatypes.physical_type.PhysicalType.TheVariants as physical
 use Rattle.arrow_types.specs.declared.datatypes.IntegerType.{IntegerType}
-use Rattle.arrow_types.specs.declared.types.PrimitiveType.{PrimitiveType}
-use Rattle.arrow_types.specs.ArrowType.{ArrowType, ArrowField, ArrowFields, PlainType, plain, list, struct, union, dictionary, extension, field, no_fields, more_fields, from_fields, type_in, mapped, small, large, fixed_size, null}
-use Rattle.arrow_types.specs.Physical.{physical_type_of, plain_physical_type}
-use Rattle.arrow_types.specs.TypeOf.{field_of, fields_of}
-use Rattle.arrow_types.specs.declared.datatypes.Field.{Field}
+use Rattle.arrow_types.specs.ArrowType.{PlainType, null}
+use Rattle.arrow_types.specs.Physical.{plain_physical_type}
 use Rattle.arrow_arrays.specs.Any.{Kind, dictionary_kind, fixed_size_list_kind, kind_in, list_kind, map_kind, struct_kind}
-use Rattle.arrow_flat.specs.DictionaryScalar.{values_in}
-use Rattle.arrow_arrays.proofs.ShapeLemmas.{dictionary_shape, list_shape, list_shaped, plain_shape, shape_in, shape_of}
+use Rattle.arrow_arrays.proofs.ShapeLemmas.{dictionary_shape, list_shape, shape_of}
 use Rattle.arrow_arrays.specs.TypeParts.{IsFlatType}
-use Rattle.arrow_growable.specs.Form.{child_type, child_types}
 use Rattle.arrow_growable.specs.Lists.{IsListType}
 use Rattle.arrow_growable.specs.Nested.{IsNestedType}
 

@@ -1,8 +1,8 @@
 -- Unions under construction and the arrays that are bound to them: rows that are named, a run at a time, and why they are refused.
-use Rattle.std.proofs.Common.{arith, ◌≡◌, ◌+◌, ◌-◌, ◌<◌, ◌≤◌, ◌^◌, ◌⊎◌, inl, inr, ℕ, zero, suc, ℤ, pos, Option, Some, None, List, [], ◌∷◌, ◌++◌, length, map, replicate, take, get_or, refl, ap, sym, subst, ◌∙◌}
+use Rattle.std.proofs.Common.{arith, ◌≡◌, ◌+◌, ◌-◌, ◌<◌, ◌≤◌, ◌^◌, ◌⊎◌, inl, inr, ℕ, zero, suc, ℤ, Option, Some, None, List, [], ◌∷◌, ◌++◌, length, map, replicate, take, get_or, refl, ap, sym, subst, ◌∙◌}
 use Rattle.std.specs.List.{take-map, zip}
 use Rattle.std.proofs.lemmas.Slice.Zip.{length-zip}
-use Rattle.std.proofs.lemmas.List.{append_assoc, append-nil, get_or-map, length-append, length-map, length-replicate}
+use Rattle.std.proofs.lemmas.List.{append_assoc, append-nil, get_or-map, length-map, length-replicate}
 use Rattle.arrow_types.specs.declared.datatypes.UnionMode.{UnionMode}
 use Rattle.arrow_types.specs.declared.datatypes.UnionMode.TheVariants.{Dense, Sparse}
 use Rattle.arrow_types.specs.ArrowType.{ArrowType}
@@ -13,17 +13,17 @@ use Rattle.arrow_memory.specs.Sliced.{sliced}
 use Rattle.arrow_memory.proofs.SlicedLemmas.{length-sliced, sliced-cut}
 use Rattle.arrow_arrays.specs.Crowded.{CrowdedRow, child_at}
 use Rattle.arrow_arrays.specs.Layout.{Layout, field_ids, rows, variant_at}
-use Rattle.arrow_arrays.specs.TypeParts.{field_types, mode_in}
+use Rattle.arrow_arrays.specs.TypeParts.{mode_in}
 use Rattle.arrow_arrays.specs.UnionParts.{UnionParts, child_rows_of, mode_by, rows_of_field, union_layout, union_rows}
 use Rattle.arrow_arrays.proofs.TypeLemmas.{union_has_field}
-use Rattle.arrow_flat_growable.specs.Grown.{Grown, AreCrowded, CannotHold, FitsItself, FitsWith, RefusedBy, named_rows, null_rows_of, rows_among, source_at}
-use Rattle.arrow_growable.specs.Child.{AreBoundAs, BindsRows, IsWell, SomeCannotHoldNulls, bound_rows, source_rows}
-use Rattle.arrow_growable.specs.GrownUnion.{AreFew, GrowsVariants, HoldsVariants, IsBoundUnion, IsUnionOver, NullsRefused, OthersCannotHold, RunRefused, absent, nth_grown, places_by, variant_rows}
+use Rattle.arrow_flat_growable.specs.Grown.{Grown, AreCrowded, CannotHold, FitsWith, RefusedBy, named_rows, null_rows_of, rows_among, source_at}
+use Rattle.arrow_growable.specs.Child.{AreBoundAs, BindsRows, bound_rows, source_rows}
+use Rattle.arrow_growable.specs.GrownUnion.{AreFew, GrowsVariants, HoldsVariants, IsBoundUnion, IsUnionOver, NullsRefused, RunRefused, absent, nth_grown, places_by, variant_rows}
 use Rattle.arrow_growable.specs.Nested.{rows_of_all}
 use Rattle.arrow_growable.specs.UnionRuns.{IsRun}
 use Rattle.arrow_growable.specs.Variants.{field_part, run_rows, variant_type}
 use Rattle.arrow_growable.proofs.UnionGrowLemmas.{as_many, chosen_refused, column_is, others_refused, places_refused, type_there}
-use Rattle.arrow_growable.proofs.UnionRunLemmas.{child_rows_are, run_crowded, run_is}
+use Rattle.arrow_growable.proofs.UnionRunLemmas.{child_rows_are, run_crowded}
 use Rattle.arrow_growable.proofs.UnionTypeLemmas.{FitsPlaces, fits_variants, null_variant}
 
 -- children that are bound as before

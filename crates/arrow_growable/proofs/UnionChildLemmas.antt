@@ -1,18 +1,18 @@
 -- The children of unions under construction: one that is changed, and what a call on it answers.
-use Rattle.std.proofs.Common.{arith, ◌≡◌, ◌+◌, ◌<◌, ◌≤◌, ◌⊎◌, inl, inr, ℕ, zero, suc, false, true, List, [], ◌∷◌, ◌++◌, Option, Some, None, length, map, take, drop, replicate, get_or, refl, ap, sym, subst, ◌∙◌}
+use Rattle.std.proofs.Common.{arith, ◌≡◌, ◌+◌, ◌<◌, ℕ, zero, suc, List, [], ◌∷◌, None, length, map, get_or, refl, ap, sym, subst, ◌∙◌}
 use Rattle.std.specs.Prelude.{Result, Ok, Err, OnOk, OnErr}
 use lib.ListN.{set}
 use Rattle.std.specs.List.{All}
-use Rattle.std.proofs.lemmas.List.{get_or-map, length-map, map-append}
-use Rattle.std.proofs.lemmas.List.Elements.{All-append, All-cons}
+use Rattle.std.proofs.lemmas.List.{get_or-map, length-map}
+use Rattle.std.proofs.lemmas.List.Elements.{All-cons}
 use Rattle.arrow_types.specs.declared.error.Error.{Error}
 use Rattle.arrow_types.specs.ArrowType.{ArrowType}
 use Rattle.arrow_types.specs.Slot.{Slot}
 use Rattle.arrow_memory.specs.Sliced.{sliced}
-use Rattle.arrow_flat_growable.specs.Grown.{Grown, AreThere, CountsRows, FitsItself, FitsWith, HasFailed, NamesRows, appended, named_rows, null_rows_of, rows_among}
+use Rattle.arrow_flat_growable.specs.Grown.{Grown, AreThere, CountsRows, FitsItself, HasFailed, NamesRows, appended, named_rows, null_rows_of, rows_among}
 use Rattle.arrow_growable.specs.AnyGrowable.{grown_of}
 use Rattle.arrow_growable.specs.Child.{AreBoundAs, BindsRows, GrownBy, IsWell, SameBound, bound_rows, grown_by_nulls, source_rows}
-use Rattle.arrow_growable.specs.GrownUnion.{absent, nth_grown, with_others, with_rows, with_run}
+use Rattle.arrow_growable.specs.GrownUnion.{absent, nth_grown, with_rows, with_run}
 use Rattle.arrow_growable.specs.declared.growable.any.AnyGrowable.{AnyGrowable}
 
 -- what follows from two facts on success

@@ -1,5 +1,5 @@
 -- Unions without rows, and the array that is made of the parts of one.
-use Rattle.std.proofs.Common.{arith, ◌≡◌, ◌+◌, ◌<◌, ◌≤◌, ℕ, ℤ, pos, false, Option, Some, None, List, [], ◌∷◌, length, map, get_or, refl, ap, sym, subst, ◌∙◌}
+use Rattle.std.proofs.Common.{arith, ◌≡◌, ◌<◌, ℕ, ℤ, pos, false, Option, Some, None, List, [], length, map, get_or, refl, ap, sym, subst, ◌∙◌}
 use Rattle.std.specs.Prelude.{option_map}
 use Rattle.std.specs.List.{All, zip}
 use Rattle.std.proofs.lemmas.List.{get_or-map, length-map}
@@ -13,19 +13,19 @@ use Rattle.arrow_types.specs.Slot.{Slot, id_at}
 use Rattle.arrow_types.proofs.FitsLemmas.{Fits-nil}
 use Rattle.arrow_arrays.specs.declared.array.any.AnyArray.{AnyArray}
 use Rattle.arrow_arrays.specs.Any.{any_array_rows, any_array_type, layout_of}
-use Rattle.arrow_arrays.specs.Layout.{Layout, column_of_id, field_ids, rows, type_of_layout, union_items}
+use Rattle.arrow_arrays.specs.Layout.{Layout, column_of_id, field_ids, rows, union_items}
 use Rattle.arrow_arrays.specs.StructParts.{HaveRows}
-use Rattle.arrow_arrays.specs.TypeParts.{field_types, mode_in}
-use Rattle.arrow_arrays.specs.UnionParts.{FitsMode, FitsOffsets, HoldsUnion, IsInside, IsKnown, UnionParts, child_row_of, child_rows_by, child_rows_of, mode_by, union_rows}
+use Rattle.arrow_arrays.specs.TypeParts.{mode_in}
+use Rattle.arrow_arrays.specs.UnionParts.{FitsMode, FitsOffsets, HoldsUnion, IsInside, IsKnown, UnionParts, child_row_of, child_rows_of, mode_by, union_rows}
 use Rattle.arrow_arrays.proofs.NullPartsLemmas.{rows_of_arrays}
 use Rattle.arrow_arrays.proofs.TypeLemmas.{types_of_layouts}
 use Rattle.arrow_flat_growable.specs.Grown.{Grown}
-use Rattle.arrow_growable.specs.Child.{IsWell, emptied_of}
+use Rattle.arrow_growable.specs.Child.{emptied_of}
 use Rattle.arrow_growable.specs.GrownUnion.{AreFew, HoldsVariants, IsUnionOver, absent, no_offsets, nth_grown, places_by, variant_rows}
 use Rattle.arrow_growable.specs.Nested.{rows_of_all}
-use Rattle.arrow_growable.specs.Variants.{field_part, part_of_id, variant_type}
+use Rattle.arrow_growable.specs.Variants.{part_of_id, variant_type}
 use Rattle.arrow_growable.proofs.UnionBoundLemmas.{length_held, part_of_child}
-use Rattle.arrow_growable.proofs.UnionGrowLemmas.{as_many, part_long}
+use Rattle.arrow_growable.proofs.UnionGrowLemmas.{part_long}
 use Rattle.arrow_growable.proofs.UnionRunLemmas.{rows_are}
 
 -- children without rows, that have not failed

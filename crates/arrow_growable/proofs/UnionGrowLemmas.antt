@@ -1,28 +1,23 @@
 -- Unions under construction: what they hold behind a run of rows of one field, and why a run is refused.
-use Rattle.std.proofs.Common.{arith, ◌≡◌, ◌+◌, ◌-◌, ◌<◌, ◌≤◌, ◌^◌, ◌⊎◌, inl, inr, ℕ, zero, suc, ℤ, pos, Option, Some, None, List, [], ◌∷◌, ◌++◌, length, map, replicate, take, get_or, refl, ap, sym, subst, ◌∙◌}
-use Rattle.std.specs.Prelude.{option_map, slice_index_or}
+use Rattle.std.proofs.Common.{arith, ◌≡◌, ◌+◌, ◌<◌, ◌^◌, ◌⊎◌, inl, inr, ℕ, zero, suc, ℤ, pos, Option, Some, None, List, [], ◌∷◌, ◌++◌, length, map, replicate, get_or, refl, ap, sym, subst, ◌∙◌}
+use Rattle.std.specs.Prelude.{option_map}
 use Rattle.std.specs.List.{All, range_with_len, zip}
 use Rattle.std.proofs.lemmas.Slice.Zip.{length-zip}
-use Rattle.std.proofs.lemmas.List.{append_assoc, append-nil, get_or-map, length-append, length-map, length-replicate, map-append}
-use Rattle.arrow_types.specs.declared.datatypes.physical_type.PhysicalType.TheVariants as physical
+use Rattle.std.proofs.lemmas.List.{append-nil, get_or-map, length-append, length-map, length-replicate, map-append}
 use Rattle.arrow_types.specs.declared.datatypes.UnionMode.{UnionMode}
 use Rattle.arrow_types.specs.declared.datatypes.UnionMode.TheVariants.{Dense, Sparse}
 use Rattle.arrow_types.specs.ArrowType.{ArrowType, plain, null}
 use Rattle.arrow_types.specs.Fits.{Fits, sparse_part}
-use Rattle.arrow_types.specs.Physical.{physical_type_of}
-use Rattle.arrow_types.specs.Slot.{Slot, Variant, id_at, null_slot}
-use Rattle.arrow_types.proofs.FitsLemmas.{Fits-beginning}
-use Rattle.arrow_memory.specs.Sliced.{sliced}
-use Rattle.arrow_arrays.specs.Crowded.{CrowdedRow, child_at}
+use Rattle.arrow_types.specs.Slot.{Slot, id_at}
 use Rattle.arrow_arrays.specs.Layout.{field_ids, union_items, variant_at}
 use Rattle.arrow_arrays.specs.TypeParts.{field_types, mode_in}
-use Rattle.arrow_arrays.specs.UnionParts.{child_row_of, child_rows_by, child_rows_of, mode_by}
-use Rattle.arrow_flat_growable.specs.Grown.{Grown, CannotHold, FitsItself, FitsWith, appended, null_rows_of, source_at}
-use Rattle.arrow_growable.specs.Child.{IsWell, SomeCannotHoldNulls, grown_by_nulls}
-use Rattle.arrow_growable.specs.GrownUnion.{AreFew, GrowsVariants, HoldsVariants, IsUnionOver, NullsRefused, OthersCannotHold, absent, nth_grown, placed_behind, places_by, variant_rows, with_others, with_rows, with_run}
+use Rattle.arrow_arrays.specs.UnionParts.{child_row_of, child_rows_of, mode_by}
+use Rattle.arrow_flat_growable.specs.Grown.{Grown, FitsWith, appended, null_rows_of}
+use Rattle.arrow_growable.specs.Child.{IsWell, grown_by_nulls}
+use Rattle.arrow_growable.specs.GrownUnion.{AreFew, GrowsVariants, HoldsVariants, IsUnionOver, OthersCannotHold, absent, nth_grown, placed_behind, places_by, variant_rows, with_others, with_rows, with_run}
 use Rattle.arrow_growable.specs.Nested.{rows_of_all}
 use Rattle.arrow_growable.specs.Variants.{HoldsColumns, field_part, part_of_id, run_rows, variant_type}
-use Rattle.arrow_growable.proofs.UnionTypeLemmas.{FitsPlaces, before_or_same, fits_variants, ids_apart, null_variant, variant_fits}
+use Rattle.arrow_growable.proofs.UnionTypeLemmas.{FitsPlaces, before_or_same, ids_apart, variant_fits}
 use Rattle.arrow_growable.proofs.VariantColumns.{AreApart, holds_run, run_behind}
 use Rattle.arrow_growable.proofs.VariantLemmas.{naturals_back, others_part, part-append, part_other, part_same}
 

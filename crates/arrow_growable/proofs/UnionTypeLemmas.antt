@@ -1,15 +1,13 @@
 -- What the type of a union says: ids that differ, null slots, and which rows fit by what each child holds of them.
-use Rattle.std.proofs.Common.{arith, ◌≡◌, ◌+◌, ◌<◌, ◌≤◌, ◌^◌, ◌⊎◌, inl, inr, ℕ, zero, suc, ℤ, pos, Option, Some, None, List, [], ◌∷◌, length, map, replicate, get_or, refl, ap, sym, subst, ◌∙◌}
+use Rattle.std.proofs.Common.{arith, ◌≡◌, ◌+◌, ◌<◌, ◌≤◌, ◌^◌, ◌⊎◌, inl, inr, ℕ, zero, suc, ℤ, pos, Option, Some, None, List, [], ◌∷◌, length, map, get_or, refl, ap, sym, subst, ◌∙◌}
 use Rattle.std.specs.Prelude.{slice_index_or}
-use Rattle.std.specs.List.{AllPairs}
 use Rattle.std.proofs.lemmas.List.{length-map}
-use Rattle.std.proofs.Math.Nat.{eq-or-lt_of_le}
 use Rattle.arrow_types.specs.declared.datatypes.physical_type.PhysicalType.TheVariants as physical
 use Rattle.arrow_types.specs.declared.datatypes.UnionMode.{UnionMode}
 use Rattle.arrow_types.specs.declared.datatypes.UnionMode.TheVariants.{Dense, Sparse}
-use Rattle.arrow_types.specs.ArrowType.{ArrowType, ArrowFields, plain, list, struct, union, dictionary, extension, null, small, large, fixed_size, mapped, field, no_fields, more_fields, type_in, from_fields}
+use Rattle.arrow_types.specs.ArrowType.{ArrowType, ArrowFields, plain, list, struct, union, dictionary, extension, null, field, no_fields, more_fields, type_in, from_fields}
 use Rattle.arrow_types.specs.Carried.{AreTypeIds, IsCarried}
-use Rattle.arrow_types.specs.Fits.{Fits, FitsDense, FitsSparse, IsCounted, dense_part, sparse_part}
+use Rattle.arrow_types.specs.Fits.{Fits, FitsDense, FitsSparse, dense_part, sparse_part}
 use Rattle.arrow_types.specs.Physical.{physical_type_of}
 use Rattle.arrow_types.specs.Slot.{Slot, Variant, id_at, null_slot}
 use Rattle.arrow_flat.specs.Faults.{IsCarriedAs}

@@ -1,5 +1,5 @@
 -- Dictionaries of a child that can't be joined: neither can those of the arrays that hold it.
-use Rattle.std.proofs.Common.{arith, ◌≡◌, ◌+◌, ◌<◌, ◌⊎◌, inl, inr, ℕ, ℤ, zero, suc, Option, Some, None, List, [], ◌∷◌, ◌++◌, Result, Ok, Err, length, map, take, get_or, refl, ap, sym, subst, ◌∙◌, append_assoc}
+use Rattle.std.proofs.Common.{arith, ◌≡◌, ◌+◌, ◌<◌, inl, inr, ℕ, ℤ, zero, suc, Option, Some, None, List, [], ◌∷◌, ◌++◌, Result, Ok, Err, length, map, take, get_or, ap, sym, subst, ◌∙◌, append_assoc}
 use Rattle.std.specs.Prelude.{IsErrAnd, IsOkUnless, slice_index_or}
 use Rattle.arrow_types.specs.declared.error.Error.{Error}
 use Rattle.arrow_types.specs.declared.error.Error.TheVariants.{OutOfMemory}

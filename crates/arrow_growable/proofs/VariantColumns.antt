@@ -1,5 +1,5 @@
 -- Children that hold what rows of a union hold of each, and a run of rows of one field behind them.
-use Rattle.std.proofs.Common.{arith, ◌≡◌, ◌+◌, ◌<◌, ◌≤◌, ◌⊎◌, inl, inr, ℕ, zero, suc, ℤ, pos, Bool, true, false, Option, List, [], ◌∷◌, ◌++◌, length, map, replicate, get_or, refl, ap, sym, subst, ◌∙◌}
+use Rattle.std.proofs.Common.{arith, ◌≡◌, ◌+◌, ◌<◌, ◌≤◌, ℕ, zero, suc, ℤ, true, false, Option, List, [], ◌∷◌, ◌++◌, length, replicate, get_or, refl, ap, sym, subst, ◌∙◌}
 use Rattle.std.specs.List.{All, range_with_len, zip}
 use Rattle.std.specs.Ordering.{int_eq}
 use Rattle.std.proofs.lemmas.Bool.Decides.{Decides-int_eq}
@@ -8,11 +8,11 @@ use Rattle.std.proofs.lemmas.List.Elements.{All-append}
 use Rattle.std.proofs.lemmas.List.FromFn.{get_or-range_with_len, length-range_with_len}
 use Rattle.std.proofs.lemmas.Slice.Zip.{get_or-zip, length-zip}
 use Rattle.arrow_types.specs.ArrowType.{ArrowType}
-use Rattle.arrow_types.specs.Slot.{Slot, Null, Variant, id_at}
+use Rattle.arrow_types.specs.Slot.{Slot, id_at}
 use Rattle.arrow_arrays.specs.Layout.{column_of_id, field_ids, union_items}
 use Rattle.arrow_arrays.specs.TypeParts.{mode_in}
 use Rattle.arrow_arrays.specs.UnionParts.{IsKnown}
-use Rattle.arrow_growable.specs.Variants.{HoldsColumns, field_part, part_of_id, run_rows, variant_type}
+use Rattle.arrow_growable.specs.Variants.{HoldsColumns, field_part, run_rows, variant_type}
 use Rattle.arrow_growable.proofs.VariantLemmas.{column_grown, not_told, part-append, part_same, rows_behind, zip-append}
 
 -- the column of an id, by the first field that has it

@@ -1,23 +1,23 @@
 -- Unions under construction: type ids, places and children that grow ("Union Layout").
-use Rattle.std.specs.Prelude.{ℕ, zero, suc, ℤ, pos, ◌≡◌, ◌+◌, ◌^◌, ◌<◌, ◌≤◌, ◌⊎◌, Bool, false, Option, Some, None, IfSome, Vec, List, [], ◌∷◌, ◌++◌, length, map, option_map, slice_index_or}
-use Rattle.std.specs.List.{All, range_with_len, zip}
+use Rattle.std.specs.Prelude.{ℕ, zero, suc, ℤ, pos, ◌≡◌, ◌+◌, ◌^◌, ◌<◌, ◌≤◌, ◌⊎◌, Bool, false, Option, Some, None, Vec, List, [], ◌∷◌, ◌++◌, length, map, option_map, slice_index_or}
+use Rattle.std.specs.List.{All, range_with_len}
 use Rattle.arrow_types.specs.declared.datatypes.UnionMode.{UnionMode}
 use Rattle.arrow_types.specs.declared.datatypes.UnionMode.TheVariants.{Dense, Sparse}
 use Rattle.std.specs.declared.alloc.Global.{Global}
 use Rattle.arrow_types.specs.declared.datatypes.physical_type.PhysicalType.TheVariants as physical
 use Rattle.arrow_types.specs.ArrowType.{ArrowType, plain, null}
-use Rattle.arrow_types.specs.Fits.{Fits, dense_part, sparse_part}
-use Rattle.arrow_types.specs.Slot.{Slot, Variant, id_at}
+use Rattle.arrow_types.specs.Fits.{Fits}
+use Rattle.arrow_types.specs.Slot.{Slot}
 use Rattle.arrow_memory.specs.Sliced.{sliced}
 use Rattle.arrow_flat.specs.Faults.{IsCarriedAs}
 use Rattle.arrow_arrays.specs.Crowded.{Unjoined, child_at}
-use Rattle.arrow_arrays.specs.Layout.{Layout, column_of_id, field_ids, rows, type_of_layout, union_items}
+use Rattle.arrow_arrays.specs.Layout.{Layout, field_ids, rows, type_of_layout, union_items}
 use Rattle.arrow_arrays.specs.TypeParts.{field_types, mode_in}
-use Rattle.arrow_arrays.specs.UnionParts.{IsKnown, child_rows_by, child_rows_of, mode_by}
+use Rattle.arrow_arrays.specs.UnionParts.{child_rows_by, child_rows_of, mode_by}
 use Rattle.arrow_flat_growable.specs.Grown.{AreOfOneType, CannotHold, FitsWith, Grown, RefusedBy, appended, empty_over, first_type, null_rows_of, source_at}
 use Rattle.arrow_growable.specs.Child.{IsWell, SomeCannotHoldNulls, grown_by_nulls}
 use Rattle.arrow_growable.specs.Nested.{rows_of_all}
-use Rattle.arrow_growable.specs.Variants.{HoldsColumns, field_part, variant_type}
+use Rattle.arrow_growable.specs.Variants.{HoldsColumns, variant_type}
 
 -- the offsets, if there are any
 abbrev pub offsets_in : Option (Vec ℤ Global) → Option (List ℤ)

@@ -1,7 +1,6 @@
 use Rattle.std.proofs.Common.{◌≡◌, All, map, take}
 use Rattle.arrow_flat.specs.DictionaryScalar.{values_in}
 use Rattle.arrow_arrays.specs.Any.{layout_of}
-use Rattle.arrow_arrays.specs.KeyedParts.{keyed_layout}
 use Rattle.arrow_arrays.specs.Layout.{type_of_layout}
 use Rattle.arrow_growable.proofs.growable.dictionary.values_of.Given as goal
 

@@ -1,4 +1,4 @@
-use Rattle.std.proofs.Common.{rules, ◌≡◌, ◌∙◌, ℤ, List, Option, map, ap, subst, sym}
+use Rattle.std.proofs.Common.{rules, ◌≡◌, ℤ, List, Option, map, subst, sym}
 use Rattle.arrow_types.specs.ArrowType.{ArrowType}
 use Rattle.arrow_types.specs.TypeOf.{type_of}
 use Rattle.arrow_arrays.specs.Any.{layout_of}

@@ -1,4 +1,4 @@
-use Rattle.std.proofs.Common.{◌≡◌, ◌<◌, ℕ, All, length, map}
+use Rattle.std.proofs.Common.{◌≡◌, ◌<◌, ℕ, All, map}
 use Rattle.std.specs.List.{range_with_len}
 use Rattle.arrow_arrays.specs.Any.{layout_of}
 use Rattle.arrow_arrays.specs.Crowded.{child_at}

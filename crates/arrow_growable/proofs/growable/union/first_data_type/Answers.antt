@@ -1,6 +1,4 @@
-use Rattle.std.proofs.Common.{Bor, map, ap, sym, subst, ◌∙◌}
-use Rattle.arrow_types.specs.Physical.{physical_type_of}
-use Rattle.arrow_arrays.specs.Any.{kind_in}
+use Rattle.std.proofs.Common.{Bor, sym, subst, ◌∙◌}
 use Rattle.arrow_arrays.specs.UnionParts.{union_layout}
 use Rattle.arrow_flat.specs.Faults.{IsCarriedAs}
 use Rattle.arrow_types.specs.declared.datatypes.physical_type.PhysicalType.TheVariants as physical

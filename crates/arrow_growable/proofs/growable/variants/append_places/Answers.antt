@@ -1,4 +1,4 @@
-use Rattle.std.proofs.Common.{arith, ◌≡◌, ◌+◌, ◌++◌, [], ◌∷◌, pos, w32, map, ap, sym, ◌∙◌}
+use Rattle.std.proofs.Common.{arith, ◌+◌, ◌++◌, [], ◌∷◌, pos, w32, map, ap, sym, ◌∙◌}
 use Rattle.std.specs.List.{range_with_len}
 use Rattle.std.proofs.lemmas.Int.{to_z_pos}
 use Rattle.std.proofs.lemmas.List.{append_assoc}

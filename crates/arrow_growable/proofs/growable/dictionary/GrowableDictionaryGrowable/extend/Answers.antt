@@ -1,5 +1,5 @@
-use Rattle.std.proofs.Common.{arith, ◌≡◌, ◌+◌, ◌++◌, ◌<◌, Bor, Err, Some, false, inl, inr, length, map, get_or, ap, sym, subst, ◌∙◌, rules}
-use Rattle.std.proofs.lemmas.List.{length-append, length-map}
+use Rattle.std.proofs.Common.{arith, ◌≡◌, ◌+◌, Bor, Err, Some, false, inl, inr, length, map, ap, sym, subst, ◌∙◌, rules}
+use Rattle.std.proofs.lemmas.List.{length-map}
 use Rattle.std.specs.Prelude.{option_copied}
 use Rattle.std.specs.Vec.{vec_len}
 use Rattle.arrow_types.specs.declared.datatypes.physical_type.PhysicalType.TheVariants as physical
@@ -18,7 +18,7 @@ use Rattle.arrow_flat_growable.specs.Keys.{key_slots}
 use Rattle.arrow_flat_growable.proofs.FlatLemmas.{too_many}
 use Rattle.arrow_flat_growable.proofs.ResultLemmas.{passed_on}
 use Rattle.arrow_growable.specs.Dictionary.{AreUncrowded, HoldsKeys, dictionary_rows}
-use Rattle.arrow_growable.proofs.DictionaryLemmas.{Names, are_keys_in, counted_fit, fits_uncrowded, greatest_named, holds_named, in_arrays, marks_cover, names_from, passes_crowded, rows_counted, rows_long, rows_named, same_keys, source}
+use Rattle.arrow_growable.proofs.DictionaryLemmas.{Names, counted_fit, fits_uncrowded, greatest_named, holds_named, marks_cover, names_from, passes_crowded, rows_counted, rows_long, rows_named, same_keys, source}
 use Rattle.arrow_growable.proofs.growable.dictionary.GrowableDictionaryGrowable.extend.Goals as goal
 
 pub index-array-requires : goal.index-array-requires

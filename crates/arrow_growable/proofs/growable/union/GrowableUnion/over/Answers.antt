@@ -1,4 +1,4 @@
-use Rattle.std.proofs.Common.{rules, ◌≡◌, Some, false, Bor, map, ap, sym, subst, ◌∙◌}
+use Rattle.std.proofs.Common.{rules, ◌≡◌, Some, false, Bor, map, ap, subst, ◌∙◌}
 use Rattle.arrow_types.specs.declared.datatypes.physical_type.PhysicalType.TheVariants as physical
 use Rattle.arrow_types.specs.TypeOf.{type_of}
 use Rattle.arrow_flat.specs.Faults.{IsCarriedAs}
