@@ -1,14 +1,10 @@
 -- Arrays that are given together: the type of each, and the rows of all.
-use Rattle.std.proofs.Common.{arith, ◌≡◌, ℕ, ◌+◌, ◌<◌, List, [], ◌∷◌, ◌++◌, Some, length, get_or, map, take, drop, refl, ap, sym, subst, ◌∙◌, append_assoc}
-use Rattle.std.specs.Prelude.{slice_get, option_map, Contains}
+use Rattle.std.proofs.Common.{arith, ◌≡◌, ℕ, ◌<◌, List, [], ◌∷◌, Some, length, map, ap, sym, subst, ◌∙◌}
+use Rattle.std.specs.Prelude.{slice_get, Contains}
 use Rattle.std.specs.List.{All}
-use Rattle.std.proofs.lemmas.List.{append-nil, get_or-map, length-map, take-append-drop}
-use Rattle.std.proofs.lemmas.Option.{slice_get_read, slice_get-map, get_or_from_slice_get}
+use Rattle.std.proofs.lemmas.List.{get_or-map, length-map}
+use Rattle.std.proofs.lemmas.Option.{get_or_from_slice_get}
 use Rattle.arrow_types.specs.ArrowType.{ArrowType}
-use Rattle.arrow_types.specs.Rows.{joined}
-use Rattle.arrow_types.specs.Slot.{Slot}
-use Rattle.arrow_types.proofs.RowsLemmas.{drop_at_read, take_at_read}
-use Rattle.arrow_types.proofs.SelectLemmas.{joined-append}
 use Rattle.arrow_arrays.specs.Layout.{Layout, type_of_layout}
 use Rattle.arrow_flat_growable.specs.Grown.{AreOfOneType, first_type}
 

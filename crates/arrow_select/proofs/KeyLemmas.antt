@@ -1,5 +1,5 @@
 -- Arrays that hold no dictionary: no row of theirs is crowded, and none are to be joined.
-use Rattle.std.proofs.Common.{arith, ◌≡◌, ◌+◌, ◌<◌, ◌⊎◌, ℕ, ℤ, inl, inr, suc, List, [], ◌∷◌, ◌++◌, Option, length, map, refl, ap, sym, subst, ◌∙◌, slice_index}
+use Rattle.std.proofs.Common.{arith, ◌≡◌, ◌+◌, ℕ, ℤ, inl, inr, suc, List, [], ◌∷◌, ◌++◌, Option, Some, None, map, refl, ap, sym, subst, ◌∙◌, slice_index}
 use Rattle.std.specs.List.{All}
 use Rattle.std.proofs.lemmas.List.Elements.{All-cons}
 use Rattle.arrow_types.specs.declared.datatypes.physical_type.PhysicalType.{PhysicalType}
@@ -10,6 +10,7 @@ use Rattle.arrow_arrays.specs.Any.{kind_in, kind_of, layout_of, any_array_type, 
 use Rattle.arrow_arrays.specs.Crowded.{CrowdedAmong, CrowdedRow, CrowdedPart, CrowdedVariant, Unjoined, UnjoinedBy, UnjoinedPart, child_at, child_of}
 use Rattle.arrow_arrays.specs.Layout.{Layout, Layouts, flat, listed, fixed, fielded, sparse, dense, keyed, no_layouts, more_layouts, to_layouts, field_ids, type_of_layout}
 use Rattle.arrow_arrays.specs.TypeParts.{field_types, item_type}
+use Rattle.arrow_arrays.specs.UnionParts.{UnionParts, union_layout, union_layout_by}
 use Rattle.arrow_arrays.proofs.ShapeLemmas.{list_shape, plain_shape, shape_in}
 use Rattle.arrow_arrays.proofs.TypeLemmas.{types_of_layouts}
 use Rattle.arrow_arrays.specs.declared.array.any.AnyArray.{AnyArray}
@@ -153,6 +154,14 @@ pub children_have_none : (t : ArrowType) (arrays : List AnyArray) (children : Li
 children_have_none t arrays children none same fields each =
     let types : map any_array_type arrays ≡ field_types t = sym (types_of_layouts arrays) ∙ (ap (map type_of_layout) same ∙ fields) in
     all_have_none children (subst (All HasNoKeys) same (children_by arrays (subst (All HasNoDictionary) (sym types) (fields_have_none t none)) each))
+
+union_by : (t : ArrowType) (types : List ℤ) (child_rows : Option (List ℕ)) (start : ℕ) (children : List Layout) → HaveNoKeys (to_layouts children) → HasNoKeys (union_layout_by t types child_rows start children)
+union_by t types None start children none = none
+union_by t types (Some child_rows) start children none = none
+
+-- a union of such children
+pub union_has_none : (p : UnionParts) → HaveNoKeys (to_layouts p.children) → HasNoKeys (union_layout p)
+union_has_none p none = union_by p.arrow_type p.types p.child_rows p.start p.children none
 
 all_of_type : {A : Type 0} (f : A → AnyArray) (t : ArrowType) (arrays : List A) → HasNoDictionary t → All (λ x. HasNoDictionary (any_array_type (f x)) → HasNoKeys (layout_of (f x))) arrays → All (λ l. type_of_layout l ≡ t) (map (λ x. layout_of (f x)) arrays) → All HasNoKeys (map (λ x. layout_of (f x)) arrays)
 all_of_type f t [] none each types = λ k d within. absurd (omega (arith, within))

@@ -1,11 +1,8 @@
 -- Rows that a kernel appends.
-use Rattle.std.specs.Prelude.{◌≡◌, ◌-◌, ℕ, List, ◌++◌, length, replicate}
+use Rattle.std.specs.Prelude.{◌-◌, ℕ, List, ◌++◌, length, replicate}
 use Rattle.arrow_types.specs.ArrowType.{ArrowType}
-use Rattle.arrow_types.specs.Fits.{Fits}
 use Rattle.arrow_types.specs.Slot.{Slot, null_slot}
 use Rattle.arrow_memory.specs.Sliced.{sliced}
-use Rattle.arrow_arrays.specs.Layout.{Layout}
-use Rattle.arrow_flat_growable.specs.Grown.{Grown, appended, bound_to, first_type}
 
 -- null slots in front of rows and behind them, so that there are as many as xs has
 abbrev pub between : List Slot → ℕ → ℕ → ArrowType → List Slot

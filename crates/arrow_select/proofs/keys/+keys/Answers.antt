@@ -5,7 +5,8 @@ use Rattle.arrow_arrays.proofs.DepthLemmas.{depth_at}
 use Rattle.arrow_arrays.proofs.ShapeLemmas.{shape_of}
 use Rattle.arrow_growable.proofs.KindLemmas.{shape_of_lists, type_of_fixed_size_lists, type_of_maps}
 use Rattle.arrow_select.specs.Keys.{HasNoDictionary, HasNoKeys}
-use Rattle.arrow_select.proofs.KeyLemmas.{children_have_none, flat_has_none, items_have_none}
+use Rattle.arrow_select.proofs.KeyLemmas.{children_have_none, flat_has_none, items_have_none, union_has_none}
+use Rattle.arrow_growable.proofs.UnionLoopLemmas.{union_type}
 use Rattle.arrow_select.proofs.keys.+keys.Goals as goal
 
 pub show_no_keys-show_no_keys-requires : goal.show_no_keys-show_no_keys-requires
@@ -39,6 +40,10 @@ show_no_keys-returns-in-Map t c =
 pub show_no_keys-returns-in-Struct : goal.show_no_keys-returns-in-Struct
 show_no_keys-returns-in-Struct t c =
     rw c.in-Struct.is (λ none. let v = c.values-in-Struct.ensures in children_have_none c.in-Struct.structs.arrow_type _ _ none v.same v.fields c.show_no_keys_in.ensures)
+
+pub show_no_keys-returns-in-Union : goal.show_no_keys-returns-in-Union
+show_no_keys-returns-in-Union t c =
+    rw c.in-Union.is (λ none. let v = c.fields.ensures in union_has_none c.in-Union.unions (children_have_none c.in-Union.unions.arrow_type _ _ (subst HasNoDictionary (union_type c.in-Union.unions) none) v.same v.fields c.show_no_keys_in-in-Union.ensures))
 
 pub show_no_keys-returns-in_default : goal.show_no_keys-returns-in_default
 show_no_keys-returns-in_default t c none =
