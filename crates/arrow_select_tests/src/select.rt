@@ -3,6 +3,7 @@
 mod concatenate;
 mod filter;
 mod keyed;
+mod unions;
 mod window;
 
 use arrow_arrays::array::AnyArray;
@@ -43,4 +44,5 @@ fn kernels(rt: HostRuntime) {
     filter::check_filter(&rt);
     window::check_shift(&rt);
     keyed::check_dictionaries(&rt);
+    unions::check_unions(&rt);
 }

@@ -36,7 +36,7 @@ struct Case<'a> {
     want_others: &'a [u8],
 }
 
-const CASES: [Case<'static>; 6] = [
+const CASES: [Case<'static>; 8] = [
     // a slice of a sparse union: its rows do not begin where those of its children do
     Case {
         is_dense: false,
@@ -52,6 +52,37 @@ const CASES: [Case<'static>; 6] = [
         want_offsets: &[],
         want_letters: b"bA",
         want_others: b"Af",
+    },
+    // rows 2 and 3 of four
+    Case {
+        is_dense: false,
+        offsets: &[],
+        types: &[5, 7, 7, 5],
+        letters: b"abcd",
+        others: b"efgh",
+        from: 2,
+        start: 0,
+        len: 2,
+        nulls: 1,
+        want_types: &[7, 5, 5],
+        want_offsets: &[],
+        want_letters: b"AdA",
+        want_others: b"gAA",
+    },
+    Case {
+        is_dense: true,
+        offsets: &[0, 0, 1, 1],
+        types: &[5, 7, 7, 5],
+        letters: b"ab",
+        others: b"cd",
+        from: 2,
+        start: 0,
+        len: 2,
+        nulls: 1,
+        want_types: &[7, 5, 5],
+        want_offsets: &[0, 0, 1],
+        want_letters: b"bA",
+        want_others: b"d",
     },
     // a run of each field, and null slots of the first
     Case {
