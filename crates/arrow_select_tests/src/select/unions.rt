@@ -22,7 +22,7 @@ struct Stored<'a> {
 /// A union, the row from which on it is joined with itself, and what is the same as that.
 #[derive(Clone, Copy, Debug)]
 struct Case<'a> {
-    ids: Option<[i32; 2]>,
+    ids: Option<&'a [i32]>,
     children: [Shape; 2],
     from: usize,
     stored: Stored<'a>,
@@ -54,7 +54,7 @@ const CASES: [Case<'static>; 3] = [
     },
     // unions of unions, from their third row on
     Case {
-        ids: Some([7, 5]),
+        ids: Some(&[7, 5]),
         children: UNIONS,
         from: 2,
         stored: Stored {
@@ -69,7 +69,7 @@ const CASES: [Case<'static>; 3] = [
         },
     },
     Case {
-        ids: Some([7, 5]),
+        ids: Some(&[7, 5]),
         children: UNIONS,
         from: 2,
         stored: Stored {
@@ -85,31 +85,32 @@ const CASES: [Case<'static>; 3] = [
     },
 ];
 
-/// A union of this case, with what is stored of it.
-fn union_of(alloc: Global, case: Case, stored: Stored) -> Result<Box<AnyArray>, Error> {
-    let ([first, second], [left, right]) = (case.children, stored.letters);
-    let (left, right) = (
-        array_of(alloc, first, left)?,
-        array_of(alloc, second, right)?,
-    );
-    let kept = left.data_type().clone()?;
-    let fields = pair(alloc, kept, right.data_type().clone()?)?;
-    let ids = match case.ids {
-        None => None,
-        Some([first, second]) => Some(vec![in alloc; first, second]?),
-    };
-    let mode = match stored.offsets {
+/// Type ids, where they are given.
+fn ids_of(alloc: Global, ids: Option<&[i32]>) -> Result<Option<Vec<i32>>, Error> {
+    match ids {
+        None => Ok(None),
+        Some(ids) => Ok(Some(Vec::from_slice(alloc, ids)?)),
+    }
+}
+
+/// The mode of a union with such offsets.
+fn mode_of(offsets: Option<&[i32]>) -> UnionMode {
+    match offsets {
         None => UnionMode::Sparse,
         Some(_) => UnionMode::Dense,
-    };
-    let data_type = DataType::Union(fields, ids, mode);
-    make_union(
-        alloc,
-        data_type,
-        stored.types,
-        both(alloc, left, right)?,
-        stored.offsets,
-    )
+    }
+}
+
+/// A union of this case, with what is stored of it.
+fn union_of(alloc: Global, case: Case, stored: Stored) -> Result<Box<AnyArray>, Error> {
+    let ([first, second], [letters, others]) = (case.children, stored.letters);
+    let left = array_of(alloc, first, letters)?;
+    let right = array_of(alloc, second, others)?;
+    let kept = left.data_type().clone()?;
+    let fields = pair(alloc, kept, right.data_type().clone()?)?;
+    let data_type = DataType::Union(fields, ids_of(alloc, case.ids)?, mode_of(stored.offsets));
+    let children = both(alloc, left, right)?;
+    make_union(alloc, data_type, stored.types, children, stored.offsets)
 }
 
 pub fn check_unions(rt: &(impl Abort + Alloc<A = Global>)) {
