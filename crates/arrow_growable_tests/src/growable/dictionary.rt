@@ -1,7 +1,6 @@
 //! Growables of dictionaries: keys that grow by the values before their own.
 
-ghost use Rattle.std.specs.Prelude.{◌≡◌, [], ◌∷◌, Some};
-ghost use Rattle.arrow_arrays.specs.KeyedParts.{keyed_layout};
+ghost use Rattle.std.specs.Prelude.{◌≡◌, IsTrue};
 
 use arrow_arrays::array::{AnyArray, AnyKeys, DictionaryArray};
 use arrow_arrays_fixture::arrays::boxed;
@@ -45,13 +44,20 @@ fn one(alloc: Global, key: i8, letter: &[u8]) -> Result<DictionaryArray, Error> 
     DictionaryArray::try_new(data_type, AnyKeys::Int8(keys), values(alloc, 100)?)
 }
 
+/// Whether two arrays are of one type.
+fn are_alike(left: &DictionaryArray, right: &DictionaryArray) -> bool
+    ensures { IsTrue result → left.now.arrow_type ≡ right.now.arrow_type }
+{
+    *left.data_type() == *right.data_type()
+}
+
 /// A row of each of two arrays, of one data type.
 fn grow(
     rt: &(impl Abort + Alloc<A = Global>),
     left: &DictionaryArray,
     right: &DictionaryArray,
 ) -> Result<DictionaryArray, Error> {
-    assert!(rt; left.data_type() == right.data_type());
+    assert!(rt; are_alike(left, right));
     let mut growable = GrowableDictionary::new(rt.alloc(), &[left, right], false, 2)?;
     assert!(rt; left.len() == 1 && right.len() == 1);
     growable.extend(0, 0, 1)?;
