@@ -3,7 +3,8 @@
 use crate::answer::{Answer, Refusal};
 use crate::literals::Literal;
 use arrow_arrays::array::AnyArray;
-use arrow_select::{concatenate, filter, window};
+use arrow_flat::array::AnyPrimitive;
+use arrow_select::{concatenate, filter, take, window};
 use arrow_types::error::Error;
 use std::alloc::{AllocError, Global};
 
@@ -13,6 +14,7 @@ pub(crate) enum Command {
     Concatenate,
     Filter,
     Shift,
+    Take,
 }
 
 impl Command {
@@ -21,6 +23,7 @@ impl Command {
             "concatenate" => Some(Command::Concatenate),
             "filter" => Some(Command::Filter),
             "shift" => Some(Command::Shift),
+            "take" => Some(Command::Take),
             _ => None,
         }
     }
@@ -35,6 +38,7 @@ impl Command {
             Command::Concatenate => concatenate(alloc, arguments),
             Command::Filter => Ok(filter(alloc, arguments)),
             Command::Shift => Ok(shift(alloc, arguments)),
+            Command::Take => Ok(take(alloc, arguments)),
         }
     }
 }
@@ -99,5 +103,24 @@ fn shift(alloc: Global, arguments: &[Literal<'_>]) -> Answer {
         }
         Literal::TooLong(_) => Answer::Refused(TOO_LONG),
         Literal::Number(_) => Answer::Refused(Refusal::Usage),
+    }
+}
+
+fn take(alloc: Global, arguments: &[Literal<'_>]) -> Answer {
+    let [array, indices] = arguments else {
+        return Answer::Refused(Refusal::Usage);
+    };
+    let Literal::Array(indices) = indices else {
+        return Answer::Refused(Refusal::Usage);
+    };
+    let AnyArray::Primitive(AnyPrimitive::Int32(indices)) = indices.as_array() else {
+        return Answer::Refused(Refusal::Usage);
+    };
+    match array {
+        Literal::Array(array) if take::are_inside(indices, array.as_array().len()) => {
+            Answer::of_kernel(take::take(alloc, array.as_array(), indices))
+        }
+        Literal::TooLong(len) if take::are_inside(indices, *len) => Answer::Refused(TOO_LONG),
+        _ => Answer::Refused(Refusal::Usage),
     }
 }

@@ -155,7 +155,7 @@ fn check_run(
 }
 
 /// Input by a name, whether a line of it is refused, and the output.
-const LINES: [(&str, &[u8], bool, &[u8]); 46] = [
+const LINES: [(&str, &[u8], bool, &[u8]); 50] = [
     ("nothing", b"", false, b""),
     (
         "filter",
@@ -396,6 +396,30 @@ const LINES: [(&str, &[u8], bool, &[u8]); 46] = [
         b"grow\nconcatenate bool[f]",
         true,
         b"error Command\nbool[f]\n",
+    ),
+    (
+        "rows by index",
+        b"take utf8[_,\"two\"] i32[1,_99,0]\ntake bool[t,f,_] i32[2,1,0,_]\n",
+        false,
+        b"utf8[\"two\",_,_]\nbool[_,f,t,_]\n",
+    ),
+    (
+        "no row, and what lies beneath a null",
+        b"take i32[] i32[]\ntake i32[] i32[_7]\ntake i32[5] i32[_-1,0]\n",
+        false,
+        b"i32[]\ni32[_]\ni32[_,5]\n",
+    ),
+    (
+        "an index of no row, and no array",
+        b"take i32[1] i32[1]\ntake i32[1] i32[-1]\ntake 1 i32[]\n",
+        true,
+        b"error Usage\nerror Usage\nerror Usage\n",
+    ),
+    (
+        "no array of indices",
+        b"take i32[1] bool[t]\ntake i32[1]\ntake i32[1] 0\ntake i32[1] i32[0] i32[0]\n",
+        true,
+        b"error Usage\nerror Usage\nerror Usage\nerror Usage\n",
     ),
 ];
 

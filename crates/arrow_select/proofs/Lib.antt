@@ -1,4 +1,11 @@
 pub mod ArrayLemmas
 pub mod FilterLemmas
+pub mod IndexLemmas
 pub mod KeyLemmas
+pub mod LawLemmas
 pub mod ShiftLemmas
+pub mod TakenBytes
+pub mod TakenFields
+pub mod TakenKeys
+pub mod TakenRuns
+pub mod TakenTypes

@@ -5,4 +5,6 @@
 pub mod concatenate;
 pub mod filter;
 mod keys;
+pub mod laws;
+pub mod take;
 pub mod window;

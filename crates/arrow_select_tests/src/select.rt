@@ -2,7 +2,10 @@
 
 mod concatenate;
 mod filter;
+mod indices;
 mod keyed;
+mod take;
+mod take_typed;
 mod unions;
 mod window;
 
@@ -45,4 +48,6 @@ fn kernels(rt: HostRuntime) {
     window::check_shift(&rt);
     keyed::check_dictionaries(&rt);
     unions::check_unions(&rt);
+    take::check_take(&rt);
+    take_typed::check_take_typed(&rt);
 }

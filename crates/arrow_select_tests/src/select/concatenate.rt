@@ -79,16 +79,23 @@ fn check_rows(
     check_two(rt, &left, &right, shape, want);
 }
 
-/// One row over as many items as lists can have, valid or null by its letter.
-fn wide_list(alloc: Global, marks: &str) -> Result<Box<AnyArray>, Error> {
-    const MOST: usize = 2_147_483_647;
+/// As many items as lists can have.
+pub const MOST_ITEMS: usize = 2_147_483_647;
+
+/// Lists over so many items, from each end to the next, valid or null by their letters.
+pub fn wide_lists(alloc: Global, ends: &[usize], marks: &str) -> Result<Box<AnyArray>, Error> {
     let validity = marks_of(alloc, marks)?;
-    let items = nulls(alloc, MOST)?;
-    lists_of(alloc, ListKind::Small, &[0, MOST], items, validity)
+    lists_of(
+        alloc,
+        ListKind::Small,
+        ends,
+        nulls(alloc, MOST_ITEMS)?,
+        validity,
+    )
 }
 
 /// One row of 2^63 items.
-fn widest_list(alloc: Global) -> Result<Box<AnyArray>, Error> {
+pub fn widest_list(alloc: Global) -> Result<Box<AnyArray>, Error> {
     const MOST: usize = 1 << 63;
     let data_type = DataType::FixedSizeList(item(alloc, DataType::Null)?, MOST);
     let items = nulls(alloc, MOST)?;
@@ -129,7 +136,7 @@ fn deep_structs(
 }
 
 /// Lists of such structs.
-fn deep_lists(
+pub fn deep_lists(
     rt: &(impl Abort + Alloc<A = Global>),
     shapes: [Shape; 2],
     ends: &[usize],
@@ -142,7 +149,7 @@ fn deep_lists(
 }
 
 /// What structs in lists hold.
-const DEEP: [[Shape; 2]; 3] = [
+pub const DEEP: [[Shape; 2]; 3] = [
     [
         Shape::Lists(ListKind::Map),
         Shape::Lists(ListKind::FixedSize),
@@ -164,10 +171,10 @@ fn check_deep(rt: &(impl Abort + Alloc<A = Global>)) {
 
 /// Items that two rows can't have: none of theirs is named where they are null.
 fn check_wide(rt: &(impl Abort + Alloc<A = Global>)) {
-    let array = made!(rt; wide_list(rt.alloc(), "-"));
+    let array = made!(rt; wide_lists(rt.alloc(), &[0, MOST_ITEMS], "-"));
     let shape = Shape::Lists(ListKind::Small);
     check_two(rt, &array, &array, shape, Err(Error::Overflow));
-    let array = made!(rt; wide_list(rt.alloc(), "f"));
+    let array = made!(rt; wide_lists(rt.alloc(), &[0, MOST_ITEMS], "f"));
     let both = made!(rt; join_two(rt.alloc(), &array, &array));
     check!(rt; both.len() == 2);
     check!(rt; both.null_count() == 2);

@@ -1,0 +1,48 @@
+-- The laws of rows that are selected, taken and joined.
+use Rattle.std.proofs.Common.{arith, ◌≡◌, ◌+◌, ◌-◌, ℕ, ◌≤◌, pos, Bool, true, false, Some, List, [], ◌∷◌, ◌++◌, length, map, take, drop, refl, ap, sym, ◌∙◌, append_assoc}
+use Rattle.std.specs.Prelude.{option_map, slice_get, unwrap_or}
+use Rattle.std.proofs.lemmas.List.{append-nil, length-append, length-drop, take-append-drop, take_all}
+use Rattle.std.proofs.lemmas.Option.{slice_get-get_or, slice_get-map}
+use Rattle.std.proofs.lemmas.Simd.{map-map}
+use Rattle.arrow_types.specs.ArrowType.{ArrowType}
+use Rattle.arrow_types.specs.Rows.{gather, gathered, joined, select}
+use Rattle.arrow_types.specs.Slot.{Slot, Null, Number, null_slot}
+use Rattle.arrow_memory.specs.Sliced.{sliced}
+use Rattle.arrow_arrays.specs.KeyedParts.{AreKeys, IsKey}
+use Rattle.arrow_select.specs.Laws.{places_from, true_places}
+use Rattle.arrow_select.proofs.IndexLemmas.{each_index, map-agree}
+
+-- the row behind others
+row_behind : (before xs : List Slot) (x : Slot) → slice_get (before ++ x ∷ xs) (length before) ≡ Some x
+row_behind [] xs x = refl
+row_behind (y ∷ before) xs x = row_behind before xs x
+
+gather_behind : (before xs : List Slot) (mask : List Bool) (t : ArrowType) → length mask ≡ length xs → select mask xs ≡ gather (before ++ xs) (map (λ n. Number (pos n)) (places_from (length before) mask)) t
+gather_behind before [] [] t same = refl
+gather_behind before (x ∷ xs) [] t same = absurd (omega (arith, same))
+gather_behind before [] (b ∷ mask) t same = absurd (omega (arith, same))
+gather_behind before (x ∷ xs) (b ∷ mask) t same =
+    let moved : (before ++ x ∷ []) ++ xs ≡ before ++ x ∷ xs = append_assoc before (x ∷ []) xs in
+    let count : length (before ++ x ∷ []) ≡ length before + 1 = length-append before (x ∷ []) in
+    let rest = gather_behind (before ++ x ∷ []) xs mask t (omega (arith, same)) ∙ (λ i. gather (moved i) (map (λ n. Number (pos n)) (places_from (count i) mask)) t) in
+    let first = ap (λ o. unwrap_or o (null_slot t)) (sym (row_behind before xs x)) in
+    let by : (chosen : Bool) → select (chosen ∷ mask) (x ∷ xs) ≡ gather (before ++ x ∷ xs) (map (λ n. Number (pos n)) (places_from (length before) (chosen ∷ mask))) t = elim [ true ↦ (λ i. first i ∷ rest i) | false ↦ rest ] in
+    by b
+
+pub selected_is_gathered : (xs : List Slot) (mask : List Bool) (t : ArrowType) → length mask ≡ length xs → select mask xs ≡ gather xs (true_places mask) t
+selected_is_gathered xs mask t same = gather_behind [] xs mask t same
+
+-- rows by index of rows by index
+pub gather-gather : (xs is js : List Slot) (t u : ArrowType) → null_slot u ≡ Null → AreKeys (length is) js → gather (gather xs is t) js t ≡ gather xs (gather is js u) t
+gather-gather xs is js t u none keys =
+    map-agree (IsKey (length is)) (gathered (gather xs is t) t) (λ s. gathered xs t (gathered is u s)) (each_index (length is) (λ s. gathered (gather xs is t) t s ≡ gathered xs t (gathered is u s)) (sym (ap (gathered xs t) none)) (λ n within. ap (λ o. unwrap_or o (null_slot t)) (slice_get-map (gathered xs t) is n ∙ ap (option_map (gathered xs t)) (slice_get-get_or is n Null within)) ∙ sym (ap (λ o. gathered xs t (unwrap_or o (null_slot u))) (slice_get-get_or is n Null within)))) js keys ∙ sym (map-map (gathered xs t) (gathered is u) js)
+
+pub joined-associative : (l m r : List Slot) → joined (joined (l ∷ m ∷ []) ∷ r ∷ []) ≡ joined (l ∷ joined (m ∷ r ∷ []) ∷ [])
+joined-associative l m r =
+    let right = ap (λ ys. l ++ ys) (append-nil (m ++ (r ++ [])) ∙ ap (λ ys. m ++ ys) (append-nil r)) in
+    (λ i. (l ++ append-nil m i) ++ append-nil r i) ∙ (append_assoc l m r ∙ sym right)
+
+pub joined-cut : (xs : List Slot) (at : ℕ) → at ≤ length xs → joined (sliced xs 0 at ∷ sliced xs at (length xs - at) ∷ []) ≡ xs
+joined-cut xs at within =
+    let rest = append-nil (sliced xs at (length xs - at)) ∙ take_all (length xs - at) (drop at xs) (omega (arith, length-drop at xs)) in
+    ap (λ ys. take at xs ++ ys) rest ∙ take-append-drop at xs

@@ -1,0 +1,227 @@
+-- Structs by index: each column by index, under the validity by index.
+use Rattle.std.proofs.Common.{arith, ◌≡◌, ◌+◌, ℕ, zero, suc, ◌<◌, ◌^◌, pos, Bool, true, false, Option, Some, None, List, [], ◌∷◌, ◌++◌, Result, Ok, Err, inl, inr, length, map, take, get_or, replicate, if◌then◌else◌, refl, ap, sym, subst, ◌∙◌}
+use Rattle.std.specs.Prelude.{IfOk, slice_index_or, unwrap_or}
+use Rattle.std.specs.List.{All}
+use Rattle.std.proofs.lemmas.List.{get_or-map, length-map, map-append}
+use Rattle.std.proofs.lemmas.List.Elements.{All-map}
+use Rattle.std.proofs.lemmas.Option.{get_or_from_slice_get, slice_get-get_or, slice_get_read, slice_get_within}
+use Rattle.std.proofs.lemmas.Simd.{map-map}
+use Rattle.arrow_types.specs.declared.error.Error.{Error}
+use Rattle.arrow_types.proofs.FitsLemmas.{Fits-nil}
+use Rattle.arrow_types.proofs.RowsLemmas.{take_at_read}
+use Rattle.arrow_types.specs.ArrowType.{ArrowType, null, plain}
+use Rattle.arrow_types.specs.Fits.{Fits, part_in, slot_or}
+use Rattle.arrow_types.specs.Rows.{gather, gathered, masked, valid_at}
+use Rattle.arrow_types.specs.Slot.{Slot, Slots, Null, Number, Parts as fields, more_slots, no_slots, null_slot, to_slots}
+use Rattle.arrow_flat.specs.Parts.{FitsRows}
+use Rattle.arrow_arrays.specs.Any.{any_array_rows, any_array_type, layout_of}
+use Rattle.arrow_arrays.specs.KeyedParts.{AreKeys, IsKey}
+use Rattle.arrow_arrays.specs.Layout.{across, column_length, columns_of, rows, stacked, struct_items, to_layouts, type_of_layout}
+use Rattle.arrow_arrays.specs.StructParts.{FitsColumns, HaveRows, IsStruct, StructParts, row_count, row_of, struct_rows}
+use Rattle.arrow_arrays.specs.declared.array.any.AnyArray.{AnyArray}
+use Rattle.arrow_arrays.proofs.StructLemmas.{columns_of-to_layouts, length-struct_rows, struct_row_null, struct_row_valid}
+use Rattle.arrow_arrays.proofs.ShapeLemmas.{shape_of}
+use Rattle.arrow_growable.specs.Form.{child_type, child_types}
+use Rattle.arrow_growable.proofs.ColumnLemmas.{column_fits, field_column, fits_fields, struct_child_types}
+use Rattle.arrow_select.specs.Taken.{HasTake, MarksTaken, MayTake, SomeDoNotFit, is_taken_valid, taken_rows, valid_index}
+use Rattle.arrow_select.proofs.TakenTypes.{struct_take}
+use Rattle.arrow_select.proofs.IndexLemmas.{Stores, each_index, fits_taken, length-gather, map-agree, named_valid, null_is_none, rows_taken}
+
+-- an array without rows fits its type
+pub fits_none : (r : Result AnyArray Error) → IfOk r (λ a. any_array_rows a ≡ []) → IfOk r (λ a. Fits (any_array_type a) (any_array_rows a))
+fits_none (Ok a) none = subst (Fits (any_array_type a)) (sym none) (Fits-nil (any_array_type a))
+fits_none (Err e) none = tt
+
+-- arrays that are made one by one of others
+pub makes_next : {A : Type 0} (f h : AnyArray → A) (done whole : List AnyArray) (x item : AnyArray) (i : ℕ) → i < length whole → item ≡ get_or whole i item → f x ≡ h item → map f done ≡ map h (take i whole) → map f (done ++ x ∷ []) ≡ map h (take (i + 1) whole)
+makes_next f h done whole x item i within is same so_far =
+    let next = take_at_read whole i item (slice_get_read whole (length whole) i item refl within is) in
+    map-append f done (x ∷ []) ∙ ((λ j. so_far j ++ same j ∷ []) ∙ (sym (map-append h (take i whole) (item ∷ [])) ∙ ap (map h) (sym next)))
+
+-- columns of so many rows, read across
+stacked-map : (a : Slot → Slot) (b : Slot → Slots) (indices : List Slot) → stacked (map a indices) (map b indices) ≡ map (λ s. more_slots (a s) (b s)) indices
+stacked-map a b [] = refl
+stacked-map a b (s ∷ indices) = ap (λ rs. more_slots (a s) (b s) ∷ rs) (stacked-map a b indices)
+
+no_columns : (indices : List Slot) → replicate (length indices) no_slots ≡ map (λ s. no_slots) indices
+no_columns [] = refl
+no_columns (s ∷ indices) = ap (λ rs. no_slots ∷ rs) (no_columns indices)
+
+across-map : {A : Type 0} (h : A → Slot → Slot) (columns : List A) (indices : List Slot) → across (length indices) (map (λ c. map (h c) indices) columns) ≡ map (λ s. to_slots (map (λ c. h c s) columns)) indices
+across-map h [] indices = no_columns indices
+across-map h (c ∷ columns) indices =
+    ap (stacked (map (h c) indices)) (across-map h columns indices) ∙ stacked-map (h c) (λ s. to_slots (map (λ d. h d s) columns)) indices
+
+-- the rows of structs whose columns are by index
+items-map : {A : Type 0} (h : A → Slot → Slot) (columns : List A) (indices : List Slot) → 0 < length columns → struct_items (map (λ c. map (h c) indices) columns) ≡ map (λ s. fields (to_slots (map (λ c. h c s) columns))) indices
+items-map h [] indices some = absurd (omega (arith, some))
+items-map h (c ∷ columns) indices some =
+    ap (λ n. map fields (across n (map (λ d. map (h d) indices) (c ∷ columns)))) (length-map indices (h c)) ∙ (ap (map fields) (across-map h (c ∷ columns) indices) ∙ map-map fields (λ s. to_slots (map (λ d. h d s) (c ∷ columns))) indices)
+
+-- what a row of a struct has in a column
+part_at : (ss : List Slot) (f : ℕ) → slot_or Null (to_slots ss) f ≡ get_or ss f Null
+part_at [] f = refl
+part_at (s ∷ ss) zero = refl
+part_at (s ∷ ss) (suc f) = part_at ss f
+
+-- an index whose row is valid, or a null one, is an index
+valid_key : (count : ℕ) (s : Slot) (b : Bool) → IsKey count s → IsKey count (if b then s else Null)
+valid_key count s true key = key
+valid_key count s false key = tt
+
+valid_keys : (v : Option (List Bool)) (count : ℕ) (indices : List Slot) → AreKeys count indices → AreKeys count (map (valid_index v) indices)
+valid_keys v count indices keys =
+    All-map (IsKey count) (valid_index v) indices (λ k d within. valid_key count (get_or indices k d) (is_taken_valid v (get_or indices k d)) (keys k d within))
+
+-- what holds of each that a function gives
+all_of : {A B : Type 0} (P : B → Type 0) (f : A → B) (xs : List A) → All P (map f xs) → All (λ x. P (f x)) xs
+all_of P f xs all =
+    λ k d within. subst P (get_or-map f xs k d (f d) within) (all k (f d) (omega (arith, within, length-map xs f)))
+
+first_long : (columns : List (List Slot)) (n : ℕ) → 0 < length columns → All (λ c. length c ≡ n) columns → column_length columns ≡ n
+first_long [] n some all = absurd (omega (arith, some))
+first_long (c ∷ columns) n some all = all 0 c (omega arith)
+
+-- one of them
+some_member : (columns : List AnyArray) → 0 < length columns → AnyArray
+some_member [] some = absurd (omega (arith, some))
+some_member (c ∷ columns) some = c
+
+-- structs, each of whose fields is taken by the indices whose row is valid
+module _ (p : StructParts) (columns : List AnyArray) (held : IsStruct p) (children : map layout_of columns ≡ p.children) (none : null_slot p.arrow_type ≡ Null) (indices : List Slot) (keys : AreKeys (length (struct_rows p)) indices) where
+  abbrev v : Option (List Bool)
+  v = p.validity
+
+  abbrev count : ℕ
+  count = row_count p.children
+
+  -- the row of a column that an index names
+  abbrev by_index : AnyArray → Slot → Slot
+  by_index c s = gathered (any_array_rows c) (any_array_type c) (valid_index v s)
+
+  long : length (struct_rows p) ≡ count
+  long = length-struct_rows p held
+
+  some : 0 < length columns
+  some = omega (arith, held.some, length-map columns layout_of, ap length children)
+
+  column_long : (k : ℕ) (d : AnyArray) → k < length columns → length (any_array_rows (get_or columns k d)) ≡ count
+  column_long k d within =
+      let among : k < length p.children = omega (arith, within, length-map columns layout_of, ap length children) in
+      let here : get_or p.children k (layout_of d) ≡ layout_of (get_or columns k d) = ap (λ ls. get_or ls k (layout_of d)) (sym children) ∙ get_or-map layout_of columns k d (layout_of d) within in
+      ap (λ l. length (rows l)) (sym here) ∙ held.fits.0 k (layout_of d) among
+
+  -- the same array without a validity
+  abbrev bare : StructParts
+  bare = record { arrow_type = p.arrow_type; validity = None; children = p.children }
+
+  bare_held : IsStruct bare
+  bare_held =
+      record { kind = held.kind; children = held.children; some = held.some; fits = (held.fits.0, tt) }
+
+  abbrev stored : Slot → Slot
+  stored s = fields (to_slots (map (λ c. by_index c s) columns))
+
+  -- an index of a valid row is itself
+  index_stays : (n : ℕ) → n < count → valid_at v n ≡ true → valid_index v (Number (pos n)) ≡ Number (pos n)
+  index_stays n within valid =
+      ap (λ b. if b then Number (pos n) else Null) (sym (named_valid v n count held.fits.1 within) ∙ valid)
+
+  index_null : (n : ℕ) → n < count → valid_at v n ≡ false → valid_index v (Number (pos n)) ≡ Null
+  index_null n within unset =
+      ap (λ b. if b then Number (pos n) else Null) (sym (named_valid v n count held.fits.1 within) ∙ unset)
+
+  -- what a column has at a place
+  read_column : (n : ℕ) → n < count → (k : ℕ) (d : AnyArray) → k < length columns → gathered (any_array_rows (get_or columns k d)) (any_array_type (get_or columns k d)) (Number (pos n)) ≡ slice_index_or (any_array_rows (get_or columns k d)) n Null
+  read_column n within k d among =
+      ap (λ o. unwrap_or o (null_slot (any_array_type (get_or columns k d)))) (slice_get-get_or (any_array_rows (get_or columns k d)) n Null (omega (arith, within, column_long k d among)))
+
+  row_stored : (n : ℕ) → n < count → valid_at v n ≡ true → row_of n p.children ≡ stored (Number (pos n))
+  row_stored n within valid =
+      let stays = ap (λ s. fields (to_slots (map (λ c. gathered (any_array_rows c) (any_array_type c) s) columns))) (index_stays n within valid) in
+      let each = map-agree (λ c. gathered (any_array_rows c) (any_array_type c) (Number (pos n)) ≡ slice_index_or (any_array_rows c) n Null) (λ c. slice_index_or (any_array_rows c) n Null) (λ c. gathered (any_array_rows c) (any_array_type c) (Number (pos n))) (λ c is. sym is) columns (read_column n within) in
+      ap (λ ls. fields (to_slots (map (λ l. slice_index_or (rows l) n Null) ls))) (sym children) ∙ (ap (λ ss. fields (to_slots ss)) (map-map (λ l. slice_index_or (rows l) n Null) layout_of columns ∙ each) ∙ sym stays)
+
+  stores : Stores v (struct_rows bare) stored
+  stores =
+      λ n within valid.
+      let among : n < count = omega (arith, within, length-struct_rows bare bare_held) in
+      slice_get-get_or (struct_rows bare) n Null within ∙ ap Some (struct_row_valid bare n bare_held among refl ∙ row_stored n among valid)
+
+  -- columns by index
+  columns_by_index : (taken : List AnyArray) → map any_array_rows taken ≡ map (taken_rows (map (valid_index v) indices)) columns → columns_of (to_layouts (map layout_of taken)) ≡ map (λ c. map (by_index c) indices) columns
+  columns_by_index taken are =
+      columns_of-to_layouts (map layout_of taken) ∙ (map-map rows layout_of taken ∙ (are ∙ map-agree (λ c. Unit {0}) (taken_rows (map (valid_index v) indices)) (λ c. map (by_index c) indices) (λ c u. map-map (gathered (any_array_rows c) (any_array_type c)) (valid_index v) indices) columns (λ k d within. tt)))
+
+  -- the structs by index
+  pub fields_taken : (taken : List AnyArray) (validity : Option (List Bool)) → map any_array_rows taken ≡ map (taken_rows (map (valid_index v) indices)) columns → MarksTaken v indices validity → masked validity (struct_items (columns_of (to_layouts (map layout_of taken)))) ≡ gather (struct_rows p) indices p.arrow_type
+  fields_taken taken validity are marks =
+      let bare_long = length-struct_rows bare bare_held in
+      ap (λ cs. masked validity (struct_items cs)) (columns_by_index taken are) ∙ (ap (masked validity) (items-map by_index columns indices some) ∙ rows_taken (struct_rows bare) p.arrow_type stored none v validity indices (subst (FitsRows v) (sym bare_long) held.fits.1) stores (subst (λ n. AreKeys n indices) (long ∙ sym bare_long) keys) marks)
+
+  -- what rows by index have in a column
+  part_stored : (u : ArrowType) (f : ℕ) (d : AnyArray) → f < length columns → any_array_type (get_or columns f d) ≡ u → (n : ℕ) → n < count → (b : Bool) → valid_at v n ≡ b → part_in f u (get_or (struct_rows p) n Null) ≡ by_index (get_or columns f d) (Number (pos n))
+  part_stored u f d has is n within true valid =
+      ap (part_in f u) (struct_row_valid p n held within valid ∙ row_stored n within valid) ∙ (part_at (map (λ c. by_index c (Number (pos n))) columns) f ∙ get_or-map (λ c. by_index c (Number (pos n))) columns f d Null has)
+  part_stored u f d has is n within false unset =
+      ap (part_in f u) (struct_row_null p n held within unset) ∙ (ap null_slot (sym is) ∙ sym (ap (gathered (any_array_rows (get_or columns f d)) (any_array_type (get_or columns f d))) (index_null n within unset)))
+
+  part_taken : (u : ArrowType) (f : ℕ) (d : AnyArray) → f < length columns → any_array_type (get_or columns f d) ≡ u → (s : Slot) → IsKey (length (struct_rows p)) s → part_in f u (gathered (struct_rows p) p.arrow_type s) ≡ by_index (get_or columns f d) s
+  part_taken u f d has is =
+      each_index (length (struct_rows p)) (λ s. part_in f u (gathered (struct_rows p) p.arrow_type s) ≡ by_index (get_or columns f d) s) (ap (part_in f u) none ∙ (ap null_slot (sym is) ∙ sym (ap (gathered (any_array_rows (get_or columns f d)) (any_array_type (get_or columns f d))) (ap (λ b. if b then Null else Null) (null_is_none v))))) (λ n within. ap (λ o. part_in f u (unwrap_or o (null_slot p.arrow_type))) (slice_get-get_or (struct_rows p) n Null within) ∙ part_stored u f d has is n (omega (arith, within, long)) (valid_at v n) refl)
+
+  pub column_taken : (u : ArrowType) (f : ℕ) (d : AnyArray) → f < length columns → any_array_type (get_or columns f d) ≡ u → map (part_in f u) (gather (struct_rows p) indices p.arrow_type) ≡ taken_rows (map (valid_index v) indices) (get_or columns f d)
+  column_taken u f d has is =
+      map-map (part_in f u) (gathered (struct_rows p) p.arrow_type) indices ∙ (map-agree (IsKey (length (struct_rows p))) _ _ (part_taken u f d has is) indices keys ∙ sym (map-map (gathered (any_array_rows (get_or columns f d)) (any_array_type (get_or columns f d))) (valid_index v) indices))
+
+  -- the type of each column is that of its field
+  column_type : (f : ℕ) (d : AnyArray) → f < length columns → any_array_type (get_or columns f d) ≡ child_type p.arrow_type f
+  column_type f d has =
+      let kind = struct_child_types p.arrow_type (ap shape_of held.kind.1) in
+      let types : map any_array_type columns ≡ child_types p.arrow_type = sym (map-map type_of_layout layout_of columns) ∙ (ap (map type_of_layout) children ∙ (held.children ∙ sym kind)) in
+      sym (get_or-map any_array_type columns f d (plain null) has) ∙ ap (λ ts. slice_index_or ts f (plain null)) types
+
+  as_many : length (child_types p.arrow_type) ≡ length columns
+  as_many =
+      ap length (struct_child_types p.arrow_type (ap shape_of held.kind.1) ∙ sym held.children) ∙ (length-map p.children type_of_layout ∙ (ap length (sym children) ∙ length-map columns layout_of))
+
+  -- they fit where each column does
+  pub fields_fit : length indices < 2 ^ 64 → All (λ c. Fits (any_array_type c) (taken_rows (map (valid_index v) indices) c)) columns → Fits p.arrow_type (gather (struct_rows p) indices p.arrow_type)
+  fields_fit counted each =
+      let d = some_member columns some in
+      fits_fields p.arrow_type (gather (struct_rows p) indices p.arrow_type) held.kind.1 (omega (arith, counted, length-map indices (gathered (struct_rows p) p.arrow_type))) (λ f has.
+      let here : f < length columns = omega (arith, has, as_many) in
+      let is = column_type f d here in
+      subst (Fits (child_type p.arrow_type f)) (sym (field_column p.arrow_type f (gather (struct_rows p) indices p.arrow_type) held.kind.1 ∙ column_taken (child_type p.arrow_type f) f d here is)) (subst (λ t. Fits t (taken_rows (map (valid_index v) indices) (get_or columns f d))) is (each f d here)))
+
+  -- and each column does where they do
+  pub fields_pass : SomeDoNotFit (map (valid_index v) indices) columns → Fits p.arrow_type (gather (struct_rows p) indices p.arrow_type) → ⊥
+  fields_pass (k, c, read, over) fits =
+      let has = slice_get_within columns k c read in
+      let at = get_or_from_slice_get columns k c c read in
+      let is = column_type k c has in
+      let column = column_fits p.arrow_type k (gather (struct_rows p) indices p.arrow_type) (omega (arith, has, as_many)) fits in
+      let here = subst (Fits (child_type p.arrow_type k)) (field_column p.arrow_type k (gather (struct_rows p) indices p.arrow_type) held.kind.1 ∙ column_taken (child_type p.arrow_type k) k c has is) column in
+      over (subst (λ e. Fits (any_array_type e) (taken_rows (map (valid_index v) indices) e)) at (subst (λ t. Fits t (taken_rows (map (valid_index v) indices) (get_or columns k c))) (sym is) here))
+
+  -- the indices whose row is valid name rows of each column
+  pub columns_inside : All (λ c. AreKeys (length (any_array_rows c)) (map (valid_index v) indices)) columns
+  columns_inside =
+      λ k d within. subst (λ n. AreKeys n (map (valid_index v) indices)) (long ∙ sym (column_long k d within)) (valid_keys v (length (struct_rows p)) indices keys)
+
+  -- and each column has rows by index where the struct has
+  pub columns_may : MayTake p.arrow_type indices → All (λ c. MayTake (any_array_type c) (map (valid_index v) indices)) columns
+  columns_may (inl none) = λ k d within. inl (ap (map (valid_index v)) none)
+  columns_may (inr has) =
+      let each = subst (All HasTake) (sym (struct_child_types p.arrow_type (ap shape_of held.kind.1))) ((struct_take p.arrow_type held.kind.1).0 has) in
+      λ k d within. inr (subst HasTake (sym (column_type k d within)) (each k (plain null) (omega (arith, within, as_many))))
+
+  -- the columns by index are of one length
+  pub taken_fits : (taken : List AnyArray) (validity : Option (List Bool)) → map any_array_rows taken ≡ map (taken_rows (map (valid_index v) indices)) columns → MarksTaken v indices validity → FitsColumns (map layout_of taken) validity
+  taken_fits taken validity are marks =
+      let each = All-map (λ c. length c ≡ length indices) (taken_rows (map (valid_index v) indices)) columns (λ k d within. length-gather (any_array_rows (get_or columns k d)) (map (valid_index v) indices) (any_array_type (get_or columns k d)) ∙ length-map indices (valid_index v)) in
+      let same = map-map rows layout_of taken ∙ are in
+      let all = subst (All (λ c. length c ≡ length indices)) (sym same) each in
+      let enough : 0 < length (map rows (map layout_of taken)) = omega (arith, ap length same, length-map columns (taken_rows (map (valid_index v) indices)), some) in
+      let count = first_long (map rows (map layout_of taken)) (length indices) enough all in
+      (subst (λ n. HaveRows n (map layout_of taken)) (sym count) (all_of (λ c. length c ≡ length indices) rows (map layout_of taken) all), subst (FitsRows validity) (sym count) (fits_taken v validity indices marks))

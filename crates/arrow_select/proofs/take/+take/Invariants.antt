@@ -1,0 +1,28 @@
+use Rattle.std.proofs.Common.{◌≡◌, ◌+◌, ◌*◌, map, take}
+use Rattle.std.specs.List.{All}
+use Rattle.arrow_types.specs.Fits.{Fits}
+use Rattle.arrow_arrays.specs.Any.{any_array_rows, any_array_type, layout_of}
+use Rattle.arrow_arrays.specs.Layout.{depth, depth_of_all, to_layouts}
+use Rattle.arrow_arrays.specs.StructParts.{struct_layout}
+use Rattle.arrow_flat.specs.Parts.{rows_by}
+use Rattle.arrow_select.specs.Taken.{taken_rows}
+use Rattle.arrow_select.proofs.take.+take.Given as goal
+
+-- each call goes to a less deep array, or comes nearer to one
+
+abbrev pub decreases-any::take_any : goal.decreases-any::take_any
+decreases-any::take_any g l = 3 * depth (layout_of l.values.now) + 1
+
+abbrev pub decreases-structure::take_struct : goal.decreases-structure::take_struct
+decreases-structure::take_struct g l = 3 * depth (struct_layout l.values.now)
+
+abbrev pub decreases-structure::take_fields : goal.decreases-structure::take_fields
+decreases-structure::take_fields g l = 3 * depth_of_all (to_layouts (map layout_of l.fields.now)) + 2
+
+-- the rows of the fields so far
+abbrev pub invariant-structure::take_fields-loop-field : goal.invariant-structure::take_fields-loop-field
+invariant-structure::take_fields-loop-field g l = record {
+  types : map any_array_type l.taken.items ≡ map any_array_type (take l.field-index l.fields);
+  rows : map any_array_rows l.taken.items ≡ map (taken_rows (rows_by (map g.I.NativeType.slot) l.indices)) (take l.field-index l.fields);
+  fits : All (λ field. Fits (any_array_type field) (taken_rows (rows_by (map g.I.NativeType.slot) l.indices) field)) (take l.field-index l.fields);
+}

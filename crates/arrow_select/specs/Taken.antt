@@ -1,0 +1,140 @@
+-- Rows by index: which types have them, and what private functions keep of them.
+use Rattle.std.specs.Prelude.{◌≡◌, ◌≢◌, ◌⊎◌, ℕ, ◌+◌, ◌-◌, pos, Bool, false, not, Option, None, Some, List, [], ◌∷◌, map, replicate, slice_get, slice_index, slice_index_or, unwrap_or, if◌then◌else◌}
+use Rattle.std.specs.List.{All, range_with_len}
+use Rattle.arrow_types.specs.declared.error.Error.{Error}
+use Rattle.arrow_types.specs.declared.error.Error.TheVariants.{NotYetImplemented}
+use Rattle.arrow_types.specs.declared.error.Unsupported.TheVariants.{Take}
+use Rattle.arrow_types.specs.ArrowType.{ArrowType, ArrowFields, PlainType, ListForm, plain, list, struct, union, dictionary, extension, field, no_fields, more_fields, float16, float32, float64, fixed_size_binary, decimal256, mapped}
+use Rattle.arrow_types.specs.Carried.{IsCarried}
+use Rattle.arrow_types.specs.Fits.{Fits}
+use Rattle.arrow_types.specs.Relation.{is_null}
+use Rattle.arrow_types.specs.Rows.{gather, valid_at}
+use Rattle.arrow_types.specs.Slot.{Slot, Null, Number}
+use Rattle.arrow_memory.specs.Grown.{IsGrowthError}
+use Rattle.arrow_memory.specs.Sliced.{sliced}
+use Rattle.arrow_flat.specs.Parts.{IsValue}
+use Rattle.arrow_arrays.specs.Any.{any_array_type, any_array_rows}
+use Rattle.arrow_arrays.specs.declared.array.any.AnyArray.{AnyArray}
+use Rattle.arrow_arrays.specs.KeyedParts.{key_in}
+
+-- types of which there are rows by index: all but maps, unions and bytes of a fixed size, and structs that have a field of these
+abbrev pub HasTakePlain : PlainType → Type 0
+HasTakePlain (fixed_size_binary size) = ⊥
+HasTakePlain _ = Unit {0}
+
+abbrev pub HasTakeForm : ListForm → Type 0
+HasTakeForm (mapped sorted) = ⊥
+HasTakeForm _ = Unit {0}
+
+abbrev mutual
+  pub HasTake : ArrowType → Type 0
+  HasTake (plain p) = HasTakePlain p
+  HasTake (list form f) = HasTakeForm form
+  HasTake (struct fs) = HaveTake fs
+  HasTake (union mode ids fs) = ⊥
+  HasTake (dictionary keys ordered t) = Unit {0}
+  HasTake (extension name metadata t) = HasTake t
+
+  -- of all fields
+  pub HaveTake : ArrowFields → Type 0
+  HaveTake no_fields = Unit {0}
+  HaveTake (more_fields (field name t nullable) fs) = HasTake t × HaveTake fs
+
+-- the types of which `can_take` says so: extensions are not looked through, and decimals of 256 bits are not among them
+abbrev pub IsTakenPlain : PlainType → Type 0
+IsTakenPlain float16 = ⊥
+IsTakenPlain float32 = ⊥
+IsTakenPlain float64 = ⊥
+IsTakenPlain (fixed_size_binary size) = ⊥
+IsTakenPlain (decimal256 precision scale) = ⊥
+IsTakenPlain _ = Unit {0}
+
+abbrev mutual
+  pub IsTaken : ArrowType → Type 0
+  IsTaken (plain p) = IsTakenPlain p
+  IsTaken (list form f) = HasTakeForm form
+  IsTaken (struct fs) = AreTaken fs
+  IsTaken (union mode ids fs) = ⊥
+  IsTaken (dictionary keys ordered t) = Unit {0}
+  IsTaken (extension name metadata t) = ⊥
+
+  -- of all fields
+  pub AreTaken : ArrowFields → Type 0
+  AreTaken no_fields = Unit {0}
+  AreTaken (more_fields (field name t nullable) fs) = IsTaken t × AreTaken fs
+
+-- the place that an index names, and 0 where it is null
+abbrev pub place_in : Slot → ℕ
+place_in index = unwrap_or (key_in index) 0
+
+-- what stands at that place
+abbrev pub picked : {A : Type 0} → List A → A → Slot → A
+picked xs spare index = slice_index_or xs (place_in index) spare
+
+-- whether the bit is set that an index names; a null index names none
+abbrev pub named_bit : List Bool → Slot → Bool
+named_bit bits (Number (pos n)) = slice_index_or bits n false
+named_bit bits _ = false
+
+-- whether a row by index is valid: the index is, and so is the row that it names
+abbrev pub is_taken_valid : Option (List Bool) → Slot → Bool
+is_taken_valid None index = not (is_null index)
+is_taken_valid (Some validity) index = named_bit validity index
+
+-- the validity of rows by index: none where no row and no index is null
+abbrev pub MarksTaken : Option (List Bool) → List Slot → Option (List Bool) → Type 0
+MarksTaken validity indices None = (validity ≡ None) × All IsValue indices
+MarksTaken validity indices (Some bits) = bits ≡ map (is_taken_valid validity) indices
+
+-- an index whose row is valid, and else a null one
+abbrev pub valid_index : Option (List Bool) → Slot → Slot
+valid_index validity index = if is_taken_valid validity index then index else Null
+
+-- where the bytes of a row lie: nowhere where it is null, or there is none
+abbrev pub span_of : Option (List Bool) → List ℕ → Option ℕ → ℕ × ℕ
+span_of validity offsets None = (0, 0)
+span_of validity offsets (Some n) = if valid_at validity n then (slice_index offsets n, slice_index offsets (n + 1)) else (0, 0)
+
+-- how many bytes the row has that an index names
+abbrev pub span_length : Option (List Bool) → List ℕ → Slot → ℕ
+span_length validity offsets index =
+    (span_of validity offsets (key_in index)).1 - (span_of validity offsets (key_in index)).0
+
+-- and its bytes
+abbrev pub taken_bytes : Option (List Bool) → List ℕ → List ℕ → Slot → List ℕ
+taken_bytes validity offsets bytes index =
+    sliced bytes (span_of validity offsets (key_in index)).0 (span_length validity offsets index)
+
+-- where rows of such lengths end, of which the first begins at a place
+abbrev pub ends_from : ℕ → List ℕ → List ℕ
+ends_from place [] = []
+ends_from place (n ∷ lengths) = (place + n) ∷ ends_from (place + n) lengths
+
+-- indices that name so many rows from one on, or as many nulls
+abbrev pub run_of : Option ℕ → ℕ → List Slot
+run_of None len = replicate len Null
+run_of (Some start) len = map (λ n. Number (pos n)) (range_with_len start len)
+
+-- rows by index of a column, and that those of some column do not fit
+abbrev pub taken_rows : List Slot → AnyArray → List Slot
+taken_rows indices column = gather (any_array_rows column) indices (any_array_type column)
+
+abbrev pub SomeDoNotFit : List Slot → List AnyArray → Type 0
+SomeDoNotFit indices columns =
+    (k : ℕ) × (c : AnyArray) × (slice_get columns k ≡ Some c) × (Fits (any_array_type c) (taken_rows indices c) → ⊥)
+
+-- rows that are asked for of a type that has none by index, and any others
+abbrev pub IsNotTaken : ArrowType → List Slot → Type 0
+IsNotTaken t indices = (HasTake t → ⊥) × (indices ≢ [])
+
+abbrev pub MayTake : ArrowType → List Slot → Type 0
+MayTake t indices = (indices ≡ []) ⊎ HasTake t
+
+-- an error that `take` may answer
+abbrev pub IsTakeRefusal : Error → Type 0
+IsTakeRefusal (NotYetImplemented Take) = Unit {0}
+IsTakeRefusal e = IsGrowthError e
+
+-- a type whose arrays have rows by index, as `can_take` says
+abbrev pub CanTake : ArrowType → Type 0
+CanTake t = IsCarried t × IsTaken t

@@ -1,0 +1,127 @@
+//! Texts and bytes by index: where the rows end first, and then the bytes, for which there is room.
+
+ghost use Rattle.std.specs.Prelude.{◌≡◌, ◌+◌, ◌-◌, ◌<◌, ◌≤◌, ◌∷◌, Err, length, map, slice_index_or, option_copied, sum, IfOk, IfErr, IfSome, IsOkUnless};
+ghost use Rattle.std.specs.List.{concat};
+ghost use Rattle.arrow_types.specs.declared.error.Error.{Error};
+ghost use Rattle.arrow_types.specs.Fits.{Fits};
+ghost use Rattle.arrow_types.specs.Rows.{gather, masked};
+ghost use Rattle.arrow_types.specs.Slot.{Null};
+ghost use Rattle.arrow_memory.specs.Grown.{IsGrowthError};
+ghost use Rattle.arrow_memory.specs.Offsets.{last_of};
+ghost use Rattle.arrow_flat.specs.ByteRows.{byte_slots};
+ghost use Rattle.arrow_flat.specs.Parts.{FitsRows, rows_by};
+ghost use Rattle.arrow_arrays.specs.KeyedParts.{AreKeys, key_in};
+ghost use Rattle.arrow_select.specs.Taken.{ends_from, span_length, span_of, taken_bytes};
+
+use crate::take::indices::{index_at, is_valid, take_validity};
+use arrow_flat::array::{ByteKind, ByteRows, FlatArray, PrimitiveArray};
+use arrow_flat_growable::growable::GrowableKind;
+use arrow_memory::bitmap::Bitmap;
+use arrow_memory::buffer::Buffer;
+use arrow_memory::offset::{Offsets, OffsetsBuffer};
+use arrow_types::error::Error;
+use arrow_types::types::{Index, Offset};
+use std::alloc::Global;
+
+/// The rows that the indices name, in their order, and null where an index is null, whatever lies beneath it.
+///
+/// # Requires
+/// Each index that is not null is that of a row.
+///
+/// # Errors
+/// `Overflow` where the rows do not fit the type, `OutOfMemory` where memory is refused.
+pub(super) fn take_bytes<O: Offset, K: GrowableKind, I: Index>(
+    alloc: Global,
+    values: &FlatArray<ByteRows<O, K>>,
+    indices: &PrimitiveArray<I>,
+) -> Result<FlatArray<ByteRows<O, K>>, Error>
+    requires inside { AreKeys (length (rows_by (byte_slots K.slot) values.now)) (rows_by (map I.slot) indices.now) }
+    ensures array_type { IfOk result (λ taken. taken.arrow_type ≡ values.now.arrow_type) }
+    ensures rows { IfOk result (λ taken. rows_by (byte_slots K.slot) taken ≡ gather (rows_by (byte_slots K.slot) values.now) (rows_by (map I.slot) indices.now) values.now.arrow_type) }
+    ensures fits { IfOk result (λ taken. Fits taken.arrow_type (rows_by (byte_slots K.slot) taken)) }
+    ensures overflow { result ≡ Err Error.Overflow → Fits values.now.arrow_type (gather (rows_by (byte_slots K.slot) values.now) (rows_by (map I.slot) indices.now) values.now.arrow_type) → ⊥ }
+    ensures others { IfErr result IsGrowthError }
+{
+    // There are as many rows as a `usize` counts, and the rows lie in the values as the type and the offsets say.
+    let (_, _) = (indices.len(), values.offsets().len());
+    let _ = values.values();
+    let _ = values.data_type();
+    let validity = take_validity(alloc, values.validity(), indices)?;
+    let offsets = take_offsets(alloc, values, indices)?;
+    let bytes = take_row_bytes(alloc, values, indices, offsets.last().to_usize())?;
+    let offsets = offsets.into_buffer()?;
+    let bytes = Buffer::from_vec(alloc, bytes)?;
+    let data_type = values.data_type().clone()?;
+    Ok(FlatArray::<ByteRows<O, K>>::new(data_type, offsets, bytes, validity))
+}
+
+/// Where the bytes of the row lie that index `row` names: nowhere where the index or that row is null.
+fn span_at<O: Offset, I: Index>(
+    rows: &OffsetsBuffer<O>,
+    validity: Option<&Bitmap>,
+    stored: &[I],
+    nulls: Option<&Bitmap>,
+    row: usize,
+) -> (usize, usize)
+    requires fits { FitsRows (option_copied validity) (length rows.now - 1) }
+    requires index_fits { FitsRows (option_copied nulls) (length stored.now) }
+    requires within { row < length stored.now }
+    requires inside { AreKeys (length rows.now - 1) (masked (option_copied nulls) (map I.slot stored.now)) }
+    ensures span { result ≡ span_of (option_copied validity.entry) rows.now (key_in (slice_index_or (masked (option_copied nulls.entry) (map I.slot stored.now)) row Null)) }
+    ensures rises { result.0 ≤ result.1 }
+    ensures within { result.1 ≤ last_of rows.now }
+{
+    match index_at(stored, nulls, row) {
+        Some(place) if is_valid(validity, place) => rows.start_end(place),
+        _ => (0, 0),
+    }
+}
+
+/// The offsets of the rows that the indices name.
+///
+/// # Errors
+/// `Overflow` where they have too many bytes, `OutOfMemory` where memory is refused.
+fn take_offsets<O: Offset, K: ByteKind, I: Index>(
+    alloc: Global,
+    values: &FlatArray<ByteRows<O, K>>,
+    indices: &PrimitiveArray<I>,
+) -> Result<Offsets<O>, Error>
+    requires { AreKeys (length values.now.values.offsets - 1) (rows_by (map I.slot) indices.now) }
+    ensures ok { IfOk result (λ offsets. offsets ≡ 0 ∷ ends_from 0 (map (span_length values.now.validity values.now.values.offsets) (rows_by (map I.slot) indices.now))) }
+    ensures overflow { result ≡ Err Error.Overflow → O.greatest < sum (map (span_length values.now.validity values.now.values.offsets) (rows_by (map I.slot) indices.now)) }
+    ensures others { IfErr result IsGrowthError }
+{
+    let (rows, validity) = (values.offsets(), values.validity());
+    let (stored, nulls) = (indices.values().as_slice(), indices.validity());
+    let mut offsets = Offsets::with_capacity(alloc, stored.len())?;
+    for row in 0..stored.len() {
+        let (start, end) = span_at(rows, validity, stored, nulls, row);
+        offsets.try_push_usize(end - start)?;
+    }
+    Ok(offsets)
+}
+
+/// The bytes of the rows that the indices name, one row behind the other, with room for so many from the first on.
+///
+/// # Errors
+/// `OutOfMemory` where memory is refused.
+fn take_row_bytes<O: Offset, K: ByteKind, I: Index>(
+    alloc: Global,
+    values: &FlatArray<ByteRows<O, K>>,
+    indices: &PrimitiveArray<I>,
+    total: usize,
+) -> Result<Vec<u8>, Error>
+    requires { AreKeys (length values.now.values.offsets - 1) (rows_by (map I.slot) indices.now) }
+    ensures ok { IfOk result (λ bytes. bytes.items ≡ concat (map (taken_bytes values.now.validity values.now.values.offsets values.now.values.bytes) (rows_by (map I.slot) indices.now))) }
+    ensures err { IsOkUnless result Error.OutOfMemory }
+{
+    let (rows, validity) = (values.offsets(), values.validity());
+    let from = values.values().as_slice();
+    let (stored, nulls) = (indices.values().as_slice(), indices.validity());
+    let mut bytes = Vec::with_capacity(alloc, total)?;
+    for row in 0..stored.len() {
+        let (start, end) = span_at(rows, validity, stored, nulls, row);
+        bytes.extend_from_slice(&from[start..end])?;
+    }
+    Ok(bytes)
+}

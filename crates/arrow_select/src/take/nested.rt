@@ -1,0 +1,96 @@
+//! Lists by index, of either form: one growable over the one array, to which runs of its rows are appended.
+
+ghost use Rattle.std.specs.Prelude.{◌≡◌, ◌+◌, ◌-◌, ◌<◌, ◌≤◌, [], ◌∷◌, Err, Some, None, slice_index_or, length, map, option_copied, IfOk, IfErr, IfSome, OnOk};
+ghost use Rattle.arrow_types.specs.declared.error.Error.{Error};
+ghost use Rattle.arrow_types.specs.Fits.{Fits};
+ghost use Rattle.arrow_types.specs.Rows.{gather, masked};
+ghost use Rattle.arrow_types.specs.Slot.{Null};
+ghost use Rattle.arrow_memory.specs.Grown.{IsGrowthError};
+ghost use Rattle.arrow_memory.specs.Sliced.{sliced};
+ghost use Rattle.arrow_flat.specs.Parts.{FitsRows, rows_by};
+ghost use Rattle.arrow_arrays.specs.KeyedParts.{AreKeys, key_in};
+ghost use Rattle.arrow_arrays.specs.Layout.{rows, type_of_layout};
+ghost use Rattle.arrow_flat_growable.specs.Grown.{bound_to};
+ghost use Rattle.arrow_growable.specs.Growing.{HasAppended};
+ghost use Rattle.arrow_select.specs.Taken.{run_of};
+
+use crate::take::runs::run_at;
+use arrow_flat::array::PrimitiveArray;
+use arrow_growable::growable::{Growable, GrowableOf, NestedArray};
+use arrow_types::error::Error;
+use arrow_types::types::Index;
+use std::alloc::Global;
+
+/// The rows that the indices name, in their order, and null where an index is null, whatever lies beneath it.
+///
+/// # Requires
+/// There are so many rows, and each index that is not null is that of one.
+///
+/// # Errors
+/// `Overflow` where the rows do not fit the type, `OutOfMemory` where memory is refused.
+pub(super) fn take_nested<A: NestedArray, I: Index>(
+    alloc: Global,
+    values: &A,
+    len: usize,
+    indices: &PrimitiveArray<I>,
+) -> Result<A, Error>
+    requires len { len ≡ length (rows (A.layout_in values.now)) }
+    requires inside { AreKeys len (rows_by (map I.slot) indices.now) }
+    ensures array_type { IfOk result (λ taken. type_of_layout (A.layout_in taken) ≡ type_of_layout (A.layout_in values.now)) }
+    ensures rows { IfOk result (λ taken. rows (A.layout_in taken) ≡ gather (rows (A.layout_in values.now)) (rows_by (map I.slot) indices.now) (type_of_layout (A.layout_in values.now))) }
+    ensures fits { IfOk result (λ taken. Fits (type_of_layout (A.layout_in taken)) (rows (A.layout_in taken))) }
+    ensures overflow { result ≡ Err Error.Overflow → Fits (type_of_layout (A.layout_in values.now)) (gather (rows (A.layout_in values.now)) (rows_by (map I.slot) indices.now) (type_of_layout (A.layout_in values.now))) → ⊥ }
+    ensures others { IfErr result IsGrowthError }
+{
+    let bound = vec![in alloc; values]?;
+    let growable = GrowableOf::new(alloc, bound, false, indices.len())?;
+    grown(growable, values, len, indices)
+}
+
+/// The same, by a growable over the array that has no row yet.
+fn grown<'a, A: NestedArray, I: Index>(
+    growable: GrowableOf<'a, A>,
+    values: &A,
+    len: usize,
+    indices: &PrimitiveArray<I>,
+) -> Result<A, Error>
+    requires bound { growable ≡ bound_to (A.layout_in values.now ∷ []) }
+    requires len { len ≡ length (rows (A.layout_in values.now)) }
+    requires inside { AreKeys len (rows_by (map I.slot) indices.now) }
+    ensures array_type { IfOk result (λ taken. type_of_layout (A.layout_in taken) ≡ type_of_layout (A.layout_in values.now)) }
+    ensures rows { IfOk result (λ taken. rows (A.layout_in taken) ≡ gather (rows (A.layout_in values.now)) (rows_by (map I.slot) indices.now) (type_of_layout (A.layout_in values.now))) }
+    ensures fits { IfOk result (λ taken. Fits (type_of_layout (A.layout_in taken)) (rows (A.layout_in taken))) }
+    ensures overflow { result ≡ Err Error.Overflow → Fits (type_of_layout (A.layout_in values.now)) (gather (rows (A.layout_in values.now)) (rows_by (map I.slot) indices.now) (type_of_layout (A.layout_in values.now))) → ⊥ }
+    ensures others { IfErr result IsGrowthError }
+{
+    let mut growable = growable;
+    append_taken(&mut growable, values, len, indices)?;
+    growable.into_array()
+}
+
+/// Appends the rows that the indices name, a run of them at a time, and null slots where indices are null.
+fn append_taken<'a, A: NestedArray, I: Index>(
+    growable: &mut GrowableOf<'a, A>,
+    values: &A,
+    len: usize,
+    indices: &PrimitiveArray<I>,
+) -> Result<(), Error>
+    requires bound { growable.old ≡ bound_to (A.layout_in values.now ∷ []) }
+    requires len { len ≡ length (rows (A.layout_in values.now)) }
+    requires inside { AreKeys len (rows_by (map I.slot) indices.now) }
+    ensures ok { OnOk result (HasAppended (A.layout_in values.now ∷ []) growable.new (gather (rows (A.layout_in values.now)) (rows_by (map I.slot) indices.now) (type_of_layout (A.layout_in values.now)))) }
+    ensures overflow { result ≡ Err Error.Overflow → Fits (type_of_layout (A.layout_in values.now)) (gather (rows (A.layout_in values.now)) (rows_by (map I.slot) indices.now) (type_of_layout (A.layout_in values.now))) → ⊥ }
+    ensures others { IfErr result IsGrowthError }
+{
+    let (stored, validity) = (indices.values().as_slice(), indices.validity());
+    let mut row = 0;
+    while row < stored.len() {
+        let (place, count) = run_at(stored, validity, row, len);
+        match place {
+            Some(start) => growable.extend(0, start, count)?,
+            None => growable.extend_validity(count)?,
+        }
+        row += count;
+    }
+    Ok(())
+}
