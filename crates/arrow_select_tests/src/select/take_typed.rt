@@ -23,40 +23,41 @@ use std::process::Abort;
 /// The refusal of a type that has no rows by index.
 const NOT_YET: Error = Error::NotYetImplemented(Unsupported::Take);
 
-/// Values of a type by its words, valid at each t.
+/// Those of the values that stand at these places, in an array of a type by its words, valid at each t.
 fn elements_of<T: AnyElement>(
     alloc: Global,
     words: &str,
     values: &[T],
+    places: &[usize],
     marks: &str,
 ) -> Result<Box<AnyArray>, Error> {
-    let stored = Buffer::from_vec(alloc, Vec::from_slice(alloc, values)?)?;
+    let mut stored = Vec::new(alloc);
+    for &place in places {
+        if place < values.len() {
+            stored.push(values[place])?;
+        }
+    }
+    let stored = Buffer::from_vec(alloc, stored)?;
     let array = PrimitiveArray::try_new(read(alloc, words)?, stored, marks_of(alloc, marks)?)?;
     boxed(alloc, AnyArray::Primitive(T::to_any(&array)?))
 }
 
 /// Three values, the second a null one, by index.
-fn check_element<T: AnyElement>(
-    rt: &(impl Abort + Alloc<A = Global>),
-    words: &str,
-    values: [T; 3],
-) {
-    let array = made!(rt; elements_of(rt.alloc(), words, &values, "tft"));
-    let [first, null, last] = values;
-    let values = [last, first, null, last, last];
-    let want = made!(rt; elements_of(rt.alloc(), words, &values, "ttfft"));
+fn check_element<T: AnyElement>(rt: &(impl Abort + Alloc<A = Global>), words: &str, values: &[T]) {
+    let array = made!(rt; elements_of(rt.alloc(), words, values, &[0, 1, 2], "tft"));
+    let want = made!(rt; elements_of(rt.alloc(), words, values, &[2, 0, 1, 2, 2], "ttfft"));
     check_letters(rt, &array, b"20_12", Ok(&want), words);
 }
 
 fn check_integers(rt: &(impl Abort + Alloc<A = Global>)) {
-    check_element(rt, "i8", [i8::MIN, 0, i8::MAX]);
-    check_element(rt, "i16", [i16::MIN, 0, i16::MAX]);
-    check_element(rt, "time32:ms", [i32::MIN, 0, i32::MAX]);
-    check_element(rt, "timestamp:s:UTC", [i64::MIN, 0, i64::MAX]);
-    check_element(rt, "u8", [u8::MAX, 0, 1]);
-    check_element(rt, "u16", [u16::MAX, 0, 1]);
-    check_element(rt, "u32", [u32::MAX, 0, 1]);
-    check_element(rt, "u64", [u64::MAX, 0, 1]);
+    check_element(rt, "i8", &[i8::MIN, 0, i8::MAX]);
+    check_element(rt, "i16", &[i16::MIN, 0, i16::MAX]);
+    check_element(rt, "time32:ms", &[i32::MIN, 0, i32::MAX]);
+    check_element(rt, "timestamp:s:UTC", &[i64::MIN, 0, i64::MAX]);
+    check_element(rt, "u8", &[u8::MAX, 0, 1]);
+    check_element(rt, "u16", &[u16::MAX, 0, 1]);
+    check_element(rt, "u32", &[u32::MAX, 0, 1]);
+    check_element(rt, "u64", &[u64::MAX, 0, 1]);
 }
 
 fn check_wide(rt: &(impl Abort + Alloc<A = Global>)) {
@@ -71,10 +72,10 @@ fn check_wide(rt: &(impl Abort + Alloc<A = Global>)) {
         months_days_ns::new(0, 0, 0),
         months_days_ns::new(1, -2, i64::MAX),
     ];
-    check_element(rt, "decimal:38:2", [i128::MIN, 0, i128::MAX]);
-    check_element(rt, "decimal256:76:2", wide);
-    check_element(rt, "day_time", days);
-    check_element(rt, "month_day_nano", months);
+    check_element(rt, "decimal:38:2", &[i128::MIN, 0, i128::MAX]);
+    check_element(rt, "decimal256:76:2", &wide);
+    check_element(rt, "day_time", &days);
+    check_element(rt, "month_day_nano", &months);
 }
 
 /// Texts or bytes of words, parted by commas. One that begins with `_` is null, and the rest of it lies beneath.
