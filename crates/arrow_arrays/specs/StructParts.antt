@@ -58,6 +58,10 @@ struct_with_bits p validity = record { arrow_type = p.arrow_type; validity = val
 abbrev pub HaveRows : ℕ → List Layout → Type 0
 HaveRows n children = All (λ l. length (rows l) ≡ n) children
 
+-- all are of one length
+abbrev pub AreColumns : List Layout → Type 0
+AreColumns children = HaveRows (row_count children) children
+
 -- all children are of one length, and the validity has a bit for each row
 abbrev pub FitsColumns : List Layout → Option (List Bool) → Type 0
 FitsColumns children validity = HaveRows (row_count children) children × FitsRows validity (row_count children)

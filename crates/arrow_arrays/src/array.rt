@@ -6,13 +6,13 @@ mod dictionary;
 mod fixed_size_list;
 mod list;
 mod map;
-mod struct_;
+pub(crate) mod struct_;
 pub mod types;
 mod union;
 
 pub use any::AnyArray;
 pub use any_rows::{AnyOffset, AnyRows};
-pub use dictionary::{AnyKeys, DictionaryArray};
+pub use dictionary::{AnyKeys, DictionaryArray, are_within};
 pub use fixed_size_list::FixedSizeListArray;
 pub use list::{AnyOffsetsBuffer, ListArray};
 pub use map::MapArray;

@@ -3,3 +3,4 @@
 #![tactic(auto)]
 
 pub mod array;
+pub mod chunk;

@@ -1,6 +1,7 @@
 //! Arrays of every shape alike, and each kind with children.
 
 mod children;
+mod chunks;
 mod dictionaries;
 mod new;
 mod refused;
@@ -39,4 +40,6 @@ fn new_arrays(rt: HostRuntime) {
     new::check_overflow(&rt);
     new::check_unions(&rt);
     new::check_built(&rt);
+    chunks::check_columns(&rt);
+    chunks::check_kept(&rt);
 }

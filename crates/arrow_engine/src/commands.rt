@@ -2,7 +2,7 @@
 
 use crate::answer::{Answer, Refusal};
 use crate::literals::Literal;
-use arrow_arrays::array::AnyArray;
+use arrow_arrays::array::{AnyArray, are_within};
 use arrow_flat::array::AnyPrimitive;
 use arrow_select::{concatenate, filter, take, window};
 use arrow_types::error::Error;
@@ -117,10 +117,10 @@ fn take(alloc: Global, arguments: &[Literal<'_>]) -> Answer {
         return Answer::Refused(Refusal::Usage);
     };
     match array {
-        Literal::Array(array) if take::are_inside(indices, array.as_array().len()) => {
+        Literal::Array(array) if are_within(indices, array.as_array().len()) => {
             Answer::of_kernel(take::take(alloc, array.as_array(), indices))
         }
-        Literal::TooLong(len) if take::are_inside(indices, *len) => Answer::Refused(TOO_LONG),
+        Literal::TooLong(len) if are_within(indices, *len) => Answer::Refused(TOO_LONG),
         _ => Answer::Refused(Refusal::Usage),
     }
 }

@@ -7,12 +7,12 @@ use Rattle.std.proofs.lemmas.Bool.Decides.{nat_tests}
 use Rattle.std.proofs.lemmas.List.{same_lists, length-take, length-drop, get_or-take, get_or-drop, map-id, map-append}
 use Rattle.std.proofs.lemmas.List.Sums.{count_by-le-length, sum_by-append}
 use Rattle.std.proofs.lemmas.List.FromFn.{length-map-range_with_len, get_or-map-range_with_len}
-use Rattle.std.proofs.lemmas.Nat.{shr-shr, shr_le, shl-shr, mod-pow-add, mod_below, field_of, pow_pos, or_shifted, or_comm, one_shl, and_mask, mul-mod_first}
+use Rattle.std.proofs.lemmas.Nat.{shr-shr, shr_le, shl-shr, mod-pow-add, mod_below, field_of, pow_pos, or_shifted, or_comm, mul-mod_first}
 use Rattle.std.proofs.Math.Nat.{pow-le-pow_right, pow-suc, mul-mod_left, mod-eq_of_lt, add-mul-mod_self_left, mul_assoc, mul_comm}
 use Rattle.std.proofs.lemmas.Nat.Bits.{bit_at-lt}
 use Rattle.std.proofs.lemmas.Simd.{ones-mask_l, mask_l-lt}
 use Rattle.arrow_memory.specs.Sliced.{sliced}
-use Rattle.arrow_memory.specs.Words.{is_set, bits_in, word_of, set_count}
+use Rattle.arrow_memory.specs.Words.{is_set, bits_in, low_bits, word_of, set_count}
 
 -- ---- lists of bits
 
@@ -77,6 +77,15 @@ word_of-bits word first (suc n) =
     let lowest : cond (x % 2 == 1) 1 0 ≡ x % 2 = bit_number (x % 2) (bit_at-lt word first) in
     let more : suc n ≡ n + 1 = omega arith in
     rw (more, cut, half, rest, lowest) (omega arith)
+
+-- its lowest bits, and as a number
+pub length-low_bits : (word n : ℕ) → length (low_bits word n) ≡ n
+length-low_bits word n = length-map-range_with_len (λ k. bit_at word k == 1) 0 n
+
+pub word_of-low_bits : (word n : ℕ) → word_of (low_bits word n) ≡ word % 2 ^ n
+word_of-low_bits word n =
+    let whole : word / 1 ≡ word = omega arith in
+    word_of-bits word 0 n ∙ ap (λ x. x % 2 ^ n) whole
 
 in_one_word : (place n k : ℕ) → place % 64 + n ≤ 64 → k < n → ((place + k) / 64 ≡ place / 64) × ((place + k) % 64 ≡ place % 64 + k)
 in_one_word place n k h b = (omega arith, omega arith)
@@ -240,10 +249,8 @@ word_of-low words place n h =
     rw (both, long, add-mul-mod_self_left (word_of low) (2 ^ n) (word_of high)) (mod-eq_of_lt small)
 
 -- the first of the 64 bits that are read
-pub word_of-first : (words : List ℕ) (place count word : ℕ) → count < 64 → word ≡ word_of (bits_in words place 64) → bit_and word (1 * 2 ^ count % 2 ^ 64 - 1) ≡ word_of (bits_in words place count)
-word_of-first words place count word short read =
-    let in_word : count ≤ 64 = omega arith in
-    rw (one_shl count 64 short, and_mask, read) (word_of-low words place count in_word)
+pub word_of-first : (words : List ℕ) (place count word : ℕ) → count ≤ 64 → word ≡ word_of (bits_in words place 64) → word_of (low_bits word count) ≡ word_of (bits_in words place count)
+word_of-first words place count word within read = word_of-low_bits word count ∙ rw read (word_of-low words place count within)
 
 -- for the tactics of the methods of `Bitmap`
 pub ruleset bit_lengths = (length-bits_in)

@@ -16,6 +16,10 @@ bits_in words offset len = map (is_set words) (range_with_len offset len)
 abbrev pub word_of : List Bool → ℕ
 word_of = mask_l
 
+-- the `len` lowest bits of a word
+abbrev pub low_bits : ℕ → ℕ → List Bool
+low_bits word len = map (λ k. bit_at word k == 1) (range_with_len 0 len)
+
 -- how many bits are set
 abbrev pub set_count : List Bool → ℕ
 set_count = count_by (λ bit. bit)

@@ -3,7 +3,7 @@
 ghost use Rattle.std.specs.Prelude.{Bool, List, take, ◌≡◌, ◌+◌, ◌-◌, ◌*◌, ◌%◌, ◌/◌, ◌<◌, ◌≤◌, ◌^◌, length, replicate, slice_index, bit_or};
 ghost use Rattle.std.specs.Int.{div_ceil};
 ghost use Rattle.std.specs.Vec.{vec_len, vec_capacity};
-ghost use Rattle.arrow_memory.specs.Words.{bits_in, set_count, word_of, AppendsBits, AppendsWord, IsLowRun, Reads};
+ghost use Rattle.arrow_memory.specs.Words.{bits_in, low_bits, set_count, word_of, AppendsBits, AppendsWord, IsLowRun, Reads};
 
 pub(crate) mod logic;
 
@@ -78,7 +78,14 @@ pub(crate) fn bits_from(words: &[u64], place: usize, count: usize) -> u64
     requires { count ≤ 64 }
     ensures { result ≡ word_of (bits_in words.now place count) }
 {
-    let word = word_from(words, place);
+    low_word(word_from(words, place), count)
+}
+
+/// The lowest `count` bits of a word, with zeros above.
+pub(crate) fn low_word(word: u64, count: usize) -> u64
+    requires { count ≤ 64 }
+    ensures { result ≡ word_of (low_bits word count) }
+{
     if count < WORD_BITS {
         word & ((1 << count) - 1)
     } else {

@@ -8,6 +8,7 @@ mod offsets;
 fn bits_values_and_offsets(rt: HostRuntime) {
     bitmaps::check_runs(&rt);
     bitmaps::check_example(&rt);
+    bitmaps::check_words(&rt);
     bitmaps::check_room(&rt);
     buffers::check_parts(&rt);
     offsets::check_places(&rt);

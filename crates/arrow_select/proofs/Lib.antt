@@ -1,4 +1,5 @@
 pub mod ArrayLemmas
+pub mod BitLemmas
 pub mod FilterLemmas
 pub mod IndexLemmas
 pub mod KeyLemmas

@@ -95,6 +95,10 @@ abbrev pub span_of : Option (List Bool) → List ℕ → Option ℕ → ℕ × �
 span_of validity offsets None = (0, 0)
 span_of validity offsets (Some n) = if valid_at validity n then (slice_index offsets n, slice_index offsets (n + 1)) else (0, 0)
 
+-- where the bytes begin of the row that an index names
+abbrev pub span_start : Option (List Bool) → List ℕ → Slot → ℕ
+span_start validity offsets index = (span_of validity offsets (key_in index)).0
+
 -- how many bytes the row has that an index names
 abbrev pub span_length : Option (List Bool) → List ℕ → Slot → ℕ
 span_length validity offsets index =
@@ -109,6 +113,13 @@ taken_bytes validity offsets bytes index =
 abbrev pub ends_from : ℕ → List ℕ → List ℕ
 ends_from place [] = []
 ends_from place (n ∷ lengths) = (place + n) ∷ ends_from (place + n) lengths
+
+-- how long a row is, and its bytes where it begins at a place of its own
+abbrev pub row_length : List ℕ → ℕ → ℕ
+row_length offsets row = slice_index offsets (row + 1) - slice_index offsets row
+
+abbrev pub row_bytes : List ℕ → List ℕ → List ℕ → ℕ → List ℕ
+row_bytes bytes starts offsets row = sliced bytes (slice_index starts row) (row_length offsets row)
 
 -- indices that name so many rows from one on, or as many nulls
 abbrev pub run_of : Option ℕ → ℕ → List Slot

@@ -32,7 +32,6 @@ use arrow_flat::array::PrimitiveArray;
 use arrow_types::datatypes::DataType;
 use arrow_types::error::{Error, Unsupported};
 use arrow_types::types::Index;
-pub use indices::are_inside;
 use std::alloc::Global;
 use types::{is_taken, may_take};
 

@@ -26,7 +26,7 @@ use arrow_flat::array::{is_carried_as, validity};
 use arrow_memory::bitmap::Bitmap;
 use arrow_types::datatypes::{DataType, PhysicalType};
 use arrow_types::error::{Error, SpecPart};
-pub use keys::AnyKeys;
+pub use keys::{AnyKeys, are_within};
 use std::alloc::AllocError;
 use std::marker::Model;
 

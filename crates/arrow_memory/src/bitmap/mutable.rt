@@ -6,9 +6,10 @@ ghost use Rattle.std.specs.Vec.{vec_capacity};
 ghost use Rattle.arrow_types.specs.declared.error.Error.{Error};
 ghost use Rattle.arrow_memory.specs.Grown.{IsGrowthError};
 ghost use Rattle.arrow_memory.specs.Sliced.{sliced};
+ghost use Rattle.arrow_memory.specs.Words.{low_bits};
 
 use crate::bitmap::Bitmap;
-use crate::words::{WORD_BITS, append_equal, append_word};
+use crate::words::{WORD_BITS, append_equal, append_word, low_word};
 use arrow_types::error::Error;
 use std::alloc::Global;
 use std::marker::Model;
@@ -125,6 +126,26 @@ impl MutableBitmap {
     {
         let total = reserve(&mut self.words, self.len, len)?;
         bitmap.append_to(&mut self.words, self.len, start, len);
+        self.len = total;
+        Ok(())
+    }
+
+    /// Appends the `len` lowest bits of a word, from the least significant one on.
+    ///
+    /// # Requires
+    /// `len` is at most 64.
+    ///
+    /// # Errors
+    /// As of [`MutableBitmap::push`], `Overflow` where there are to be more than 2^64 - 1 bits.
+    pub fn push_word(&mut self, word: u64, len: usize) -> Result<(), Error>
+        requires { len ≤ 64 }
+        ensures ok { OnOk result (self.new ≡ self.old ++ low_bits word len) }
+        ensures overflow { (result ≡ Err Error.Overflow) ↔ (2 ^ 64 ≤ length self.old + len) }
+        ensures others { IfErr result IsGrowthError }
+        ensures err { OnErr result (self.new ≡ self.old) }
+    {
+        let total = reserve(&mut self.words, self.len, len)?;
+        append_word(&mut self.words, self.len, low_word(word, len), len);
         self.len = total;
         Ok(())
     }

@@ -242,6 +242,37 @@ pub fn check_example(rt: &(impl Abort + Alloc<A = Global>)) {
     check!(rt; validity != other);
 }
 
+/// So many bits that are set, and behind them the lowest ones of a word, each of which is as `want` has it.
+fn check_word(
+    rt: &(impl Abort + Alloc<A = Global>),
+    before: usize,
+    word: u64,
+    len: usize,
+    want: &[bool],
+) {
+    assert!(rt; len <= 64 && before <= 130);
+    let mut bits = MutableBitmap::new(rt.alloc());
+    check!(rt; bits.extend_constant(before, true).is_ok());
+    check!(rt; bits.push_word(word, len).is_ok());
+    let found = made!(rt; bits.into_bitmap());
+    let want = made!(rt; [&[true; 130][..before], want].concat(rt.alloc()));
+    check_bits(rt, &found, &want);
+}
+
+/// Words behind others, of which the bits above are left out.
+pub fn check_words(rt: &(impl Abort + Alloc<A = Global>)) {
+    let mut odd = [false; 64];
+    for k in 0..64 {
+        odd[k] = k % 2 == 1;
+    }
+    for before in [0, 1, 59, 60, 63, 64, 65] {
+        check_word(rt, before, u64::MAX, 0, &[]);
+        check_word(rt, before, 0b1101_0110, 5, &[false, true, true, false, true]);
+        check_word(rt, before, 0xaaaa_aaaa_aaaa_aaaa, 63, &odd[..63]);
+        check_word(rt, before, 0xaaaa_aaaa_aaaa_aaaa, 64, &odd);
+    }
+}
+
 /// A bit, and room for others, but neither for more than can be counted, nor for more than there is
 /// memory for.
 fn check_refused(rt: &(impl Abort + Alloc<A = Global>)) -> MutableBitmap {

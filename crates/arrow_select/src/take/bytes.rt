@@ -1,7 +1,7 @@
 //! Texts and bytes by index: where the rows end first, and then the bytes, for which there is room.
 
-ghost use Rattle.std.specs.Prelude.{◌≡◌, ◌+◌, ◌-◌, ◌<◌, ◌≤◌, ◌∷◌, Err, length, map, slice_index_or, option_copied, sum, IfOk, IfErr, IfSome, IsOkUnless};
-ghost use Rattle.std.specs.List.{concat};
+ghost use Rattle.std.specs.Prelude.{◌≡◌, ℕ, ◌+◌, ◌-◌, ◌<◌, ◌≤◌, ◌∷◌, Err, length, map, slice_index, slice_index_or, option_copied, sum, IfOk, IfErr, OnOk, IsOkUnless};
+ghost use Rattle.std.specs.List.{concat, range_with_len};
 ghost use Rattle.arrow_types.specs.declared.error.Error.{Error};
 ghost use Rattle.arrow_types.specs.Fits.{Fits};
 ghost use Rattle.arrow_types.specs.Rows.{gather, masked};
@@ -9,9 +9,9 @@ ghost use Rattle.arrow_types.specs.Slot.{Null};
 ghost use Rattle.arrow_memory.specs.Grown.{IsGrowthError};
 ghost use Rattle.arrow_memory.specs.Offsets.{last_of};
 ghost use Rattle.arrow_flat.specs.ByteRows.{byte_slots};
-ghost use Rattle.arrow_flat.specs.Parts.{FitsRows, rows_by};
+ghost use Rattle.arrow_flat.specs.Parts.{FitsRows, MarksNulls, rows_by};
 ghost use Rattle.arrow_arrays.specs.KeyedParts.{AreKeys, key_in};
-ghost use Rattle.arrow_select.specs.Taken.{ends_from, span_length, span_of, taken_bytes};
+ghost use Rattle.arrow_select.specs.Taken.{ends_from, row_bytes, row_length, span_length, span_of, span_start, taken_bytes};
 
 use crate::take::indices::{index_at, is_valid, take_validity};
 use arrow_flat::array::{ByteKind, ByteRows, FlatArray, PrimitiveArray};
@@ -47,15 +47,39 @@ pub(super) fn take_bytes<O: Offset, K: GrowableKind, I: Index>(
     let _ = values.values();
     let _ = values.data_type();
     let validity = take_validity(alloc, values.validity(), indices)?;
-    let offsets = take_offsets(alloc, values, indices)?;
-    let bytes = take_row_bytes(alloc, values, indices, offsets.last().to_usize())?;
-    let offsets = offsets.into_buffer()?;
+    let (offsets, bytes) = take_rows(alloc, values, indices)?;
     let bytes = Buffer::from_vec(alloc, bytes)?;
     let data_type = values.data_type().clone()?;
     Ok(FlatArray::<ByteRows<O, K>>::new(data_type, offsets, bytes, validity))
 }
 
-/// Where the bytes of the row lie that index `row` names: nowhere where the index or that row is null.
+/// Where the rows that the indices name end, and their bytes.
+///
+/// # Errors
+/// `Overflow` where they have too many bytes, `OutOfMemory` where memory is refused.
+fn take_rows<O: Offset, K: ByteKind, I: Index>(
+    alloc: Global,
+    values: &FlatArray<ByteRows<O, K>>,
+    indices: &PrimitiveArray<I>,
+) -> Result<(OffsetsBuffer<O>, Vec<u8>), Error>
+    requires { AreKeys (length values.now.values.offsets - 1) (rows_by (map I.slot) indices.now) }
+    ensures offsets { IfOk result (λ rows. rows.0 ≡ 0 ∷ ends_from 0 (map (span_length values.now.validity values.now.values.offsets) (rows_by (map I.slot) indices.now))) }
+    ensures bytes { IfOk result (λ rows. rows.1.items ≡ concat (map (taken_bytes values.now.validity values.now.values.offsets values.now.values.bytes) (rows_by (map I.slot) indices.now))) }
+    ensures few { OnOk result (sum (map (span_length values.now.validity values.now.values.offsets) (rows_by (map I.slot) indices.now)) ≤ O.greatest) }
+    ensures overflow { result ≡ Err Error.Overflow → O.greatest < sum (map (span_length values.now.validity values.now.values.offsets) (rows_by (map I.slot) indices.now)) }
+    ensures others { IfErr result IsGrowthError }
+{
+    // The rows lie in the values as the offsets say.
+    let _ = values.offsets().len();
+    let (starts, offsets) = take_spans(alloc, values, indices)?;
+    let total = offsets.last().to_usize();
+    let offsets = offsets.into_buffer()?;
+    let bytes = copy_spans(alloc, values.values().as_slice(), &starts, &offsets, total)?;
+    Ok((offsets, bytes))
+}
+
+/// Where the bytes of the row lie that index `row` names: nowhere where the index or that row is null. Both are read
+/// before the test, so that the test is a choice of values and no branch.
 fn span_at<O: Offset, I: Index>(
     rows: &OffsetsBuffer<O>,
     validity: Option<&Bitmap>,
@@ -65,63 +89,75 @@ fn span_at<O: Offset, I: Index>(
 ) -> (usize, usize)
     requires fits { FitsRows (option_copied validity) (length rows.now - 1) }
     requires index_fits { FitsRows (option_copied nulls) (length stored.now) }
+    requires marks { MarksNulls (option_copied nulls) (masked (option_copied nulls) (map I.slot stored.now)) }
     requires within { row < length stored.now }
     requires inside { AreKeys (length rows.now - 1) (masked (option_copied nulls) (map I.slot stored.now)) }
     ensures span { result ≡ span_of (option_copied validity.entry) rows.now (key_in (slice_index_or (masked (option_copied nulls.entry) (map I.slot stored.now)) row Null)) }
     ensures rises { result.0 ≤ result.1 }
     ensures within { result.1 ≤ last_of rows.now }
 {
-    match index_at(stored, nulls, row) {
-        Some(place) if is_valid(validity, place) => rows.start_end(place),
-        _ => (0, 0),
+    let place = index_at(stored, nulls, row).unwrap_or(0);
+    if rows.len() <= place + 1 {
+        // Without a row each index is null.
+        return (0, 0);
+    }
+    let span = rows.start_end(place);
+    if is_valid(nulls, row) & is_valid(validity, place) {
+        span
+    } else {
+        (0, 0)
     }
 }
 
-/// The offsets of the rows that the indices name.
+/// Where the rows begin that the indices name, and their offsets by index.
 ///
 /// # Errors
 /// `Overflow` where they have too many bytes, `OutOfMemory` where memory is refused.
-fn take_offsets<O: Offset, K: ByteKind, I: Index>(
+fn take_spans<O: Offset, K: ByteKind, I: Index>(
     alloc: Global,
     values: &FlatArray<ByteRows<O, K>>,
     indices: &PrimitiveArray<I>,
-) -> Result<Offsets<O>, Error>
+) -> Result<(Vec<usize>, Offsets<O>), Error>
     requires { AreKeys (length values.now.values.offsets - 1) (rows_by (map I.slot) indices.now) }
-    ensures ok { IfOk result (λ offsets. offsets ≡ 0 ∷ ends_from 0 (map (span_length values.now.validity values.now.values.offsets) (rows_by (map I.slot) indices.now))) }
+    ensures starts { IfOk result (λ spans. spans.0.items ≡ map (span_start values.now.validity values.now.values.offsets) (rows_by (map I.slot) indices.now)) }
+    ensures offsets { IfOk result (λ spans. spans.1 ≡ 0 ∷ ends_from 0 (map (span_length values.now.validity values.now.values.offsets) (rows_by (map I.slot) indices.now))) }
     ensures overflow { result ≡ Err Error.Overflow → O.greatest < sum (map (span_length values.now.validity values.now.values.offsets) (rows_by (map I.slot) indices.now)) }
     ensures others { IfErr result IsGrowthError }
 {
     let (rows, validity) = (values.offsets(), values.validity());
     let (stored, nulls) = (indices.values().as_slice(), indices.validity());
+    let mut starts = Vec::with_capacity(alloc, stored.len())?;
     let mut offsets = Offsets::with_capacity(alloc, stored.len())?;
     for row in 0..stored.len() {
         let (start, end) = span_at(rows, validity, stored, nulls, row);
+        starts.push_reserved(start);
         offsets.try_push_usize(end - start)?;
     }
-    Ok(offsets)
+    Ok((starts, offsets))
 }
 
-/// The bytes of the rows that the indices name, one row behind the other, with room for so many from the first on.
+/// The bytes of rows that begin at these places, as long as the offsets say, one row behind the other. There is room for
+/// `total` from the first on.
 ///
 /// # Errors
 /// `OutOfMemory` where memory is refused.
-fn take_row_bytes<O: Offset, K: ByteKind, I: Index>(
+fn copy_spans<O: Offset>(
     alloc: Global,
-    values: &FlatArray<ByteRows<O, K>>,
-    indices: &PrimitiveArray<I>,
+    from: &[u8],
+    starts: &[usize],
+    offsets: &OffsetsBuffer<O>,
     total: usize,
 ) -> Result<Vec<u8>, Error>
-    requires { AreKeys (length values.now.values.offsets - 1) (rows_by (map I.slot) indices.now) }
-    ensures ok { IfOk result (λ bytes. bytes.items ≡ concat (map (taken_bytes values.now.validity values.now.values.offsets values.now.values.bytes) (rows_by (map I.slot) indices.now))) }
+    requires rows { length offsets.now ≡ length starts.now + 1 }
+    requires within { (row : ℕ) → row < length starts.now → slice_index starts.now row + row_length offsets.now row ≤ length from.now }
+    ensures ok { IfOk result (λ bytes. bytes.items ≡ concat (map (row_bytes from.now starts.now offsets.now) (range_with_len 0 (length starts.now)))) }
     ensures err { IsOkUnless result Error.OutOfMemory }
 {
-    let (rows, validity) = (values.offsets(), values.validity());
-    let from = values.values().as_slice();
-    let (stored, nulls) = (indices.values().as_slice(), indices.validity());
     let mut bytes = Vec::with_capacity(alloc, total)?;
-    for row in 0..stored.len() {
-        let (start, end) = span_at(rows, validity, stored, nulls, row);
-        bytes.extend_from_slice(&from[start..end])?;
+    for row in 0..starts.len() {
+        let (begin, end) = offsets.start_end(row);
+        let start = starts[row];
+        bytes.extend_from_slice(&from[start..start + (end - begin)])?;
     }
     Ok(bytes)
 }

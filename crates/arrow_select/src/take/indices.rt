@@ -1,42 +1,24 @@
 //! Indices of rows, and what they name of what stores the rows.
 
-ghost use Rattle.std.specs.Prelude.{◌≡◌, ◌+◌, ◌<◌, ◌≤◌, [], ◌++◌, false, length, map, replicate, slice_index_or, option_copied, IfOk, IfSome, IsOkUnless, not, ◌↔◌, IsTrue};
+ghost use Rattle.std.specs.Prelude.{◌≡◌, ◌+◌, ◌<◌, ◌≤◌, [], ◌++◌, false, length, map, replicate, slice_index_or, option_copied, IfOk, IfSome, IsOkUnless, OnOk};
 ghost use Rattle.std.specs.Vec.{vec_len, vec_capacity};
 ghost use Rattle.arrow_types.specs.declared.error.Error.{Error};
 ghost use Rattle.arrow_types.specs.Rows.{masked, valid_at};
 ghost use Rattle.arrow_types.specs.Slot.{Null};
 ghost use Rattle.arrow_flat.specs.Parts.{FitsRows, MarksNulls, rows_by};
-ghost use Rattle.arrow_arrays.specs.KeyedParts.{AreKeys, IsKey, IsKeyIn, key_in};
+ghost use Rattle.arrow_memory.specs.Sliced.{sliced};
+ghost use Rattle.arrow_memory.specs.Words.{low_bits};
+ghost use Rattle.arrow_arrays.specs.KeyedParts.{AreKeys, IsKeyIn, key_in};
 ghost use Rattle.arrow_select.specs.Taken.{MarksTaken, named_bit, picked, valid_index};
 
 use arrow_flat::array::PrimitiveArray;
-use arrow_memory::bitmap::Bitmap;
+use arrow_memory::bitmap::{Bitmap, MutableBitmap};
 use arrow_types::error::Error;
 use arrow_types::types::{Index, NativeType};
 use std::alloc::Global;
 
-/// Whether each index is null or that of one of so many rows: what [`crate::take::take`] and its typed forms ask. It takes
-/// no memory.
-pub fn are_inside<I: Index>(indices: &PrimitiveArray<I>, len: usize) -> bool
-    ensures { IsTrue result ↔ AreKeys len (rows_by (map I.slot) indices.now) }
-{
-    for i in 0..indices.len() {
-        if !is_inside(indices, i, len) {
-            return false;
-        }
-    }
-    true
-}
-
-/// Whether index `i` is null or that of one of so many rows.
-fn is_inside<I: Index>(indices: &PrimitiveArray<I>, i: usize, len: usize) -> bool
-    requires { i < length (rows_by (map I.slot) indices.now) }
-    ensures { IsTrue result ↔ IsKey len (slice_index_or (rows_by (map I.slot) indices.now) i Null) }
-{
-    // The validity has a bit for each index.
-    let _ = indices.validity();
-    !indices.is_valid(i) || indices.value(i).in_range(len)
-}
+/// The bits of a word.
+const WORD_BITS: usize = 64;
 
 /// Whether row `row` is valid.
 pub(super) fn is_valid(validity: Option<&Bitmap>, row: usize) -> bool
@@ -49,7 +31,8 @@ pub(super) fn is_valid(validity: Option<&Bitmap>, row: usize) -> bool
     }
 }
 
-/// The place that index `row` names, if it is not null. What is stored beneath a null is not looked at.
+/// The place that index `row` names, if it is not null. What is stored beneath a null does not count: it is read before
+/// the test, so that the test is a choice of values and no branch.
 pub(super) fn index_at<I: Index>(
     stored: &[I],
     validity: Option<&Bitmap>,
@@ -60,8 +43,9 @@ pub(super) fn index_at<I: Index>(
     requires key { IsKeyIn (slice_index_or (masked (option_copied validity) (map I.slot stored.now)) row Null) }
     ensures { result ≡ key_in (slice_index_or (masked (option_copied validity.entry) (map I.slot stored.now)) row Null) }
 {
+    let index = stored[row];
     if is_valid(validity, row) {
-        Some(stored[row].to_usize())
+        Some(index.to_usize())
     } else {
         None
     }
@@ -134,29 +118,73 @@ pub(super) fn gather_bits<I: Index>(
     if bits.is_empty() {
         return Bitmap::new_zeroed(alloc, stored.len());
     }
-    let mut taken = Vec::with_capacity(alloc, stored.len())?;
-    append_bits(&mut taken, bits, stored, validity);
-    Bitmap::from_bools(alloc, &taken)
+    let mut taken = MutableBitmap::with_capacity(alloc, stored.len())?;
+    append_bits(&mut taken, bits, stored, validity)?;
+    taken.into_bitmap()
 }
 
-/// Appends the bits that the indices name. There is room for them.
+/// Appends the bits that the indices name, a word at a time.
+///
+/// # Errors
+/// `OutOfMemory` where a growth is refused.
 fn append_bits<I: Index>(
-    taken: &mut Vec<bool>,
+    taken: &mut MutableBitmap,
     bits: &Bitmap,
     stored: &[I],
     validity: Option<&Bitmap>,
-)
+) -> Result<(), Error>
     requires some { 0 < length bits.now }
-    requires room { vec_len taken.old + length stored.now ≤ vec_capacity taken.old }
+    requires none { taken.old ≡ [] }
     requires fits { FitsRows (option_copied validity) (length stored.now) }
     requires marks { MarksNulls (option_copied validity) (masked (option_copied validity) (map I.slot stored.now)) }
     requires inside { AreKeys (length bits.now) (masked (option_copied validity) (map I.slot stored.now)) }
-    ensures { taken.new.items ≡ taken.old.items ++ map (named_bit bits.now) (masked (option_copied validity.entry) (map I.slot stored.now)) }
+    ensures ok { OnOk result (taken.new ≡ map (named_bit bits.now) (masked (option_copied validity.entry) (map I.slot stored.now))) }
+    ensures err { IsOkUnless result Error.OutOfMemory }
 {
-    for row in 0..stored.len() {
-        let bit = bits.get_bit(index_at(stored, validity, row).unwrap_or(0));
-        taken.push_reserved(is_valid(validity, row) & bit);
+    let mut row = 0;
+    while row < stored.len() {
+        let count = WORD_BITS.min(stored.len() - row);
+        let word = bits_at(bits, stored, validity, row, count);
+        taken.push_word(word, count)?;
+        row += count;
     }
+    Ok(())
+}
+
+/// The bits that `count` indices from `row` on name, as a word.
+fn bits_at<I: Index>(
+    bits: &Bitmap,
+    stored: &[I],
+    validity: Option<&Bitmap>,
+    row: usize,
+    count: usize,
+) -> u64
+    requires some { 0 < length bits.now }
+    requires fits { FitsRows (option_copied validity) (length stored.now) }
+    requires marks { MarksNulls (option_copied validity) (masked (option_copied validity) (map I.slot stored.now)) }
+    requires within { row + count ≤ length stored.now }
+    requires in_word { count ≤ 64 }
+    requires inside { AreKeys (length bits.now) (masked (option_copied validity) (map I.slot stored.now)) }
+    ensures { low_bits result count ≡ map (named_bit bits.now) (sliced (masked (option_copied validity.entry) (map I.slot stored.now)) row count) }
+{
+    let mut word = 0;
+    for k in 0..count {
+        word |= u64::from(bit_at(bits, stored, validity, row + k)) << k;
+    }
+    word
+}
+
+/// The bit that index `row` names, and one that is not set where it is null.
+fn bit_at<I: Index>(bits: &Bitmap, stored: &[I], validity: Option<&Bitmap>, row: usize) -> bool
+    requires some { 0 < length bits.now }
+    requires fits { FitsRows (option_copied validity) (length stored.now) }
+    requires marks { MarksNulls (option_copied validity) (masked (option_copied validity) (map I.slot stored.now)) }
+    requires within { row < length stored.now }
+    requires inside { AreKeys (length bits.now) (masked (option_copied validity) (map I.slot stored.now)) }
+    ensures { result ≡ named_bit bits.now (slice_index_or (masked (option_copied validity.entry) (map I.slot stored.now)) row Null) }
+{
+    let bit = bits.get_bit(index_at(stored, validity, row).unwrap_or(0));
+    is_valid(validity, row) & bit
 }
 
 /// The validity of the rows that the indices name, where theirs is `validity`: a row is null where the index is, or the

@@ -6,13 +6,13 @@ ghost use Rattle.arrow_arrays.specs.Any.{any_array_rows};
 ghost use Rattle.arrow_arrays.specs.KeyedParts.{AreKeys};
 
 use crate::select::answered;
-use arrow_arrays::array::AnyArray;
+use arrow_arrays::array::{AnyArray, are_within};
 use arrow_arrays_fixture::arrays::boxed;
 use arrow_flat::array::{AnyPrimitive, PrimitiveArray};
 use arrow_flat_fixture::arrays::validity_of;
 use arrow_memory::buffer::Buffer;
 use arrow_select::take::{
-    are_inside, binary, boolean, dict, fixed_size_list, list, primitive, structure, take, utf8,
+    binary, boolean, dict, fixed_size_list, list, primitive, structure, take, utf8,
 };
 use arrow_types::datatypes::DataType;
 use arrow_types::error::Error;
@@ -61,7 +61,7 @@ fn take_rows<I: Index>(
     array: &AnyArray,
     indices: &PrimitiveArray<I>,
 ) -> Result<Box<AnyArray>, Error> {
-    assert!(rt; are_inside(indices, array.len()));
+    assert!(rt; are_within(indices, array.len()));
     boxed(rt.alloc(), take(rt.alloc(), array, indices)?)
 }
 
@@ -114,7 +114,7 @@ fn take_typed_rows<I: Index>(
     array: &AnyArray,
     indices: &PrimitiveArray<I>,
 ) -> Result<Box<AnyArray>, Error> {
-    assert!(rt; are_inside(indices, array.len()));
+    assert!(rt; are_within(indices, array.len()));
     boxed(rt.alloc(), take_typed(rt.alloc(), array, indices)?)
 }
 

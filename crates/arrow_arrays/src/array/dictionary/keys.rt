@@ -12,7 +12,7 @@ ghost use Rattle.arrow_arrays.specs.SliceOf.{validity_of_slice};
 use arrow_flat::array::PrimitiveArray;
 use arrow_memory::bitmap::Bitmap;
 use arrow_types::datatypes::IntegerType;
-use arrow_types::types::DictionaryKey;
+use arrow_types::types::{DictionaryKey, Index};
 use std::alloc::AllocError;
 
 /// The keys of a dictionary, of any key type, null where a row is. Beneath a null any key may lie.
@@ -130,22 +130,22 @@ fn key_at<K: DictionaryKey>(keys: &PrimitiveArray<K>, i: usize) -> Option<usize>
     }
 }
 
-/// Whether row `i` is null or names one of so many values.
-fn is_within<K: DictionaryKey>(keys: &PrimitiveArray<K>, i: usize, len: usize) -> bool
-    requires { i < length (rows_by (map K.slot) keys.now) }
-    ensures { IsTrue result ↔ IsKey len (slice_index_or (rows_by (map K.slot) keys.now) i Null) }
+/// Whether index `i` is null or that of one of so many rows.
+fn is_within<I: Index>(indices: &PrimitiveArray<I>, i: usize, len: usize) -> bool
+    requires { i < length (rows_by (map I.slot) indices.now) }
+    ensures { IsTrue result ↔ IsKey len (slice_index_or (rows_by (map I.slot) indices.now) i Null) }
 {
     // The validity has a bit for each row.
-    let _ = keys.validity();
-    !keys.is_valid(i) || keys.value(i).in_range(len)
+    let _ = indices.validity();
+    !indices.is_valid(i) || indices.value(i).in_range(len)
 }
 
-/// Whether each row is null or names one of so many values.
-fn are_within<K: DictionaryKey>(keys: &PrimitiveArray<K>, len: usize) -> bool
-    ensures { IsTrue result ↔ AreKeys len (rows_by (map K.slot) keys.now) }
+/// Whether each index is null or that of one of so many rows, whatever lies beneath a null. It takes no memory.
+pub fn are_within<I: Index>(indices: &PrimitiveArray<I>, len: usize) -> bool
+    ensures { IsTrue result ↔ AreKeys len (rows_by (map I.slot) indices.now) }
 {
-    for i in 0..keys.len() {
-        if !is_within(keys, i, len) {
+    for i in 0..indices.len() {
+        if !is_within(indices, i, len) {
             return false;
         }
     }

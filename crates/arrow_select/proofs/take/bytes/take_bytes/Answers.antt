@@ -1,7 +1,5 @@
-use Rattle.std.proofs.Common.{◌≡◌, ◌∙◌, ◌-◌, ◌≤◌, Err, List, ℕ, ◌∷◌, ap, arith, length, map, refl, rules, subst, sym}
-use Rattle.std.specs.Prelude.{sum}
+use Rattle.std.proofs.Common.{◌≡◌, ◌∙◌, ◌-◌, Err, List, ℕ, ◌∷◌, ap, arith, length, map, refl, rules, subst, sym}
 use Rattle.std.specs.List.{All, concat}
-use Rattle.std.proofs.lemmas.Int.{ints}
 use Rattle.std.proofs.lemmas.List.{length-map}
 use Rattle.arrow_types.specs.Fits.{Fits}
 use Rattle.arrow_types.specs.Rows.{masked}
@@ -15,7 +13,7 @@ use Rattle.arrow_flat.proofs.PieceLemmas.{length-pieces}
 use Rattle.arrow_flat_growable.proofs.ResultLemmas.{passed_on}
 use Rattle.arrow_arrays.specs.KeyedParts.{AreKeys}
 use Rattle.arrow_select.specs.Taken.{MarksTaken, ends_from, span_length, taken_bytes}
-use Rattle.arrow_select.proofs.TakenBytes.{allowed_by_index, bytes_end, bytes_fit, bytes_pass, bytes_taken, last_is_sum, offsets_fit, pieces_are, rows_fit}
+use Rattle.arrow_select.proofs.TakenBytes.{allowed_by_index, bytes_end, bytes_fit, bytes_pass, bytes_taken, offsets_fit, pieces_are, rows_fit}
 use Rattle.arrow_select.proofs.take.bytes.take_bytes.Goals as goal
 
 -- the indices name rows that the offsets name
@@ -23,12 +21,8 @@ keys_of : (slot : List ℕ → Slot) (p : Parts ByteParts) (indices : List Slot)
 keys_of slot p indices fits =
     subst (λ n. AreKeys n indices) (length-masked p.validity (byte_slots slot p.values) fits ∙ (length-map (pieces p.values.offsets p.values.bytes) slot ∙ length-pieces p.values.offsets p.values.bytes))
 
-pub take_offsets-requires : goal.take_offsets-requires
-take_offsets-requires g c =
-    keys_of g.K.ByteKind.slot c.args.values.now (rows_by (map g.I.NativeType.slot) c.args.indices.now) c.validity.ensures.fits c.requires.inside
-
-pub take_row_bytes-requires : goal.take_row_bytes-requires
-take_row_bytes-requires g c =
+pub take_rows-requires : goal.take_rows-requires
+take_rows-requires g c =
     keys_of g.K.ByteKind.slot c.args.values.now (rows_by (map g.I.NativeType.slot) c.args.indices.now) c.validity.ensures.fits c.requires.inside
 
 pub returns-in_err-offsets-clause-overflow : goal.returns-in_err-offsets-clause-overflow
@@ -54,8 +48,8 @@ new-requires-clause-length g c =
     let marks = subst (λ w. MarksTaken w indices c.in_ok-validity.validity) c.validity.ensures.same c.in_ok-validity.ensures.ok in
     let sound = subst IsOffsets c.offsets.ensures c.len-2.ensures.sound in
     let keys = keys_of slot c.args.values.now indices c.validity.ensures.fits c.requires.inside in
-    let offsets_are : c.in_ok-offsets-2.offsets ≡ 0 ∷ ends_from 0 (map (span_length v os) indices) = c.in_ok-offsets-2.ensures.ok ∙ c.in_ok-offsets.ensures.ok in
-    offsets_fit v os bytes sound c.values.ensures.within indices keys c.in_ok-offsets-2.offsets c.in_ok-bytes-2.bytes offsets_are c.in_ok-validity.validity marks
+    let offsets_are : c.in_ok-offsets.offsets ≡ 0 ∷ ends_from 0 (map (span_length v os) indices) = c.in_ok-offsets.ensures.offsets in
+    offsets_fit v os bytes sound c.values.ensures.within indices keys c.in_ok-offsets.offsets c.in_ok-bytes.bytes offsets_are c.in_ok-validity.validity marks
 
 pub new-requires-clause-offsets : goal.new-requires-clause-offsets
 new-requires-clause-offsets g c =
@@ -67,9 +61,9 @@ new-requires-clause-offsets g c =
     let marks = subst (λ w. MarksTaken w indices c.in_ok-validity.validity) c.validity.ensures.same c.in_ok-validity.ensures.ok in
     let sound = subst IsOffsets c.offsets.ensures c.len-2.ensures.sound in
     let keys = keys_of slot c.args.values.now indices c.validity.ensures.fits c.requires.inside in
-    let offsets_are : c.in_ok-offsets-2.offsets ≡ 0 ∷ ends_from 0 (map (span_length v os) indices) = c.in_ok-offsets-2.ensures.ok ∙ c.in_ok-offsets.ensures.ok in
-    let bytes_are : c.in_ok-bytes-2.bytes ≡ concat (map (taken_bytes v os bytes) indices) = c.in_ok-bytes-2.ensures.ok ∙ c.in_ok-bytes.ensures.ok in
-    bytes_end v os bytes sound c.values.ensures.within indices keys c.in_ok-offsets-2.offsets c.in_ok-bytes-2.bytes offsets_are bytes_are
+    let offsets_are : c.in_ok-offsets.offsets ≡ 0 ∷ ends_from 0 (map (span_length v os) indices) = c.in_ok-offsets.ensures.offsets in
+    let bytes_are : c.in_ok-bytes.bytes ≡ concat (map (taken_bytes v os bytes) indices) = c.in_ok-bytes.ensures.ok ∙ c.in_ok-offsets.ensures.bytes in
+    bytes_end v os bytes sound c.values.ensures.within indices keys c.in_ok-offsets.offsets c.in_ok-bytes.bytes offsets_are bytes_are
 
 pub new-requires-clause-text : goal.new-requires-clause-text
 new-requires-clause-text g c =
@@ -81,9 +75,9 @@ new-requires-clause-text g c =
     let marks = subst (λ w. MarksTaken w indices c.in_ok-validity.validity) c.validity.ensures.same c.in_ok-validity.ensures.ok in
     let sound = subst IsOffsets c.offsets.ensures c.len-2.ensures.sound in
     let keys = keys_of slot c.args.values.now indices c.validity.ensures.fits c.requires.inside in
-    let offsets_are : c.in_ok-offsets-2.offsets ≡ 0 ∷ ends_from 0 (map (span_length v os) indices) = c.in_ok-offsets-2.ensures.ok ∙ c.in_ok-offsets.ensures.ok in
-    let bytes_are : c.in_ok-bytes-2.bytes ≡ concat (map (taken_bytes v os bytes) indices) = c.in_ok-bytes-2.ensures.ok ∙ c.in_ok-bytes.ensures.ok in
-    let are = pieces_are v os bytes sound c.values.ensures.within indices keys c.in_ok-offsets-2.offsets c.in_ok-bytes-2.bytes offsets_are bytes_are in
+    let offsets_are : c.in_ok-offsets.offsets ≡ 0 ∷ ends_from 0 (map (span_length v os) indices) = c.in_ok-offsets.ensures.offsets in
+    let bytes_are : c.in_ok-bytes.bytes ≡ concat (map (taken_bytes v os bytes) indices) = c.in_ok-bytes.ensures.ok ∙ c.in_ok-offsets.ensures.bytes in
+    let are = pieces_are v os bytes sound c.values.ensures.within indices keys c.in_ok-offsets.offsets c.in_ok-bytes.bytes offsets_are bytes_are in
     subst (All g.K.ByteKind.Allows) (sym are) (allowed_by_index v os bytes sound c.values.ensures.within g.K.ByteKind.Allows g.met.K.GrowableKind.allows_empty c.values.ensures.allowed indices keys)
 
 pub returns-clause-rows : goal.returns-clause-rows
@@ -96,9 +90,9 @@ returns-clause-rows g c =
     let marks = subst (λ w. MarksTaken w indices c.in_ok-validity.validity) c.validity.ensures.same c.in_ok-validity.ensures.ok in
     let sound = subst IsOffsets c.offsets.ensures c.len-2.ensures.sound in
     let keys = keys_of slot c.args.values.now indices c.validity.ensures.fits c.requires.inside in
-    let offsets_are : c.in_ok-offsets-2.offsets ≡ 0 ∷ ends_from 0 (map (span_length v os) indices) = c.in_ok-offsets-2.ensures.ok ∙ c.in_ok-offsets.ensures.ok in
-    let bytes_are : c.in_ok-bytes-2.bytes ≡ concat (map (taken_bytes v os bytes) indices) = c.in_ok-bytes-2.ensures.ok ∙ c.in_ok-bytes.ensures.ok in
-    let are = pieces_are v os bytes sound c.values.ensures.within indices keys c.in_ok-offsets-2.offsets c.in_ok-bytes-2.bytes offsets_are bytes_are in
+    let offsets_are : c.in_ok-offsets.offsets ≡ 0 ∷ ends_from 0 (map (span_length v os) indices) = c.in_ok-offsets.ensures.offsets in
+    let bytes_are : c.in_ok-bytes.bytes ≡ concat (map (taken_bytes v os bytes) indices) = c.in_ok-bytes.ensures.ok ∙ c.in_ok-offsets.ensures.bytes in
+    let are = pieces_are v os bytes sound c.values.ensures.within indices keys c.in_ok-offsets.offsets c.in_ok-bytes.bytes offsets_are bytes_are in
     ap (rows_by (byte_slots slot)) c.new.ensures ∙ (ap (λ rows. masked c.in_ok-validity.validity (map slot rows)) are ∙ bytes_taken slot g.met.K.GrowableKind.counts g.O.Offset.IS_LARGE c.args.values.now.arrow_type _ (g.met.K.GrowableKind.lies_as_bytes g.O.Offset.IS_LARGE) c.data_type.ensures.kind v c.in_ok-validity.validity os bytes sound c.values.ensures.within (rows_fit slot v v os os bytes refl refl c.validity.ensures.fits) indices keys marks)
 
 pub returns-clause-fits : goal.returns-clause-fits
@@ -111,9 +105,7 @@ returns-clause-fits g c =
     let marks = subst (λ w. MarksTaken w indices c.in_ok-validity.validity) c.validity.ensures.same c.in_ok-validity.ensures.ok in
     let sound = subst IsOffsets c.offsets.ensures c.len-2.ensures.sound in
     let keys = keys_of slot c.args.values.now indices c.validity.ensures.fits c.requires.inside in
-    let offsets_are : c.in_ok-offsets-2.offsets ≡ 0 ∷ ends_from 0 (map (span_length v os) indices) = c.in_ok-offsets-2.ensures.ok ∙ c.in_ok-offsets.ensures.ok in
+    let offsets_are : c.in_ok-offsets.offsets ≡ 0 ∷ ends_from 0 (map (span_length v os) indices) = c.in_ok-offsets.ensures.offsets in
     let same : c.new.result.arrow_type ≡ c.args.values.now.arrow_type = search rules in
-    let last = last_is_sum v os bytes sound c.values.ensures.within indices keys c.in_ok-offsets.offsets bytes c.in_ok-offsets.ensures.ok in
-    let few : sum (map (span_length v os) indices) ≤ g.O.Index.greatest = omega (arith, ints, c.to_usize.ensures.value, c.to_usize.ensures.at_most_greatest, c.last.ensures, last) in
-    let fit = bytes_fit slot g.met.K.GrowableKind.counts g.O.Offset.IS_LARGE c.args.values.now.arrow_type _ (g.met.K.GrowableKind.lies_as_bytes g.O.Offset.IS_LARGE) c.data_type.ensures.kind v c.in_ok-validity.validity os bytes sound c.values.ensures.within (rows_fit slot v v os os bytes refl refl c.validity.ensures.fits) indices keys marks g.O.Index.greatest g.met.O.Offset.greatest_is (omega (arith, c.len.ensures.rows)) few in
+    let fit = bytes_fit slot g.met.K.GrowableKind.counts g.O.Offset.IS_LARGE c.args.values.now.arrow_type _ (g.met.K.GrowableKind.lies_as_bytes g.O.Offset.IS_LARGE) c.data_type.ensures.kind v c.in_ok-validity.validity os bytes sound c.values.ensures.within (rows_fit slot v v os os bytes refl refl c.validity.ensures.fits) indices keys marks g.O.Index.greatest g.met.O.Offset.greatest_is (omega (arith, c.len.ensures.rows)) c.in_ok-offsets.ensures.few in
     subst (λ t. Fits t (rows_by (byte_slots slot) c.new.result)) (sym same) (subst (Fits c.args.values.now.arrow_type) (sym (returns-clause-rows g c)) fit)

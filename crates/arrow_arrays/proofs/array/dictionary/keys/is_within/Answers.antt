@@ -4,18 +4,18 @@ use Rattle.arrow_arrays.proofs.array.dictionary.keys.is_within.Goals as goal
 
 pub is_valid-requires : goal.is_valid-requires
 is_valid-requires g c =
-    stored_within c.args.keys.now.validity _ c.args.i c.validity.ensures.fits c.requires
+    stored_within c.args.indices.now.validity _ c.args.i c.validity.ensures.fits c.requires
 
 pub value-requires : goal.value-requires
 value-requires g c =
-    key_within g.K.NativeType.slot c.args.keys.now.validity c.args.keys.now.values c.args.i c.validity.ensures.fits c.requires
+    key_within g.I.NativeType.slot c.args.indices.now.validity c.args.indices.now.values c.args.i c.validity.ensures.fits c.requires
 
 pub returns-then-not-is_valid : goal.returns-then-not-is_valid
 returns-then-not-is_valid g c =
-    let null = null_row c.args.keys.now.validity _ c.args.i c.validity.ensures.fits c.requires c.if-not-is_valid.ensures.bit in
+    let null = null_row c.args.indices.now.validity _ c.args.i c.validity.ensures.fits c.requires c.if-not-is_valid.ensures.bit in
     rw (null, c.if-not-is_valid.true) (λ _. tt, λ _. search rules)
 
 pub returns-else-not-is_valid : goal.returns-else-not-is_valid
 returns-else-not-is_valid g c =
-    let row = number_row g.K.NativeType.slot g.K.NativeOrd.number g.met.K.NativeOrd.slot_is_number c.args.keys.now.validity c.args.keys.now.values c.args.i c.value.result c.validity.ensures.fits c.requires c.if-not-is_valid.ensures.bit c.value.ensures in
+    let row = number_row g.I.NativeType.slot g.I.NativeOrd.number g.met.I.NativeOrd.slot_is_number c.args.indices.now.validity c.args.indices.now.values c.args.i c.value.result c.validity.ensures.fits c.requires c.if-not-is_valid.ensures.bit c.value.ensures in
     key_in_range c.args.len _ _ c.in_range.result row c.in_range.ensures

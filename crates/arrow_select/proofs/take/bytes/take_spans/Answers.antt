@@ -1,14 +1,15 @@
-use Rattle.std.proofs.Common.{◌≡◌, ◌-◌, ◌<◌, ◌∙◌, Err, arith, ap, length, map, get_or, sym}
-use Rattle.std.proofs.lemmas.List.{length-map}
+use Rattle.std.proofs.Common.{◌≡◌, ◌-◌, ◌<◌, ◌∷◌, ◌∙◌, Err, arith, ap, length, map, get_or, sym, []}
+use Rattle.std.proofs.lemmas.List.{length-map, take_all}
 use Rattle.arrow_types.specs.Rows.{masked}
 use Rattle.arrow_types.specs.Slot.{Null}
 use Rattle.arrow_flat.specs.Parts.{rows_by}
 use Rattle.arrow_flat.proofs.PartsLemmas.{length-masked}
 use Rattle.arrow_flat_growable.proofs.ResultLemmas.{passed_on}
 use Rattle.arrow_arrays.specs.KeyedParts.{key_in}
-use Rattle.arrow_select.specs.Taken.{span_length, span_of}
+use Rattle.arrow_select.specs.Taken.{ends_from, span_length, span_of, span_start}
+use Rattle.arrow_select.proofs.IndexLemmas.{gives_all, gives_next}
 use Rattle.arrow_select.proofs.TakenBytes.{offsets_next, passes_all, rows_fit}
-use Rattle.arrow_select.proofs.take.bytes.take_offsets.Goals as goal
+use Rattle.arrow_select.proofs.take.bytes.take_spans.Goals as goal
 
 pub span_at-start-requires-clause-fits : goal.span_at-start-requires-clause-fits
 span_at-start-requires-clause-fits g c =
@@ -25,7 +26,7 @@ returns-in_err-try_push_usize-clause-overflow g c overflows =
     let within : c.loop-row.row < length rows = omega (arith, long, c.loop-row-test.true) in
     let span : c.span_at-start.result ≡ span_of v os (key_in (get_or rows c.loop-row.row Null)) = c.span_at-start.ensures.span ∙ (λ i. span_of (c.validity-validity.ensures.same i) (c.offsets-rows.ensures i) (key_in (get_or (masked (c.validity-nulls.ensures.same i) (map slot (lent i))) c.loop-row.row Null))) in
     let over = c.in_err-try_push_usize.ensures.overflow.0 (ap Err (passed_on c.from_residual-in_err-try_push_usize.result _ _ c.from_residual-in_err-try_push_usize.ensures.1 overflows)) in
-    passes_all (span_length v os) rows c.loop-row.row _ g.O.Index.greatest c.loop-row.offsets within (ap (λ s. s.1 - s.0) span) c.loop-row.invariant over
+    passes_all (span_length v os) rows c.loop-row.row _ g.O.Index.greatest c.loop-row.offsets within (ap (λ s. s.1 - s.0) span) c.loop-row.invariant.offsets over
 
 pub loop-row-preserved : goal.loop-row-preserved
 loop-row-preserved g c =
@@ -37,4 +38,29 @@ loop-row-preserved g c =
     let long = length-masked c.args.indices.now.validity (map slot c.args.indices.now.values) c.validity-nulls.ensures.fits ∙ (length-map c.args.indices.now.values slot ∙ sym (ap length lent)) in
     let within : c.loop-row.row < length rows = omega (arith, long, c.loop-row-test.true) in
     let span : c.span_at-start.result ≡ span_of v os (key_in (get_or rows c.loop-row.row Null)) = c.span_at-start.ensures.span ∙ (λ i. span_of (c.validity-validity.ensures.same i) (c.offsets-rows.ensures i) (key_in (get_or (masked (c.validity-nulls.ensures.same i) (map slot (lent i))) c.loop-row.row Null))) in
-    offsets_next (span_length v os) rows c.loop-row.row _ c.loop-row.offsets _ within (ap (λ s. s.1 - s.0) span) c.loop-row.invariant c.in_ok-try_push_usize.ensures.ok
+    record {
+      starts = c.push_reserved.ensures.items ∙ gives_next (span_start v os) [] c.loop-row.starts.items rows c.loop-row.row c.span_at-start.result.0 within (ap (λ s. s.0) span) c.loop-row.invariant.starts;
+      len = omega (arith, c.push_reserved.ensures.len, c.loop-row.invariant.len);
+      capacity = c.push_reserved.ensures.capacity ∙ c.loop-row.invariant.capacity;
+      offsets = offsets_next (span_length v os) rows c.loop-row.row _ c.loop-row.offsets _ within (ap (λ s. s.1 - s.0) span) c.loop-row.invariant.offsets c.in_ok-try_push_usize.ensures.ok;
+    }
+
+pub returns-clause-starts : goal.returns-clause-starts
+returns-clause-starts g c =
+    let v = c.args.values.now.validity in
+    let os = c.args.values.now.values.offsets in
+    let slot = g.I.NativeType.slot in
+    let rows = rows_by (map slot) c.args.indices.now in
+    let lent = c.as_slice-stored.ensures ∙ c.values.ensures in
+    let long = length-masked c.args.indices.now.validity (map slot c.args.indices.now.values) c.validity-nulls.ensures.fits ∙ (length-map c.args.indices.now.values slot ∙ sym (ap length lent)) in
+    gives_all (span_start v os) [] c.loop-row.starts.items rows c.loop-row.row (omega (arith, long, c.loop-row-test.false)) c.loop-row.invariant.starts
+
+pub returns-clause-offsets : goal.returns-clause-offsets
+returns-clause-offsets g c =
+    let v = c.args.values.now.validity in
+    let os = c.args.values.now.values.offsets in
+    let slot = g.I.NativeType.slot in
+    let rows = rows_by (map slot) c.args.indices.now in
+    let lent = c.as_slice-stored.ensures ∙ c.values.ensures in
+    let long = length-masked c.args.indices.now.validity (map slot c.args.indices.now.values) c.validity-nulls.ensures.fits ∙ (length-map c.args.indices.now.values slot ∙ sym (ap length lent)) in
+    c.loop-row.invariant.offsets ∙ ap (λ is. 0 ∷ ends_from 0 (map (span_length v os) is)) (take_all c.loop-row.row rows (omega (arith, long, c.loop-row-test.false)))
