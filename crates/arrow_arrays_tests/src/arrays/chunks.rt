@@ -13,7 +13,11 @@ use std::process::Abort;
 fn columns(alloc: Global, letters: &[&[u8]]) -> Result<Vec<AnyArray>, Error> {
     let mut columns = Vec::with_capacity(alloc, letters.len())?;
     for (k, letters) in letters.iter().enumerate() {
-        let shape = if k % 2 == 0 { Shape::Number } else { Shape::Utf8 };
+        let shape = if k % 2 == 0 {
+            Shape::Number
+        } else {
+            Shape::Utf8
+        };
         columns.push(*flat(alloc, shape, letters)?)?;
     }
     Ok(columns)

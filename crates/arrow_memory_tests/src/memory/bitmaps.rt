@@ -267,7 +267,13 @@ pub fn check_words(rt: &(impl Abort + Alloc<A = Global>)) {
     }
     for before in [0, 1, 59, 60, 63, 64, 65] {
         check_word(rt, before, u64::MAX, 0, &[]);
-        check_word(rt, before, 0b1101_0110, 5, &[false, true, true, false, true]);
+        check_word(
+            rt,
+            before,
+            0b1101_0110,
+            5,
+            &[false, true, true, false, true],
+        );
         check_word(rt, before, 0xaaaa_aaaa_aaaa_aaaa, 63, &odd[..63]);
         check_word(rt, before, 0xaaaa_aaaa_aaaa_aaaa, 64, &odd);
     }
