@@ -1,18 +1,24 @@
 //! The commands, and the kernel that each calls.
 
+ghost use Rattle.std.specs.Prelude.{◌≡◌, length, IfOk};
+ghost use Rattle.arrow_flat.specs.Parts.{boolean_rows};
+ghost use Rattle.arrow_arrays.specs.Any.{any_array_rows, any_array_type};
+
 use crate::answer::{Answer, Refusal};
 use crate::literals::Literal;
 use arrow_arrays::array::{AnyArray, are_within};
-use arrow_flat::array::AnyPrimitive;
-use arrow_select::{concatenate, filter, take, window};
+use arrow_flat::array::{AnyPrimitive, BooleanArray};
+use arrow_select::{concatenate, filter, if_then_else, take, window};
 use arrow_types::error::Error;
 use std::alloc::{AllocError, Global};
 
 /// A command that a line may name.
 #[derive(Clone, Copy)]
 pub(crate) enum Command {
+    BuildFilter,
     Concatenate,
     Filter,
+    IfThenElse,
     Shift,
     Take,
 }
@@ -20,8 +26,10 @@ pub(crate) enum Command {
 impl Command {
     pub(crate) fn from_name(name: &str) -> Option<Command> {
         match name {
+            "build_filter" => Some(Command::BuildFilter),
             "concatenate" => Some(Command::Concatenate),
             "filter" => Some(Command::Filter),
+            "if_then_else" => Some(Command::IfThenElse),
             "shift" => Some(Command::Shift),
             "take" => Some(Command::Take),
             _ => None,
@@ -35,8 +43,10 @@ impl Command {
         arguments: &[Literal<'_>],
     ) -> Result<Answer, AllocError> {
         match self {
+            Command::BuildFilter => Ok(build_filter(alloc, arguments)),
             Command::Concatenate => concatenate(alloc, arguments),
             Command::Filter => Ok(filter(alloc, arguments)),
+            Command::IfThenElse => Ok(if_then_else(alloc, arguments)),
             Command::Shift => Ok(shift(alloc, arguments)),
             Command::Take => Ok(take(alloc, arguments)),
         }
@@ -85,6 +95,57 @@ fn filter(alloc: Global, arguments: &[Literal<'_>]) -> Answer {
         Literal::TooLong(len) if *len == predicate.len() => Answer::Refused(TOO_LONG),
         _ => Answer::Refused(Refusal::Usage),
     }
+}
+
+fn build_filter(alloc: Global, arguments: &[Literal<'_>]) -> Answer {
+    let [predicate, array] = arguments else {
+        return Answer::Refused(Refusal::Usage);
+    };
+    let Literal::Array(predicate) = predicate else {
+        return Answer::Refused(Refusal::Usage);
+    };
+    let AnyArray::Boolean(predicate) = predicate.as_array() else {
+        return Answer::Refused(Refusal::Usage);
+    };
+    match array {
+        Literal::Array(array) if array.as_array().len() == predicate.len() => {
+            Answer::of_kernel(build_and_apply(alloc, predicate, array.as_array()))
+        }
+        Literal::TooLong(len) if *len == predicate.len() => Answer::Refused(TOO_LONG),
+        _ => Answer::Refused(Refusal::Usage),
+    }
+}
+
+/// The rows that a filter keeps which is built of the predicate.
+fn build_and_apply(
+    alloc: Global,
+    predicate: &BooleanArray,
+    array: &AnyArray,
+) -> Result<AnyArray, Error>
+    requires lengths { length (boolean_rows predicate.now) ≡ length (any_array_rows array.now) }
+    ensures { IfOk result (λ kept. any_array_type kept ≡ any_array_type array.now) }
+{
+    let built = filter::build_filter(alloc, predicate)?;
+    built.apply(alloc, array)
+}
+
+fn if_then_else(alloc: Global, arguments: &[Literal<'_>]) -> Answer {
+    let [predicate, lhs, rhs] = arguments else {
+        return Answer::Refused(Refusal::Usage);
+    };
+    let Literal::Array(predicate) = predicate else {
+        return Answer::Refused(Refusal::Usage);
+    };
+    let AnyArray::Boolean(predicate) = predicate.as_array() else {
+        return Answer::Refused(Refusal::Usage);
+    };
+    let Literal::Array(lhs) = lhs else {
+        return Answer::Refused(beside_too_long(arguments));
+    };
+    let Literal::Array(rhs) = rhs else {
+        return Answer::Refused(beside_too_long(arguments));
+    };
+    Answer::of_kernel(if_then_else::if_then_else(alloc, predicate, lhs.as_array(), rhs.as_array()))
 }
 
 fn shift(alloc: Global, arguments: &[Literal<'_>]) -> Answer {

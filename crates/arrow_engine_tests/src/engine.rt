@@ -155,7 +155,7 @@ fn check_run(
 }
 
 /// Input by a name, whether a line of it is refused, and the output.
-const LINES: [(&str, &[u8], bool, &[u8]); 50] = [
+const LINES: [(&str, &[u8], bool, &[u8]); 55] = [
     ("nothing", b"", false, b""),
     (
         "filter",
@@ -246,6 +246,36 @@ const LINES: [(&str, &[u8], bool, &[u8]); 50] = [
         b"filter i32[1 bool[t]\n",
         true,
         b"error Syntax\n",
+    ),
+    (
+        "a filter that is built",
+        b"build_filter bool[t,_t,f] i32[1,2,3]\nbuild_filter bool[f,t] utf8[\"a\",_]\n",
+        false,
+        b"i32[1]\nutf8[_]\n",
+    ),
+    (
+        "a filter of another length, and of numbers",
+        b"build_filter bool[t] i32[1,2]\nbuild_filter i32[1] bool[t]\nbuild_filter bool[t]\n",
+        true,
+        b"error Usage\nerror Usage\nerror Usage\n",
+    ),
+    (
+        "rows of two arrays",
+        b"if_then_else bool[t,_,f] i32[1,2,3] i32[4,5,6]\nif_then_else bool[t,f,t] i32[1,_,_] i32[_,5,6]\n",
+        false,
+        b"i32[1,_,6]\ni32[1,5,_]\n",
+    ),
+    (
+        "two types, then two lengths",
+        b"if_then_else bool[t] i32[1,2] utf8[\"a\"]\nif_then_else bool[t,f,t] i32[1,2,3] i32[4,5]\n",
+        true,
+        b"error IfThenElseTypes\nerror IfThenElseLengths\n",
+    ),
+    (
+        "no predicate, and a number for an array",
+        b"if_then_else i32[1] i32[1] i32[1]\nif_then_else bool[t] i32[1] 4\nif_then_else bool[t] i32[1]\n",
+        true,
+        b"error Usage\nerror Usage\nerror Usage\n",
     ),
     (
         "booleans",

@@ -1,52 +1,65 @@
--- Rows that a predicate selects, row by row.
-use Rattle.std.proofs.Common.{arith, ◌≡◌, ◌+◌, ◌<◌, ◌≤◌, ◌&&◌, ℕ, zero, suc, Bool, true, false, Option, Some, None, List, [], ◌∷◌, ◌++◌, length, map, take, drop, refl, ap, sym, ◌∙◌, append_assoc}
-use Rattle.std.specs.Prelude.{slice_get, slice_index_or, option_map}
-use Rattle.std.proofs.lemmas.List.{length-map}
-use Rattle.std.proofs.lemmas.Option.{slice_get-get_or, slice_get-map}
-use Rattle.arrow_types.specs.Rows.{mask, masked, mask_of, select, selects, valid_at}
-use Rattle.arrow_types.specs.Slot.{Slot, Null, Boolean}
-use Rattle.arrow_types.proofs.RowsLemmas.{drop_at_read, select_at_read}
+-- The mask that a predicate stands for, and the rows that a mask selects, a run at a time.
+use Rattle.std.proofs.Common.{arith, ◌≡◌, ◌+◌, ℕ, zero, suc, Bool, true, false, Option, Some, None, List, [], ◌∷◌, ◌++◌, length, map, replicate, take, drop, refl, ap, sym, ◌∙◌, append_assoc}
+use Rattle.std.proofs.lemmas.List.{append-nil, drop-drop}
+use Rattle.arrow_types.specs.Rows.{mask, mask_of, masked, select}
+use Rattle.arrow_types.specs.Slot.{Slot, Boolean}
+use Rattle.arrow_types.proofs.RowsLemmas.{select-nil}
+use Rattle.arrow_memory.specs.Bits.{both_bits}
 use Rattle.arrow_memory.specs.Sliced.{sliced}
 
--- a row of a predicate
+-- the mask of truth values, none of which is null
+mask_of_bits : (bits : List Bool) → mask_of (map Boolean bits) ≡ bits
+mask_of_bits [] = refl
+mask_of_bits (b ∷ bits) = ap (λ bs. b ∷ bs) (mask_of_bits bits)
 
-shorter : (validity : List Bool) (xs : List Slot) → length (mask validity xs) ≤ length xs
-shorter [] xs = omega arith
-shorter (v ∷ validity) [] = omega arith
-shorter (v ∷ validity) (x ∷ xs) = omega (arith, shorter validity xs)
+-- and under a validity: the bits that are set in both
+mask_of_valid : (bits validity : List Bool) → mask_of (mask validity (map Boolean bits)) ≡ both_bits bits validity
+mask_of_valid [] [] = refl
+mask_of_valid [] (v ∷ validity) = refl
+mask_of_valid (b ∷ bits) [] = refl
+mask_of_valid (true ∷ bits) (true ∷ validity) = ap (λ bs. true ∷ bs) (mask_of_valid bits validity)
+mask_of_valid (false ∷ bits) (true ∷ validity) = ap (λ bs. false ∷ bs) (mask_of_valid bits validity)
+mask_of_valid (true ∷ bits) (false ∷ validity) = ap (λ bs. false ∷ bs) (mask_of_valid bits validity)
+mask_of_valid (false ∷ bits) (false ∷ validity) = ap (λ bs. false ∷ bs) (mask_of_valid bits validity)
 
-pub within_bits : (validity : Option (List Bool)) (bits : List Bool) (i : ℕ) → i < length (masked validity (map Boolean bits)) → i < length bits
-within_bits None bits i within = omega (arith, within, length-map bits Boolean)
-within_bits (Some validity) bits i within =
-    omega (arith, within, shorter validity (map Boolean bits), length-map bits Boolean)
+-- the mask of a predicate without a validity, and of one with it
+pub mask_without : (v : Option (List Bool)) (bits found : List Bool) → None ≡ v → found ≡ bits → found ≡ mask_of (masked v (map Boolean bits))
+mask_without v bits found none is =
+    is ∙ (sym (mask_of_bits bits) ∙ ap (λ u. mask_of (masked u (map Boolean bits))) none)
 
-bit_under : (validity bits : List Bool) (i : ℕ) (b : Bool) → i < length (mask validity (map Boolean bits)) → slice_get bits i ≡ Some b → slice_get (mask_of (mask validity (map Boolean bits))) i ≡ Some (slice_index_or validity i true && b)
-bit_under [] bits i b within read = absurd (omega (arith, within))
-bit_under (v ∷ validity) [] i b within read = absurd (omega (arith, within))
-bit_under (true ∷ validity) (x ∷ bits) zero b within read = read
-bit_under (false ∷ validity) (x ∷ bits) zero b within read = refl
-bit_under (v ∷ validity) (x ∷ bits) (suc i) b within read = bit_under validity bits i b (omega (arith, within)) read
+pub mask_under : (v : Option (List Bool)) (bits validity found : List Bool) → Some validity ≡ v → found ≡ both_bits bits validity → found ≡ mask_of (masked v (map Boolean bits))
+mask_under v bits validity found some is =
+    is ∙ (sym (mask_of_valid bits validity) ∙ ap (λ u. mask_of (masked u (map Boolean bits))) some)
 
-pub bit_of_row : (validity : Option (List Bool)) (bits : List Bool) (i : ℕ) (b : Bool) → i < length (masked validity (map Boolean bits)) → slice_get bits i ≡ Some b → slice_get (mask_of (masked validity (map Boolean bits))) i ≡ Some (valid_at validity i && b)
-bit_of_row None bits i b within read =
-    slice_get-map selects (map Boolean bits) i ∙ ap (option_map selects) (slice_get-map Boolean bits i ∙ ap (option_map Boolean) read)
-bit_of_row (Some validity) bits i b within read = bit_under validity bits i b within read
+select_unset : (n : ℕ) (bits : List Bool) (xs : List Slot) → select (replicate n false ++ bits) xs ≡ select bits (drop n xs)
+select_unset zero bits xs = refl
+select_unset (suc n) bits [] = sym (select-nil bits)
+select_unset (suc n) bits (x ∷ xs) = select_unset n bits xs
 
--- the rows that are kept so far, with those that the rest will give
-abbrev pub KeepsUpTo : List Slot → List Bool → List Slot → ℕ → Type 0
-KeepsUpTo kept chosen xs i = kept ++ select (drop i chosen) (drop i xs) ≡ select chosen xs
+select_set : (n : ℕ) (bits : List Bool) (xs : List Slot) → select (replicate n true ++ bits) xs ≡ take n xs ++ select bits (drop n xs)
+select_set zero bits xs = refl
+select_set (suc n) bits [] = sym (select-nil bits)
+select_set (suc n) bits (x ∷ xs) = ap (λ ys. x ∷ ys) (select_set n bits xs)
 
-module _ (kept : List Slot) (chosen : List Bool) (xs : List Slot) (i : ℕ) (so_far : KeepsUpTo kept chosen xs i) where
-  -- a row that is selected is kept
-  pub keeps_row : slice_get chosen i ≡ Some true → i < length xs → KeepsUpTo (kept ++ sliced xs i 1) chosen xs (i + 1)
-  keeps_row is within =
-      let read = slice_get-get_or xs i Null within in
-      let rest = select (drop (i + 1) chosen) (drop (i + 1) xs) in
-      let here = select_at_read chosen xs i true _ is read in
-      let row = ap (take 1) (drop_at_read xs i _ read) in
-      append_assoc kept (sliced xs i 1) rest ∙ (ap (λ ys. kept ++ (ys ++ rest)) row ∙ (ap (λ ys. kept ++ ys) (sym here) ∙ so_far))
+-- the rows that are kept so far, with those that the bits that are left select from a row on
+abbrev pub KeepsUpTo : List Slot → List Bool → List Bool → List Slot → ℕ → Type 0
+KeepsUpTo kept left mask xs row = kept ++ select left (drop row xs) ≡ select mask xs
 
-  -- any other row is not
-  pub leaves_row : slice_get chosen i ≡ Some false → i < length xs → KeepsUpTo kept chosen xs (i + 1)
-  leaves_row is within =
-      ap (λ ys. kept ++ ys) (sym (select_at_read chosen xs i false _ is (slice_get-get_or xs i Null within))) ∙ so_far
+-- where no bit is left these are all
+pub keeps_all : (kept : List Slot) (left mask : List Bool) (xs : List Slot) (row : ℕ) → length left ≡ 0 → KeepsUpTo kept left mask xs row → kept ≡ select mask xs
+keeps_all kept [] mask xs row none so_far = sym (append-nil kept) ∙ so_far
+keeps_all kept (b ∷ left) mask xs row none so_far = absurd (omega (arith, none))
+
+-- a run of set bits, and those before it, selects the rows that lie there
+module _ (unset count : ℕ) (old left : List Bool) (is : old ≡ replicate unset false ++ (replicate count true ++ left)) (xs : List Slot) (row : ℕ) where
+  run_selects : select old (drop row xs) ≡ sliced xs (row + unset) count ++ select left (drop (row + unset + count) xs)
+  run_selects =
+      let run = replicate count true ++ left in
+      let there = select_set count left (drop (row + unset) xs) in
+      let behind = ap (λ ys. sliced xs (row + unset) count ++ select left ys) (drop-drop count (row + unset) xs) in
+      ap (λ bits. select bits (drop row xs)) is ∙ (select_unset unset run (drop row xs) ∙ (ap (select run) (drop-drop unset row xs) ∙ (there ∙ behind)))
+
+  -- so with these the rows are kept up to its end
+  pub keeps_run : (kept : List Slot) (mask : List Bool) → KeepsUpTo kept old mask xs row → KeepsUpTo (kept ++ sliced xs (row + unset) count) left mask xs (row + unset + count)
+  keeps_run kept mask so_far =
+      append_assoc kept (sliced xs (row + unset) count) (select left (drop (row + unset + count) xs)) ∙ (ap (λ ys. kept ++ ys) (sym run_selects) ∙ so_far)

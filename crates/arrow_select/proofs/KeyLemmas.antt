@@ -6,6 +6,7 @@ use Rattle.arrow_types.specs.declared.datatypes.physical_type.PhysicalType.{Phys
 use Rattle.arrow_types.specs.declared.datatypes.physical_type.PhysicalType.TheVariants as physical
 use Rattle.arrow_types.specs.ArrowType.{ArrowType, ArrowFields, PlainType, plain, list, struct, union, dictionary, extension, field, no_fields, more_fields, from_fields, type_in, mapped, small, large, fixed_size, null}
 use Rattle.arrow_types.specs.Physical.{physical_type_of, plain_physical_type}
+use Rattle.arrow_types.specs.Slot.{Slot}
 use Rattle.arrow_arrays.specs.Any.{kind_in, kind_of, layout_of, any_array_type, dictionary_kind}
 use Rattle.arrow_arrays.specs.Crowded.{CrowdedAmong, CrowdedRow, CrowdedPart, CrowdedVariant, Unjoined, UnjoinedBy, UnjoinedPart, child_at, child_of}
 use Rattle.arrow_arrays.specs.Layout.{Layout, Layouts, flat, listed, fixed, fielded, sparse, dense, keyed, no_layouts, more_layouts, to_layouts, field_ids, type_of_layout}
@@ -17,6 +18,7 @@ use Rattle.arrow_arrays.specs.declared.array.any.AnyArray.{AnyArray}
 use Rattle.arrow_arrays.specs.declared.array.any.AnyArray.TheVariants.{Null, Boolean, Primitive, Utf8, LargeUtf8, Binary, LargeBinary, FixedSizeBinary, List as ListOf, FixedSizeList, Struct, Union, Map, Dictionary}
 use Rattle.arrow_flat_growable.specs.Grown.{AreOfOneType, first_type}
 use Rattle.arrow_growable.specs.Join.{CannotJoin, DoNotFit}
+use Rattle.arrow_select.specs.Choice.{CannotChoose, ChosenDoNotFit}
 use Rattle.arrow_select.specs.Keys.{HasNoDictionary, HasNoKeys, HaveNoDictionary, HaveNoKeys}
 
 mutual
@@ -70,6 +72,12 @@ pub only_rows : (layouts : List Layout) → All HasNoKeys layouts → CannotJoin
 only_rows layouts none (inl over) = over
 only_rows layouts none (inr (inl crowded)) = absurd (none_among [] layouts none crowded)
 only_rows layouts none (inr (inr unjoined)) = absurd (none_unjoined layouts none unjoined)
+
+-- and of two of these the rows that a predicate chooses are refused only where they do not fit
+only_chosen : (ps : List Slot) (l r : Layout) → HasNoKeys l → HasNoKeys r → CannotChoose ps l r → ChosenDoNotFit ps l r
+only_chosen ps l r left right (inl over) = over
+only_chosen ps l r left right (inr (inl crowded)) = absurd (uncrowded (l ∷ []) r crowded.0 right crowded.2)
+only_chosen ps l r left right (inr (inr unjoined)) = absurd (joined_by l (l ∷ r ∷ []) left unjoined)
 
 -- each of several layouts holds none
 pub all_have_none : (ls : List Layout) → All HasNoKeys ls → HaveNoKeys (to_layouts ls)
@@ -173,3 +181,8 @@ all_of_type f t (x ∷ arrays) none each types =
 pub rows_alone : {A : Type 0} (f : A → AnyArray) (arrays : List A) → All (λ x. HasNoDictionary (any_array_type (f x)) → HasNoKeys (layout_of (f x))) arrays → AreOfOneType (map (λ x. layout_of (f x)) arrays) → CannotJoin (map (λ x. layout_of (f x)) arrays) → HasNoDictionary (first_type (map (λ x. layout_of (f x)) arrays)) → DoNotFit (map (λ x. layout_of (f x)) arrays)
 rows_alone f arrays each types refused none =
     only_rows (map (λ x. layout_of (f x)) arrays) (all_of_type f _ arrays none each types) refused
+
+-- of two of them the rows that a predicate chooses are refused only where they do not fit
+pub chosen_alone : {A : Type 0} (f : A → AnyArray) (ps : List Slot) (a b : A) → All (λ x. HasNoDictionary (any_array_type (f x)) → HasNoKeys (layout_of (f x))) (a ∷ b ∷ []) → any_array_type (f a) ≡ any_array_type (f b) → CannotChoose ps (layout_of (f a)) (layout_of (f b)) → HasNoDictionary (any_array_type (f a)) → ChosenDoNotFit ps (layout_of (f a)) (layout_of (f b))
+chosen_alone f ps a b each same refused none =
+    only_chosen ps (layout_of (f a)) (layout_of (f b)) (each 0 a (omega arith) none) (each 1 b (omega arith) (subst HasNoDictionary same none)) refused

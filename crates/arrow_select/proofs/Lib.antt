@@ -1,5 +1,7 @@
 pub mod ArrayLemmas
 pub mod BitLemmas
+pub mod ChoiceLemmas
+pub mod ChunkLemmas
 pub mod FilterLemmas
 pub mod IndexLemmas
 pub mod KeyLemmas
@@ -10,3 +12,4 @@ pub mod TakenFields
 pub mod TakenKeys
 pub mod TakenRuns
 pub mod TakenTypes
+pub mod ValueLemmas

@@ -1,15 +1,20 @@
--- Worked rows of the kernels' refusals and of rows by index, computed from the definitions.
-use Rattle.std.specs.Prelude.{◌≡◌, true, false, None, refl, ◌+◌, ◌<◌, ◌^◌, pos, negsuc, List, [], ◌∷◌, ◌++◌, length, sum_by}
+-- Worked rows of the kernels and of their refusals, computed from the definitions.
+use Rattle.std.specs.Prelude.{◌≡◌, ℕ, Bool, true, false, Some, None, refl, ◌+◌, ◌<◌, ◌^◌, pos, negsuc, List, [], ◌∷◌, ◌++◌, length, map, replicate, sum_by}
 use Rattle.std.proofs.Common.{arith, inl, inr}
 use Rattle.std.proofs.lemmas.Int.{ints}
 use Rattle.std.proofs.lemmas.List.{append-nil}
 use Rattle.std.proofs.lemmas.List.Sums.{sum_by-append}
-use Rattle.arrow_types.specs.ArrowType.{ArrowType, extension, field, list, mapped, more_fields, no_fields, plain, small, struct, utf8}
+use Rattle.arrow_types.specs.declared.datatypes.IntegerType.TheVariants.{Int8, Int32}
+use Rattle.arrow_types.specs.ArrowType.{ArrowType, boolean, dictionary, extension, field, integer, list, mapped, more_fields, no_fields, plain, small, struct, utf8}
 use Rattle.arrow_types.specs.Fits.{Fits, byte_count}
-use Rattle.arrow_types.specs.Rows.{gather, joined}
-use Rattle.arrow_types.specs.Slot.{Slot, Null, Number}
+use Rattle.arrow_types.specs.Rows.{chosen, gather, joined, mask_of, select}
+use Rattle.arrow_types.specs.Slot.{Slot, Boolean, Null, Number}
+use Rattle.arrow_flat.specs.Parts.{Parts, boolean_rows}
+use Rattle.arrow_arrays.specs.Layout.{Layout, flat, keyed}
+use Rattle.arrow_select.specs.Choice.{ChosenIsCrowded}
 use Rattle.arrow_select.specs.Laws.{true_places}
 use Rattle.arrow_select.specs.Refusals.{PassesLength}
+use Rattle.arrow_select.specs.Selected.{selected_rows}
 use Rattle.arrow_select.specs.Taken.{HasTake, IsTaken}
 
 -- of three rows, an offset of 3 passes none, and one of 4 or -4 does
@@ -57,3 +62,34 @@ two_places = refl
 -- the rows [5, null] by the indices [1, null, 0]
 three_taken : gather (Number (pos 5) ∷ Null ∷ []) (Number (pos 1) ∷ Null ∷ Number (pos 0) ∷ []) (plain utf8) ≡ Null ∷ Null ∷ Number (pos 5) ∷ []
 three_taken = refl
+
+-- the predicate [t, null over true, f] keeps the first of [1, 2, 3]
+abbrev nulls_over_trues : Parts (List Bool)
+nulls_over_trues =
+    record { arrow_type = plain boolean; values = true ∷ true ∷ false ∷ []; validity = Some (true ∷ false ∷ true ∷ []) }
+
+one_is_kept : mask_of (boolean_rows nulls_over_trues) ≡ true ∷ false ∷ false ∷ []
+one_is_kept = refl
+
+first_is_kept : select (mask_of (boolean_rows nulls_over_trues)) (Number (pos 1) ∷ Number (pos 2) ∷ Number (pos 3) ∷ []) ≡ Number (pos 1) ∷ []
+first_is_kept = refl
+
+-- the columns [1, 2, 3] and [true, null, false] by [null, t, t]
+columns_kept : map (selected_rows (mask_of (Null ∷ Boolean true ∷ Boolean true ∷ []))) (flat (plain (integer Int32)) (Number (pos 1) ∷ Number (pos 2) ∷ Number (pos 3) ∷ []) ∷ flat (plain boolean) (Boolean true ∷ Null ∷ Boolean false ∷ []) ∷ []) ≡ (Number (pos 2) ∷ Number (pos 3) ∷ []) ∷ (Null ∷ Boolean false ∷ []) ∷ []
+columns_kept = refl
+
+-- of [1, 2, 3] and [4, 5, 6], [t, null, f] chooses [1, null, 6]
+three_chosen : chosen (Boolean true ∷ Null ∷ Boolean false ∷ []) (Number (pos 1) ∷ Number (pos 2) ∷ Number (pos 3) ∷ []) (Number (pos 4) ∷ Number (pos 5) ∷ Number (pos 6) ∷ []) (plain (integer Int32)) ≡ Number (pos 1) ∷ Null ∷ Number (pos 6) ∷ []
+three_chosen = refl
+
+-- of [1, null, null] and [null, 5, 6], [t, f, t] chooses [1, 5, null]
+nulls_chosen : chosen (Boolean true ∷ Boolean false ∷ Boolean true ∷ []) (Number (pos 1) ∷ Null ∷ Null ∷ []) (Null ∷ Number (pos 5) ∷ Number (pos 6) ∷ []) (plain (integer Int32)) ≡ Number (pos 1) ∷ Number (pos 5) ∷ Null ∷ []
+nulls_chosen = refl
+
+-- keys of 8 bits over a hundred values, and behind these key 28 of others: it is crowded where it is chosen
+abbrev keys_over : ℕ → Layout
+keys_over key =
+    keyed (dictionary Int8 false (plain utf8)) (Some key ∷ []) (flat (plain utf8) (replicate 100 Null))
+
+chosen_is_crowded : ChosenIsCrowded (Boolean false ∷ []) (keys_over 99) (keys_over 28)
+chosen_is_crowded = (0, refl, (28, refl, omega arith))

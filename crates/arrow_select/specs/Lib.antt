@@ -1,7 +1,9 @@
 pub mod Arrays
+pub mod Choice
 pub mod Examples
 pub mod Growing
 pub mod Keys
 pub mod Laws
 pub mod Refusals
+pub mod Selected
 pub mod Taken

@@ -59,7 +59,7 @@ fn have_one_type(arrays: &[&AnyArray], first: &AnyArray) -> bool
 }
 
 /// Whether two arrays are of one data type.
-fn is_of_type(array: &AnyArray, other: &AnyArray) -> bool
+pub(crate) fn is_of_type(array: &AnyArray, other: &AnyArray) -> bool
     ensures { IsTrue result ↔ (any_array_type array.now ≡ any_array_type other.now) }
 {
     *array.data_type() == *other.data_type()

@@ -1,20 +1,24 @@
-//! The rows at which a predicate is true.
+//! The rows at which a predicate is true: of an array, of the columns of a batch, and by a predicate that is prepared.
 
-ghost use Rattle.std.specs.Prelude.{◌≡◌, ◌<◌, [], ◌∷◌, Err, Some, length, slice_get, IfOk, IfErr, OnOk};
+ghost use Rattle.std.specs.Prelude.{◌≡◌, All, Err, length, map, IfOk, IfErr};
 ghost use Rattle.arrow_types.specs.declared.error.Error.{Error};
 ghost use Rattle.arrow_types.specs.Fits.{Fits};
 ghost use Rattle.arrow_types.specs.Rows.{mask_of, select};
 ghost use Rattle.arrow_arrays.specs.Any.{any_array_type, any_array_rows, layout_of};
-ghost use Rattle.arrow_flat_growable.specs.Grown.{bound_to};
+ghost use Rattle.arrow_arrays.specs.Layout.{rows, type_of_layout};
+ghost use Rattle.arrow_arrays.specs.StructParts.{HaveRows};
 ghost use Rattle.arrow_flat.specs.Parts.{boolean_rows};
-ghost use Rattle.arrow_growable.specs.AnyGrowable.{grown_of};
-ghost use Rattle.arrow_growable.specs.Growing.{HasAppended};
 ghost use Rattle.arrow_memory.specs.Grown.{IsGrowthError};
+ghost use Rattle.arrow_select.specs.Selected.{SomeSelectedDoNotFit, selected_rows};
+
+mod prepared;
+mod primitive;
 
 use arrow_arrays::array::AnyArray;
+use arrow_arrays::chunk::Chunk;
 use arrow_flat::array::BooleanArray;
-use arrow_growable::growable::{AnyGrowable, Growable, make_growable};
 use arrow_types::error::Error;
+pub use prepared::{Filter, build_filter};
 use std::alloc::Global;
 
 /// The rows at which the predicate is true, in order, in an array of the same type. A null of the
@@ -35,52 +39,57 @@ pub fn filter(alloc: Global, array: &AnyArray, filter: &BooleanArray) -> Result<
     ensures overflow { result ≡ Err Error.Overflow → Fits (any_array_type array.now) (select (mask_of (boolean_rows filter.now)) (any_array_rows array.now)) → ⊥ }
     ensures others { IfErr result IsGrowthError }
 {
-    selected(make_growable(alloc, &[array], false, 0)?, array, filter)
+    let prepared = build_filter(alloc, filter)?;
+    prepared.apply(alloc, array)
 }
 
-/// The rows at which the predicate is true, by a growable over the array that has none yet.
-fn selected(
-    growable: AnyGrowable,
-    array: &AnyArray,
-    filter: &BooleanArray,
-) -> Result<AnyArray, Error>
-    requires bound { grown_of growable ≡ bound_to (layout_of array.now ∷ []) }
-    requires lengths { length (boolean_rows filter.now) ≡ length (any_array_rows array.now) }
-    ensures array_type { IfOk result (λ kept. any_array_type kept ≡ any_array_type array.now) }
-    ensures rows { IfOk result (λ kept. any_array_rows kept ≡ select (mask_of (boolean_rows filter.now)) (any_array_rows array.now)) }
-    ensures fits { IfOk result (λ kept. Fits (any_array_type kept) (any_array_rows kept)) }
-    ensures overflow { result ≡ Err Error.Overflow → Fits (any_array_type array.now) (select (mask_of (boolean_rows filter.now)) (any_array_rows array.now)) → ⊥ }
+/// Of each column the rows at which the predicate is true, the columns in their order. The predicate is prepared once.
+/// A null of it counts as false, whatever is stored beneath it, with any number of columns.
+///
+/// # Requires
+/// Each column has as many rows as the predicate. Where there is no column, any predicate will do.
+///
+/// # Errors
+/// The first refusal among the columns, in their order: `Overflow` where the rows of one do not fit its type, and
+/// `OutOfMemory` where memory is refused.
+///
+/// Source: arrow2's `filter_chunk`.
+pub fn filter_chunk(
+    alloc: Global,
+    columns: &Chunk,
+    filter_values: &BooleanArray,
+) -> Result<Chunk, Error>
+    requires lengths { HaveRows (length (boolean_rows filter_values.now)) columns.now }
+    ensures types { IfOk result (λ kept. map type_of_layout kept ≡ map type_of_layout columns.now) }
+    ensures rows { IfOk result (λ kept. map rows kept ≡ map (selected_rows (mask_of (boolean_rows filter_values.now))) columns.now) }
+    ensures fits { IfOk result (λ kept. All (λ column. Fits (type_of_layout column) (rows column)) kept) }
+    ensures overflow { result ≡ Err Error.Overflow → SomeSelectedDoNotFit (mask_of (boolean_rows filter_values.now)) columns.now }
     ensures others { IfErr result IsGrowthError }
 {
-    let mut growable = growable;
-    append_selected(&mut growable, array, filter)?;
-    growable.as_box()
+    let prepared = build_filter(alloc, filter_values)?;
+    let kept = filter_columns(alloc, columns.arrays(), &prepared)?;
+    let Ok(chunk) = Chunk::try_new(kept) else {
+        unreachable!();
+    };
+    Ok(chunk)
 }
 
-/// Whether a row of a predicate is true: a null is not.
-fn is_true(filter: &BooleanArray, row: usize) -> bool
-    requires { row < length (boolean_rows filter.now) }
-    ensures { slice_get (mask_of (boolean_rows filter.now)) row ≡ Some result }
-{
-    filter.is_valid(row) && filter.value(row)
-}
-
-/// Appends the rows at which the predicate is true.
-fn append_selected(
-    growable: &mut AnyGrowable,
-    array: &AnyArray,
-    filter: &BooleanArray,
-) -> Result<(), Error>
-    requires bound { grown_of growable.old ≡ bound_to (layout_of array.now ∷ []) }
-    requires lengths { length (boolean_rows filter.now) ≡ length (any_array_rows array.now) }
-    ensures ok { OnOk result (HasAppended (layout_of array.now ∷ []) (grown_of growable.new) (select (mask_of (boolean_rows filter.now)) (any_array_rows array.now))) }
-    ensures overflow { result ≡ Err Error.Overflow → Fits (any_array_type array.now) (select (mask_of (boolean_rows filter.now)) (any_array_rows array.now)) → ⊥ }
+/// The rows of each column that a prepared filter keeps.
+fn filter_columns(
+    alloc: Global,
+    columns: &[AnyArray],
+    filter: &Filter,
+) -> Result<Vec<AnyArray>, Error>
+    requires lengths { HaveRows (length filter.now) (map layout_of columns.now) }
+    ensures types { IfOk result (λ kept. map type_of_layout (map layout_of kept.items) ≡ map type_of_layout (map layout_of columns.now)) }
+    ensures rows { IfOk result (λ kept. map rows (map layout_of kept.items) ≡ map (selected_rows filter.now) (map layout_of columns.now)) }
+    ensures fits { IfOk result (λ kept. All (λ column. Fits (type_of_layout column) (rows column)) (map layout_of kept.items)) }
+    ensures overflow { result ≡ Err Error.Overflow → SomeSelectedDoNotFit filter.now (map layout_of columns.now) }
     ensures others { IfErr result IsGrowthError }
 {
-    for row in 0..array.len() {
-        if is_true(filter, row) {
-            growable.extend(0, row, 1)?;
-        }
+    let mut kept = Vec::with_capacity(alloc, columns.len())?;
+    for column in columns {
+        kept.push(filter.apply(alloc, column)?)?;
     }
-    Ok(())
+    Ok(kept)
 }

@@ -4,6 +4,7 @@
 
 pub mod concatenate;
 pub mod filter;
+pub mod if_then_else;
 mod keys;
 pub mod laws;
 pub mod take;

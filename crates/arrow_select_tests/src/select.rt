@@ -1,5 +1,7 @@
 //! What is tested of the kernels, over arrays of each type that can grow.
 
+mod choice;
+mod chunk;
 mod concatenate;
 mod filter;
 mod indices;
@@ -45,6 +47,8 @@ fn check_answer(
 fn kernels(rt: HostRuntime) {
     concatenate::check_concatenate(&rt);
     filter::check_filter(&rt);
+    chunk::check_chunks(&rt);
+    choice::check_choice(&rt);
     window::check_shift(&rt);
     keyed::check_dictionaries(&rt);
     unions::check_unions(&rt);

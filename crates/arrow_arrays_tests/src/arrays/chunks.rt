@@ -18,7 +18,7 @@ fn columns(alloc: Global, letters: &[&[u8]]) -> Result<Vec<AnyArray>, Error> {
         } else {
             Shape::Utf8
         };
-        columns.push(*flat(alloc, shape, letters)?)?;
+        columns.push(Box::into_inner(flat(alloc, shape, letters)?))?;
     }
     Ok(columns)
 }
@@ -57,11 +57,15 @@ fn check_all(rt: &impl Abort, arrays: &[AnyArray], wanted: &[AnyArray]) {
     }
 }
 
+/// A batch of these columns.
+fn chunk_of(alloc: Global, letters: &[&[u8]]) -> Result<Chunk, Error> {
+    Chunk::try_new(columns(alloc, letters)?)
+}
+
 /// The columns that were given, while they are a chunk and after that.
 pub fn check_kept(rt: &(impl Abort + Alloc<A = Global>)) {
     let wanted = made!(rt; columns(rt.alloc(), &[b"aB", b"bA"]));
-    let given = made!(rt; columns(rt.alloc(), &[b"aB", b"bA"]));
-    let chunk = made!(rt; Chunk::try_new(given));
+    let chunk = made!(rt; chunk_of(rt.alloc(), &[b"aB", b"bA"]));
     check_all(rt, chunk.arrays(), &wanted);
     check_all(rt, &chunk.into_arrays(), &wanted);
 }

@@ -1,5 +1,7 @@
 //! Bitmaps at each bit offset: slices, logic by words, and bits appended behind others.
 
+ghost use Rattle.std.specs.Prelude.{◌≤◌};
+
 use arrow_memory::bitmap::{Bitmap, MutableBitmap};
 use arrow_types::error::Error;
 use arrow_types_fixture::{check, made};
@@ -242,7 +244,17 @@ pub fn check_example(rt: &(impl Abort + Alloc<A = Global>)) {
     check!(rt; validity != other);
 }
 
-/// So many bits that are set, and behind them the lowest ones of a word, each of which is as `want` has it.
+/// So many bits that are set, and behind them the lowest ones of a word.
+fn word_behind(alloc: Global, before: usize, word: u64, len: usize) -> Result<Bitmap, Error>
+    requires { len ≤ 64 }
+{
+    let mut bits = MutableBitmap::new(alloc);
+    bits.extend_constant(before, true)?;
+    bits.push_word(word, len)?;
+    bits.into_bitmap()
+}
+
+/// The same, where the lowest bits of the word are these.
 fn check_word(
     rt: &(impl Abort + Alloc<A = Global>),
     before: usize,
@@ -251,10 +263,7 @@ fn check_word(
     want: &[bool],
 ) {
     assert!(rt; len <= 64 && before <= 130);
-    let mut bits = MutableBitmap::new(rt.alloc());
-    check!(rt; bits.extend_constant(before, true).is_ok());
-    check!(rt; bits.push_word(word, len).is_ok());
-    let found = made!(rt; bits.into_bitmap());
+    let found = made!(rt; word_behind(rt.alloc(), before, word, len));
     let want = made!(rt; [&[true; 130][..before], want].concat(rt.alloc()));
     check_bits(rt, &found, &want);
 }

@@ -109,7 +109,7 @@ fn check_case(rt: &(impl Abort + Alloc<A = Global>), shape: Shape, case: Case) {
 }
 
 /// A hundred values, and one key.
-fn hundred(alloc: Global, key: i8, marks: &str) -> Result<Box<AnyArray>, Error> {
+pub fn hundred(alloc: Global, key: i8, marks: &str) -> Result<Box<AnyArray>, Error> {
     keyed(alloc, Shape::Utf8, &[key], marks, &[b'a'; 100])
 }
 

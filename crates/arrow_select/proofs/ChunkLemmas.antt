@@ -1,0 +1,45 @@
+-- Columns of one length, each by the same mask.
+use Rattle.std.proofs.Common.{arith, ◌≡◌, ◌+◌, ℕ, ◌<◌, Bool, List, [], ◌∷◌, ◌++◌, length, map, take, get_or, ap, sym, subst, ◌∙◌}
+use Rattle.std.specs.Prelude.{count_by}
+use Rattle.std.specs.List.{All}
+use Rattle.std.proofs.lemmas.List.{get_or-map, length-map, map-append}
+use Rattle.std.proofs.lemmas.List.Elements.{All-map}
+use Rattle.arrow_types.proofs.RowsLemmas.{take_at_read}
+use Rattle.arrow_types.proofs.SelectLemmas.{length-select}
+use Rattle.arrow_arrays.specs.Any.{any_array_rows, layout_of}
+use Rattle.arrow_arrays.specs.Layout.{Layout, rows}
+use Rattle.arrow_arrays.specs.StructParts.{AreColumns, HaveRows}
+use Rattle.arrow_arrays.specs.declared.array.any.AnyArray.{AnyArray}
+use Rattle.arrow_growable.proofs.JoinedLemmas.{slice_get-map_read}
+use Rattle.arrow_select.specs.Selected.{selected_rows}
+
+-- each has so many rows, where all do
+pub column_long : (n : ℕ) (columns : List AnyArray) (i : ℕ) (item : AnyArray) → HaveRows n (map layout_of columns) → i < length columns → item ≡ get_or columns i item → n ≡ length (any_array_rows item)
+column_long n columns i item long within is =
+    let read = get_or-map layout_of columns i item (layout_of item) within in
+    let here = long i (layout_of item) (omega (arith, within, length-map columns layout_of)) in
+    sym (ap (λ a. length (any_array_rows a)) is ∙ (ap (λ l. length (rows l)) (sym read) ∙ here))
+
+-- columns that are made one by one of others
+pub column_next : {A : Type 0} (f h : Layout → A) (done whole : List AnyArray) (x item : AnyArray) (i : ℕ) → i < length whole → item ≡ get_or whole i item → f (layout_of x) ≡ h (layout_of item) → map f (map layout_of done) ≡ map h (take i (map layout_of whole)) → map f (map layout_of (done ++ x ∷ [])) ≡ map h (take (i + 1) (map layout_of whole))
+column_next f h done whole x item i within is same so_far =
+    let next = take_at_read (map layout_of whole) i (layout_of item) (slice_get-map_read layout_of whole i item within is) in
+    let grown = ap (map f) (map-append layout_of done (x ∷ [])) ∙ map-append f (map layout_of done) (layout_of x ∷ []) in
+    grown ∙ ((λ j. so_far j ++ same j ∷ []) ∙ (sym (map-append h (take i (map layout_of whole)) (layout_of item ∷ [])) ∙ ap (map h) (sym next)))
+
+-- they are of one length where each has as many rows as there are
+pub are_columns : (n : ℕ) (columns : List Layout) → HaveRows n columns → AreColumns columns
+are_columns n [] each = λ k d within. absurd (omega (arith, within))
+are_columns n (c ∷ columns) each = subst (λ m. HaveRows m (c ∷ columns)) (sym (each 0 c (omega arith))) each
+
+-- the same of lists of rows
+long_as : (n : ℕ) (columns : List Layout) → All (λ xs. length xs ≡ n) (map rows columns) → HaveRows n columns
+long_as n columns each =
+    λ k d within. ap length (sym (get_or-map rows columns k d (rows d) within)) ∙ each k (rows d) (omega (arith, within, length-map columns rows))
+
+-- so where each is by one mask
+pub selected_columns : (mask : List Bool) (columns kept : List Layout) → HaveRows (length mask) columns → map rows kept ≡ map (selected_rows mask) columns → AreColumns kept
+selected_columns mask columns kept long same =
+    let n = count_by (λ b. b) mask in
+    let each = All-map (λ xs. length xs ≡ n) (selected_rows mask) columns (λ k d within. length-select mask (rows (get_or columns k d)) (sym (long k d within))) in
+    are_columns n kept (long_as n kept (subst (All (λ xs. length xs ≡ n)) (sym same) each))

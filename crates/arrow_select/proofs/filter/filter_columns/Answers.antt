@@ -1,0 +1,48 @@
+use Rattle.std.proofs.Common.{All, Err, arith, ap, length, map, sym, subst, [], ◌∷◌, ◌∙◌}
+use Rattle.std.proofs.lemmas.List.{length-map, map-append, take_all}
+use Rattle.std.proofs.lemmas.List.Elements.{All-push}
+use Rattle.arrow_types.specs.Fits.{Fits}
+use Rattle.arrow_arrays.specs.Any.{layout_of}
+use Rattle.arrow_arrays.specs.Layout.{Layout, rows, type_of_layout}
+use Rattle.arrow_flat_growable.proofs.ResultLemmas.{passed_on}
+use Rattle.arrow_growable.proofs.JoinedLemmas.{slice_get-map_read}
+use Rattle.arrow_select.specs.Selected.{selected_rows}
+use Rattle.arrow_select.proofs.ChunkLemmas.{column_long, column_next}
+use Rattle.arrow_select.proofs.filter.filter_columns.Goals as goal
+
+pub apply-requires : goal.apply-requires
+apply-requires c =
+    record { lengths = column_long (length c.args.filter.now) c.args.columns.now c.loop-column.column-index c.column-item.result c.requires.lengths c.loop-column-test.true c.column-item.is }
+
+pub returns-in_err-apply-clause-overflow : goal.returns-in_err-apply-clause-overflow
+returns-in_err-apply-clause-overflow c overflows =
+    let over = c.in_err-apply.ensures.overflow (ap Err (passed_on c.from_residual-in_err-apply.result _ _ c.from_residual-in_err-apply.ensures.1 overflows)) in
+    (c.loop-column.column-index, layout_of c.column-item.result, slice_get-map_read layout_of c.args.columns.now c.loop-column.column-index c.column-item.result c.loop-column-test.true c.column-item.is, over)
+
+pub loop-column-preserved : goal.loop-column-preserved
+loop-column-preserved c =
+    let columns = c.args.columns.now in
+    let i = c.loop-column.column-index in
+    let item = c.column-item.result in
+    let x = c.in_ok-apply.field-0 in
+    let kept = c.loop-column.kept.items in
+    let P = λ (l : Layout). Fits (type_of_layout l) (rows l) in
+    let grown = ap (map layout_of) c.in_ok-push.ensures.items in
+    let all = All-push P (map layout_of kept) (layout_of x) c.loop-column.invariant.fits c.in_ok-apply.ensures.fits in
+    record {
+      fits = subst (All P) (sym (grown ∙ map-append layout_of kept (x ∷ []))) all;
+      types = ap (map type_of_layout) grown ∙ column_next type_of_layout type_of_layout kept columns x item i c.loop-column-test.true c.column-item.is c.in_ok-apply.ensures.array_type c.loop-column.invariant.types;
+      rows = ap (map rows) grown ∙ column_next rows (selected_rows c.args.filter.now) kept columns x item i c.loop-column-test.true c.column-item.is c.in_ok-apply.ensures.rows c.loop-column.invariant.rows;
+    }
+
+pub returns-clause-types : goal.returns-clause-types
+returns-clause-types c =
+    let columns = c.args.columns.now in
+    let whole = take_all c.loop-column.column-index (map layout_of columns) (omega (arith, c.loop-column-test.false, length-map columns layout_of)) in
+    c.loop-column.invariant.types ∙ ap (map type_of_layout) whole
+
+pub returns-clause-rows : goal.returns-clause-rows
+returns-clause-rows c =
+    let columns = c.args.columns.now in
+    let whole = take_all c.loop-column.column-index (map layout_of columns) (omega (arith, c.loop-column-test.false, length-map columns layout_of)) in
+    c.loop-column.invariant.rows ∙ ap (map (selected_rows c.args.filter.now)) whole

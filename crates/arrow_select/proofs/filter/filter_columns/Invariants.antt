@@ -1,0 +1,14 @@
+use Rattle.std.proofs.Common.{◌≡◌, All, map, take}
+use Rattle.arrow_types.specs.Fits.{Fits}
+use Rattle.arrow_arrays.specs.Any.{layout_of}
+use Rattle.arrow_arrays.specs.Layout.{rows, type_of_layout}
+use Rattle.arrow_select.specs.Selected.{selected_rows}
+use Rattle.arrow_select.proofs.filter.filter_columns.Given as goal
+
+-- the columns so far are kept
+abbrev pub invariant-loop-column : goal.invariant-loop-column
+invariant-loop-column l = record {
+  fits : All (λ column. Fits (type_of_layout column) (rows column)) (map layout_of l.kept.items);
+  types : map type_of_layout (map layout_of l.kept.items) ≡ map type_of_layout (take l.column-index (map layout_of l.columns));
+  rows : map rows (map layout_of l.kept.items) ≡ map (selected_rows l.filter) (take l.column-index (map layout_of l.columns));
+}

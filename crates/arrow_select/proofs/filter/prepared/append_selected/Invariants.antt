@@ -1,0 +1,16 @@
+use Rattle.std.proofs.Common.{◌≡◌, ◌+◌, ◌-◌, List, [], ◌∷◌, length}
+use Rattle.arrow_types.specs.Slot.{Slot}
+use Rattle.arrow_arrays.specs.Any.{any_array_rows, layout_of}
+use Rattle.arrow_growable.specs.AnyGrowable.{grown_of}
+use Rattle.arrow_growable.specs.Growing.{HasAppended}
+use Rattle.arrow_select.proofs.FilterLemmas.{KeepsUpTo}
+use Rattle.arrow_select.proofs.filter.prepared.append_selected.Given as goal
+
+-- the rows so far are held, and those that the bits that are left select are all others
+abbrev pub invariant-loop-row : goal.invariant-loop-row
+invariant-loop-row l =
+    (kept : List Slot) × HasAppended (layout_of l.array ∷ []) (grown_of l.growable) kept × KeepsUpTo kept l.left l.mask (any_array_rows l.array) l.row × (l.row + length l.left ≡ l.len)
+
+-- the rows that are left
+abbrev pub decreases-loop-row : goal.decreases-loop-row
+decreases-loop-row l = l.len - l.row

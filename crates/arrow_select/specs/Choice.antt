@@ -1,0 +1,44 @@
+-- Rows of two arrays as a predicate chooses: in runs of rows of one of them, or of nulls, and why they are refused.
+use Rattle.std.specs.Prelude.{◌≡◌, ◌⊎◌, ℕ, Bool, true, false, Option, Some, None, List, [], ◌∷◌, length, slice_get}
+use Rattle.arrow_types.specs.Fits.{Fits}
+use Rattle.arrow_types.specs.Rows.{chosen}
+use Rattle.arrow_types.specs.Slot.{Slot, Null, Boolean}
+use Rattle.arrow_arrays.specs.Crowded.{CrowdedRow, Unjoined}
+use Rattle.arrow_arrays.specs.Layout.{Layout, rows, type_of_layout}
+use Rattle.arrow_flat_growable.specs.Grown.{Grown, CannotHold, FitsWith, named_rows, null_rows_of}
+
+-- a predicate and two lists, of which each is as long as the other two
+abbrev pub AreOneLength : List Slot → List Slot → List Slot → Type 0
+AreOneLength ps ls rs = (length ls ≡ length ps) × (length rs ≡ length ps)
+
+-- the rows that are chosen do not fit the type
+abbrev pub ChosenDoNotFit : List Slot → Layout → Layout → Type 0
+ChosenDoNotFit ps l r = Fits (type_of_layout l) (chosen ps (rows l) (rows r) (type_of_layout l)) → ⊥
+
+-- or one that is chosen of the right array is crowded behind the left one; of the left array no row is
+abbrev pub ChosenIsCrowded : List Slot → Layout → Layout → Type 0
+ChosenIsCrowded ps l r = (i : ℕ) × (slice_get ps i ≡ Some (Boolean false)) × CrowdedRow (l ∷ []) r i
+
+abbrev pub CannotAppendChosen : List Slot → Layout → Layout → Type 0
+CannotAppendChosen ps l r = ChosenDoNotFit ps l r ⊎ ChosenIsCrowded ps l r
+
+-- or the dictionaries inside can't stand one behind the other
+abbrev pub CannotChoose : List Slot → Layout → Layout → Type 0
+CannotChoose ps l r = ChosenDoNotFit ps l r ⊎ (ChosenIsCrowded ps l r ⊎ Unjoined (l ∷ r ∷ []))
+
+-- a row of a predicate, null or not
+abbrev pub truth_slot : Option Bool → Slot
+truth_slot None = Null
+truth_slot (Some is_left) = Boolean is_left
+
+-- what a run of such rows chooses of the two arrays that are bound to a growable
+abbrev pub run_rows : Grown → Option Bool → ℕ → ℕ → List Slot
+run_rows g None row count = null_rows_of g count
+run_rows g (Some true) row count = named_rows g 0 row count
+run_rows g (Some false) row count = named_rows g 1 row count
+
+-- and why that is refused
+abbrev pub CannotHoldRun : Grown → Option Bool → ℕ → ℕ → Type 0
+CannotHoldRun g None row count = FitsWith g (null_rows_of g count) → ⊥
+CannotHoldRun g (Some true) row count = CannotHold g 0 row count
+CannotHoldRun g (Some false) row count = CannotHold g 1 row count
