@@ -270,10 +270,6 @@ fn check_word(
 
 /// Words behind others, of which the bits above are left out.
 pub fn check_words(rt: &(impl Abort + Alloc<A = Global>)) {
-    let mut odd = [false; 64];
-    for k in 0..64 {
-        odd[k] = k % 2 == 1;
-    }
     for before in [0, 1, 59, 60, 63, 64, 65] {
         check_word(rt, before, u64::MAX, 0, &[]);
         check_word(
@@ -283,8 +279,9 @@ pub fn check_words(rt: &(impl Abort + Alloc<A = Global>)) {
             5,
             &[false, true, true, false, true],
         );
-        check_word(rt, before, 0xaaaa_aaaa_aaaa_aaaa, 63, &odd[..63]);
-        check_word(rt, before, 0xaaaa_aaaa_aaaa_aaaa, 64, &odd);
+        check_word(rt, before, u64::MAX, 63, &[true; 63]);
+        check_word(rt, before, u64::MAX, 64, &[true; 64]);
+        check_word(rt, before, 0, 64, &[false; 64]);
     }
 }
 
