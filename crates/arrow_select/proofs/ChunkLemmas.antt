@@ -4,10 +4,11 @@ use Rattle.std.specs.Prelude.{count_by}
 use Rattle.std.specs.List.{All}
 use Rattle.std.proofs.lemmas.List.{get_or-map, length-map, map-append}
 use Rattle.std.proofs.lemmas.List.Elements.{All-map}
+use Rattle.arrow_types.specs.Fits.{Fits}
 use Rattle.arrow_types.proofs.RowsLemmas.{take_at_read}
 use Rattle.arrow_types.proofs.SelectLemmas.{length-select}
 use Rattle.arrow_arrays.specs.Any.{any_array_rows, layout_of}
-use Rattle.arrow_arrays.specs.Layout.{Layout, rows}
+use Rattle.arrow_arrays.specs.Layout.{Layout, rows, type_of_layout}
 use Rattle.arrow_arrays.specs.StructParts.{AreColumns, HaveRows}
 use Rattle.arrow_arrays.specs.declared.array.any.AnyArray.{AnyArray}
 use Rattle.arrow_growable.proofs.JoinedLemmas.{slice_get-map_read}
@@ -43,3 +44,12 @@ selected_columns mask columns kept long same =
     let n = count_by (λ b. b) mask in
     let each = All-map (λ xs. length xs ≡ n) (selected_rows mask) columns (λ k d within. length-select mask (rows (get_or columns k d)) (sym (long k d within))) in
     are_columns n kept (long_as n kept (subst (All (λ xs. length xs ≡ n)) (sym same) each))
+
+-- and what is kept of each column fits where what was made of it does
+pub kept_fit : (mask : List Bool) (columns kept : List Layout) → All (λ l. Fits (type_of_layout l) (rows l)) kept → map type_of_layout kept ≡ map type_of_layout columns → map rows kept ≡ map (selected_rows mask) columns → All (λ l. Fits (type_of_layout l) (selected_rows mask l)) columns
+kept_fit mask columns kept fits types same =
+    λ k d within.
+    let here : k < length kept = omega (arith, within, ap length types, length-map kept type_of_layout, length-map columns type_of_layout) in
+    let type : type_of_layout (get_or kept k d) ≡ type_of_layout (get_or columns k d) = sym (get_or-map type_of_layout kept k d (type_of_layout d) here) ∙ (ap (λ ts. get_or ts k (type_of_layout d)) types ∙ get_or-map type_of_layout columns k d (type_of_layout d) within) in
+    let row : rows (get_or kept k d) ≡ selected_rows mask (get_or columns k d) = sym (get_or-map rows kept k d (rows d) here) ∙ (ap (λ xs. get_or xs k (rows d)) same ∙ get_or-map (selected_rows mask) columns k d (rows d) within) in
+    subst (λ t. Fits t (selected_rows mask (get_or columns k d))) type (subst (Fits (type_of_layout (get_or kept k d))) row (fits k d here))

@@ -9,7 +9,7 @@ ghost use Rattle.arrow_arrays.specs.Layout.{rows, type_of_layout};
 ghost use Rattle.arrow_arrays.specs.StructParts.{HaveRows};
 ghost use Rattle.arrow_flat.specs.Parts.{boolean_rows};
 ghost use Rattle.arrow_memory.specs.Grown.{IsGrowthError};
-ghost use Rattle.arrow_select.specs.Selected.{SomeSelectedDoNotFit, selected_rows};
+ghost use Rattle.arrow_select.specs.Selected.{FirstDoesNotFit, selected_rows};
 
 mod prepared;
 mod primitive;
@@ -50,8 +50,8 @@ pub fn filter(alloc: Global, array: &AnyArray, filter: &BooleanArray) -> Result<
 /// Each column has as many rows as the predicate. Where there is no column, any predicate will do.
 ///
 /// # Errors
-/// The first refusal among the columns, in their order: `Overflow` where the rows of one do not fit its type, and
-/// `OutOfMemory` where memory is refused.
+/// The first refusal among the columns, in their order: `Overflow` where the rows of one do not fit its type, while those of
+/// each before it do, and `OutOfMemory` where memory is refused.
 ///
 /// Source: arrow2's `filter_chunk`.
 pub fn filter_chunk(
@@ -63,7 +63,7 @@ pub fn filter_chunk(
     ensures types { IfOk result (λ kept. map type_of_layout kept ≡ map type_of_layout columns.now) }
     ensures rows { IfOk result (λ kept. map rows kept ≡ map (selected_rows (mask_of (boolean_rows filter_values.now))) columns.now) }
     ensures fits { IfOk result (λ kept. All (λ column. Fits (type_of_layout column) (rows column)) kept) }
-    ensures overflow { result ≡ Err Error.Overflow → SomeSelectedDoNotFit (mask_of (boolean_rows filter_values.now)) columns.now }
+    ensures overflow { result ≡ Err Error.Overflow → FirstDoesNotFit (mask_of (boolean_rows filter_values.now)) columns.now }
     ensures others { IfErr result IsGrowthError }
 {
     let prepared = build_filter(alloc, filter_values)?;
@@ -84,7 +84,7 @@ fn filter_columns(
     ensures types { IfOk result (λ kept. map type_of_layout (map layout_of kept.items) ≡ map type_of_layout (map layout_of columns.now)) }
     ensures rows { IfOk result (λ kept. map rows (map layout_of kept.items) ≡ map (selected_rows filter.now) (map layout_of columns.now)) }
     ensures fits { IfOk result (λ kept. All (λ column. Fits (type_of_layout column) (rows column)) (map layout_of kept.items)) }
-    ensures overflow { result ≡ Err Error.Overflow → SomeSelectedDoNotFit filter.now (map layout_of columns.now) }
+    ensures overflow { result ≡ Err Error.Overflow → FirstDoesNotFit filter.now (map layout_of columns.now) }
     ensures others { IfErr result IsGrowthError }
 {
     let mut kept = Vec::with_capacity(alloc, columns.len())?;

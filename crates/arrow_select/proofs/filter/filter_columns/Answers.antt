@@ -1,4 +1,4 @@
-use Rattle.std.proofs.Common.{All, Err, arith, ap, length, map, sym, subst, [], ◌∷◌, ◌∙◌}
+use Rattle.std.proofs.Common.{All, Err, arith, ap, length, map, sym, subst, take, [], ◌∷◌, ◌∙◌}
 use Rattle.std.proofs.lemmas.List.{length-map, map-append, take_all}
 use Rattle.std.proofs.lemmas.List.Elements.{All-push}
 use Rattle.arrow_types.specs.Fits.{Fits}
@@ -7,7 +7,7 @@ use Rattle.arrow_arrays.specs.Layout.{Layout, rows, type_of_layout}
 use Rattle.arrow_flat_growable.proofs.ResultLemmas.{passed_on}
 use Rattle.arrow_growable.proofs.JoinedLemmas.{slice_get-map_read}
 use Rattle.arrow_select.specs.Selected.{selected_rows}
-use Rattle.arrow_select.proofs.ChunkLemmas.{column_long, column_next}
+use Rattle.arrow_select.proofs.ChunkLemmas.{column_long, column_next, kept_fit}
 use Rattle.arrow_select.proofs.filter.filter_columns.Goals as goal
 
 pub apply-requires : goal.apply-requires
@@ -17,7 +17,9 @@ apply-requires c =
 pub returns-in_err-apply-clause-overflow : goal.returns-in_err-apply-clause-overflow
 returns-in_err-apply-clause-overflow c overflows =
     let over = c.in_err-apply.ensures.overflow (ap Err (passed_on c.from_residual-in_err-apply.result _ _ c.from_residual-in_err-apply.ensures.1 overflows)) in
-    (c.loop-column.column-index, layout_of c.column-item.result, slice_get-map_read layout_of c.args.columns.now c.loop-column.column-index c.column-item.result c.loop-column-test.true c.column-item.is, over)
+    let columns = map layout_of c.args.columns.now in
+    let before = kept_fit c.args.filter.now (take c.loop-column.column-index columns) (map layout_of c.loop-column.kept.items) c.loop-column.invariant.fits c.loop-column.invariant.types c.loop-column.invariant.rows in
+    (c.loop-column.column-index, layout_of c.column-item.result, slice_get-map_read layout_of c.args.columns.now c.loop-column.column-index c.column-item.result c.loop-column-test.true c.column-item.is, before, over)
 
 pub loop-column-preserved : goal.loop-column-preserved
 loop-column-preserved c =
