@@ -26,6 +26,7 @@ use Rattle.arrow_arrays.specs.Nulls.{nulls_of, FitNulls, FitNullColumns}
 use Rattle.arrow_arrays.specs.TypeParts.{item_type, list_size, field_types, mode_in}
 use Rattle.arrow_arrays.proofs.NullLemmas.{map_constant}
 use Rattle.arrow_arrays.proofs.ShapeLemmas.{struct_shape, union_shape, shape_of, shape_in, plain_shape, list_shaped}
+use Rattle.arrow_arrays.proofs.UnionLemmas.{not_told}
 
 -- bytes of a fixed size
 pub bytes_fit : (t : ArrowType) (xs : List Slot) → Fits t xs → fixed_size_in t * length xs < 2 ^ 64
@@ -105,10 +106,6 @@ struct_fits (dictionary keys ordered t) n shape h = cc
 struct_fits (extension name metadata t) n shape h = struct_fits t n shape h
 
 -- the fields of a sparse union
-
-not_told : (b : Bool) → (b ≡ true → ⊥) → b ≡ false
-not_told true denied = absurd (denied refl)
-not_told false denied = refl
 
 differs : (ids : Option (List ℤ)) (count i : ℕ) → AreTypeIds ids count → suc i < count → id_at ids (suc i) ≡ id_at ids 0 → ⊥
 differs None count i held within same = cc

@@ -66,12 +66,12 @@ union_values p =
 pub null_count-union : (p : UnionParts) → count_by is_null (union_rows p) ≡ 0
 null_count-union p = null_count-masked None (union_rows p) (union_values p) tt
 
-not_told : (b : Bool) → (b ≡ true → ⊥) → b ≡ false
+pub not_told : (b : Bool) → (b ≡ true → ⊥) → b ≡ false
 not_told true denied = absurd (denied refl)
 not_told false denied = refl
 
 -- the column of an id, by the first field that has it
-column_at : (ids : Option (List ℤ)) (b : ℕ) (id : ℤ) (columns : List (List Slot)) (f g : ℕ) → g ≡ b + f → f < length columns → id_at ids g ≡ id → ((e : ℕ) → b ≤ e → e < g → id_at ids e ≡ id → ⊥) → column_of_id ids b id columns ≡ get_or columns f []
+pub column_at : (ids : Option (List ℤ)) (b : ℕ) (id : ℤ) (columns : List (List Slot)) (f g : ℕ) → g ≡ b + f → f < length columns → id_at ids g ≡ id → ((e : ℕ) → b ≤ e → e < g → id_at ids e ≡ id → ⊥) → column_of_id ids b id columns ≡ get_or columns f []
 column_at ids b id [] f g at within has first = absurd (omega (arith, within))
 column_at ids b id (c ∷ cs) zero g at within has first =
     let here : g ≡ b = omega (arith, at) in

@@ -41,13 +41,13 @@ longest_run bits bit start end len some low high run longest set =
 
 -- rows without and with nulls
 
-mask_of_values : (xs : List Slot) (n : ℕ) → length xs ≤ n → mask (replicate n true) xs ≡ xs
+pub mask_of_values : (xs : List Slot) (n : ℕ) → length xs ≤ n → mask (replicate n true) xs ≡ xs
 mask_of_values [] zero short = refl
 mask_of_values [] (suc n) short = refl
 mask_of_values (x ∷ xs) zero short = absurd (omega (arith, short))
 mask_of_values (x ∷ xs) (suc n) short = ap (λ ys. x ∷ ys) (mask_of_values xs n (omega (arith, short)))
 
-mask_of_nulls : (xs : List Slot) (n : ℕ) → n ≤ length xs → mask (replicate n false) xs ≡ replicate n Null
+pub mask_of_nulls : (xs : List Slot) (n : ℕ) → n ≤ length xs → mask (replicate n false) xs ≡ replicate n Null
 mask_of_nulls xs zero long = refl
 mask_of_nulls [] (suc n) long = absurd (omega (arith, long))
 mask_of_nulls (x ∷ xs) (suc n) long = ap (λ ys. Null ∷ ys) (mask_of_nulls xs n (omega (arith, long)))

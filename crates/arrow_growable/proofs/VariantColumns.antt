@@ -12,20 +12,9 @@ use Rattle.arrow_types.specs.Slot.{Slot, id_at}
 use Rattle.arrow_arrays.specs.Layout.{column_of_id, field_ids, union_items}
 use Rattle.arrow_arrays.specs.TypeParts.{mode_in}
 use Rattle.arrow_arrays.specs.UnionParts.{IsKnown}
+use Rattle.arrow_arrays.proofs.UnionLemmas.{column_at}
 use Rattle.arrow_growable.specs.Variants.{HoldsColumns, field_part, run_rows, variant_type}
-use Rattle.arrow_growable.proofs.VariantLemmas.{column_grown, not_told, part-append, part_same, rows_behind, zip-append}
-
--- the column of an id, by the first field that has it
-column_at : (ids : Option (List ℤ)) (b : ℕ) (id : ℤ) (columns : List (List Slot)) (f g : ℕ) → g ≡ b + f → f < length columns → id_at ids g ≡ id → ((e : ℕ) → b ≤ e → e < g → id_at ids e ≡ id → ⊥) → column_of_id ids b id columns ≡ get_or columns f []
-column_at ids b id [] f g at within has first = absurd (omega (arith, within))
-column_at ids b id (c ∷ cs) zero g at within has first =
-    let here : g ≡ b = omega (arith, at) in
-    let told : int_eq (id_at ids b) id ≡ true = (Decides-int_eq (id_at ids b) id).1 (subst (λ e. id_at ids e ≡ id) here has) in
-    rw told refl
-column_at ids b id (c ∷ cs) (suc f) g at within has first =
-    let other = first b (omega arith) (omega (arith, at)) in
-    let told : int_eq (id_at ids b) id ≡ false = not_told (int_eq (id_at ids b) id) (λ e. other ((Decides-int_eq (id_at ids b) id).0 e)) in
-    rw told (column_at ids (suc b) id cs f g (omega (arith, at)) (omega (arith, within)) has (λ e from below. first e (omega (arith, from)) below))
+use Rattle.arrow_growable.proofs.VariantLemmas.{column_grown, part-append, part_same, rows_behind, zip-append}
 
 -- ids that differ from field to field, of so many
 abbrev pub AreApart : Option (List ℤ) → ℕ → Type 0

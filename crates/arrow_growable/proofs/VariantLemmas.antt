@@ -14,6 +14,7 @@ use Rattle.arrow_types.specs.Slot.{Slot, Null, Variant, id_at, null_slot}
 use Rattle.arrow_types.proofs.FitsLemmas.{dense_part-append}
 use Rattle.arrow_arrays.specs.Layout.{column_of_id, union_items, variant_at}
 use Rattle.arrow_arrays.specs.UnionParts.{child_row_of}
+use Rattle.arrow_arrays.proofs.UnionLemmas.{not_told}
 use Rattle.arrow_growable.specs.Variants.{part_of_id}
 
 -- what the child of an id holds
@@ -24,10 +25,6 @@ part-append Dense id t xs ys = dense_part-append id xs ys
 
 same_id : (id : ℤ) → int_eq id id ≡ true
 same_id id = (Decides-int_eq id id).1 refl
-
-pub not_told : (b : Bool) → (b ≡ true → ⊥) → b ≡ false
-not_told true denied = absurd (denied refl)
-not_told false denied = refl
 
 other_id : (id other : ℤ) → (id ≡ other → ⊥) → int_eq id other ≡ false
 other_id id other differ = not_told (int_eq id other) (λ told. differ ((Decides-int_eq id other).0 told))

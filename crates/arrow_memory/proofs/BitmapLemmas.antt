@@ -14,7 +14,7 @@ use Rattle.std.proofs.lemmas.Option.{slice_get-get_or}
 use Rattle.std.proofs.lemmas.Simd.{bit_mask_l}
 use Rattle.arrow_memory.specs.Sliced.{sliced}
 use Rattle.arrow_memory.specs.Words.{is_set, bits_in, word_of, set_count}
-use Rattle.arrow_memory.proofs.SlicedLemmas.{length-sliced, same_joined}
+use Rattle.arrow_memory.proofs.SlicedLemmas.{length-sliced, same_joined, sliced-clamped}
 use Rattle.arrow_memory.proofs.WordLemmas.{length-bits_in, get_or-bits_in}
 
 -- each bit is set or not
@@ -149,3 +149,17 @@ pub bits_in-zeros : (words : List ℕ) (len : ℕ) → ((k : ℕ) → slice_inde
 bits_in-zeros words len each =
     let seen = bits_in_is words (replicate len false) (λ i h. ap (λ word. bit_at word (i % 64) == 1) (each (i / 64)) ∙ (ap (λ x. x == 1) (bit_at-zero (i % 64)) ∙ sym (get_or-replicate_same len i))) in
     subst (λ n. bits_in words 0 n ≡ replicate len false) (length-replicate len false) seen
+
+-- ---- one word of the bits
+
+-- the 64 bits from 64 j on, where j may be far behind the last
+pub word_clamped : (bits : List Bool) (j len product start count word : ℕ) → len ≡ length bits → len < 2 ^ 64 → product ≡ min (j * 64) 18446744073709551615 → start ≡ min product len → count ≡ min 64 (len - start) → word ≡ word_of (sliced bits start count) → word ≡ word_of (sliced bits (64 * j) 64)
+word_clamped bits j len product start count word counted small product_is start_is count_is read =
+    let from : start ≡ min (64 * j) (length bits) = omega (arith, counted, small, product_is, start_is) in
+    let many : count ≡ min 64 (length bits - min (64 * j) (length bits)) = omega (arith, count_is, counted, from) in
+    read ∙ ap word_of ((λ t. sliced bits (from t) (many t)) ∙ sliced-clamped bits (64 * j) 64)
+
+-- one bit of them
+pub bit_of-word : (bits : List Bool) (place word k : ℕ) → k < 64 → word ≡ word_of (sliced bits place 64) → (bit_at word k == 1) ≡ get_or bits (place + k) false
+bit_of-word bits place word k within read =
+    ap (λ w. bit_at w k == 1) read ∙ (bit_of-word_of (sliced bits place 64) k ∙ (get_or-take 64 (drop place bits) k false within ∙ get_or-drop place bits k false))

@@ -2,10 +2,10 @@
 use Rattle.std.proofs.Common.{◌≡◌, ℕ, ◌+◌, ◌-◌, ◌*◌, ◌/◌, ◌%◌, ◌^◌, ◌<◌, ◌≤◌, min, max, map, zero, suc, w64, ◌&&◌, ◌||◌, Bool, false, not, List, [], ◌∷◌, length, get_or, refl, ap, sym, ◌∙◌, arith, slice_index, inl, inr}
 use Rattle.std.specs.Prelude.{◌==◌, bit_and, bit_or, set}
 use Rattle.std.specs.Int.{bit_at, bit_not}
-use Rattle.std.proofs.lemmas.Bool.{cases_eq}
+use Rattle.std.proofs.lemmas.Bool.{cases_eq, cases_lt}
 use Rattle.std.proofs.lemmas.Bool.Decides.{nat_tests}
 use Rattle.std.proofs.lemmas.List.{get_or-set_same, get_or-set_other, length-map}
-use Rattle.std.proofs.lemmas.Nat.Bits.{bit_at_and, bit_at_or, bit_at_not, bit_at-lt}
+use Rattle.std.proofs.lemmas.Nat.Bits.{bit_at_above, bit_at_and, bit_at_or, bit_at_not, bit_at-lt}
 use Rattle.arrow_memory.specs.Bits.{paired}
 use Rattle.arrow_memory.specs.Words.{is_set, bits_in, word_of}
 use Rattle.arrow_memory.proofs.BitmapLemmas.{bit_of-word_of, bits_in_is}
@@ -30,6 +30,14 @@ or_each a b k = ap (λ x. x == 1) (bit_at_or a b k) ∙ max_is (bit_at a k) (bit
 
 pub not_each : (a k : ℕ) → a < 2 ^ 64 → k < 64 → (bit_at (bit_not w64 a) k == 1) ≡ not (bit_at a k == 1)
 not_each a k small below = ap (λ x. x == 1) (bit_at_not w64 a k small below) ∙ turned_is (bit_at a k) (bit_at-lt a k)
+
+-- past a word's 64 bits none of the first is set
+pub and_not_each : (a b k : ℕ) → a < 2 ^ 64 → b < 2 ^ 64 → (bit_at (bit_and a (bit_not w64 b)) k == 1) ≡ ((bit_at a k == 1) && not (bit_at b k == 1))
+and_not_each a b k small other =
+    and_each a (bit_not w64 b) k ∙ (elim (cases_lt k 64) as (λ _. ((bit_at a k == 1) && (bit_at (bit_not w64 b) k == 1)) ≡ ((bit_at a k == 1) && not (bit_at b k == 1))) [
+      | inl below ↦ ap (λ bit. (bit_at a k == 1) && bit) (not_each b k other below)
+      | inr past ↦ let unset : (bit_at a k == 1) ≡ false = ap (λ x. x == 1) (bit_at_above a 64 k small past) in rw unset refl
+    ])
 
 -- ---- one word after the other
 

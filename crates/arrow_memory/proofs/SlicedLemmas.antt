@@ -1,7 +1,7 @@
 -- A slice of a slice.
-use Rattle.std.proofs.Common.{◌≡◌, ℕ, ◌+◌, ◌-◌, ◌≤◌, List, ◌++◌, length, take, drop, ap, sym, ◌∙◌, arith}
+use Rattle.std.proofs.Common.{◌≡◌, ℕ, ◌+◌, ◌-◌, ◌≤◌, min, List, ◌++◌, length, take, drop, ap, sym, ◌∙◌, arith}
 use Rattle.std.proofs.Math.Seq.{take-add}
-use Rattle.std.proofs.lemmas.List.{drop-take, take-take, drop-drop, length-take, length-drop}
+use Rattle.std.proofs.lemmas.List.{drop-take, take-take, drop-drop, length-take, length-drop, take_min, drop_min}
 use Rattle.arrow_memory.specs.Sliced.{sliced}
 
 pub sliced-sliced : {A : Type 0} (xs : List A) (a m o n : ℕ) → o + n ≤ m → sliced (sliced xs a m) o n ≡ sliced xs (a + o) n
@@ -12,6 +12,12 @@ sliced-sliced xs a m o n h =
 
 pub length-sliced : {A : Type 0} (xs : List A) (o n : ℕ) → o + n ≤ length xs → length (sliced xs o n) ≡ n
 length-sliced xs o n h = omega (arith, length-take n (drop o xs), length-drop o xs)
+
+-- a slice that is cut where the list ends
+pub sliced-clamped : {A : Type 0} (xs : List A) (place n : ℕ) → sliced xs (min place (length xs)) (min n (length xs - min place (length xs))) ≡ sliced xs place n
+sliced-clamped xs place n =
+    let start = min place (length xs) in
+    ap (λ m. take (min n m) (drop start xs)) (sym (length-drop start xs)) ∙ (take_min n (drop start xs) ∙ ap (take n) (drop_min place xs))
 
 -- ---- parts of two lists
 

@@ -1,6 +1,6 @@
 -- Bits as they lie in words.
 use Rattle.std.proofs.Common.{◌≡◌, ℕ, zero, suc, ◌+◌, ◌-◌, ◌*◌, ◌/◌, ◌%◌, ◌^◌, ◌<◌, ◌≤◌, Bool, true, false, cond, List, [], ◌∷◌, ◌++◌, length, map, get_or, take, drop, refl, ap, sym, ◌∙◌, arith, lit<, slice_index, Fits, w64, zero-add, add-zero}
-use Rattle.std.specs.Prelude.{◌==◌, count_ones, bit_and, bit_or}
+use Rattle.std.specs.Prelude.{◌==◌, count_ones, bit_or}
 use Rattle.std.specs.Int.{bit_at, from_bool}
 use Rattle.std.specs.List.{range_with_len}
 use Rattle.std.proofs.lemmas.Bool.Decides.{nat_tests}

@@ -1,5 +1,5 @@
 -- Bit by bit.
-use Rattle.std.specs.Prelude.{Bool, List, [], ◌∷◌, ◌&&◌, ◌||◌}
+use Rattle.std.specs.Prelude.{Bool, List, [], ◌∷◌, ◌&&◌, ◌||◌, not}
 
 -- the bits that each pair of bits gives
 abbrev pub paired : (Bool → Bool → Bool) → List Bool → List Bool → List Bool
@@ -13,3 +13,7 @@ both_bits = paired (λ x y. x && y)
 -- one bit at least is set
 abbrev pub either_bits : List Bool → List Bool → List Bool
 either_bits = paired (λ x y. x || y)
+
+-- the first bit is set, and the second is not
+abbrev pub first_bits : List Bool → List Bool → List Bool
+first_bits = paired (λ x y. x && not y)

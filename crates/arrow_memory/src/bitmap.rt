@@ -1,8 +1,8 @@
 //! Bitmaps: shared, packed lists of bits.
 
-ghost use Rattle.std.specs.Prelude.{◌≡◌, ◌+◌, ◌*◌, ◌^◌, ◌<◌, ◌≤◌, ◌↔◌, [], length, replicate, false, not, count_by, slice_get, IsTrue, IfOk, IsOkUnless};
+ghost use Rattle.std.specs.Prelude.{◌≡◌, ◌+◌, ◌*◌, ◌^◌, ◌<◌, ◌≤◌, ◌==◌, ◌↔◌, ℕ, [], length, replicate, false, not, count_by, slice_get, slice_index_or, IsTrue, IfOk, IsOkUnless};
 ghost use Rattle.std.specs.Bool.{beq};
-ghost use Rattle.std.specs.Int.{div_ceil};
+ghost use Rattle.std.specs.Int.{bit_at, div_ceil};
 ghost use Rattle.std.specs.Vec.{vec_capacity};
 ghost use Rattle.std.specs.Cmp.{partial_equiv_from_equiv, bool_eq_equiv};
 ghost use Rattle.std.specs.Cmp.Lexicographic.{pointwise, lists_equiv};
@@ -118,6 +118,17 @@ impl Bitmap {
     {
         let place = self.offset + i;
         self.words[place / WORD_BITS] >> (place % WORD_BITS) & 1 == 1
+    }
+
+    /// Bits 64 j to 64 j + 63 as a word: bit k of it is bit 64 j + k, and those past the last bit are zeros. Every
+    /// `j` is allowed, and the bits may begin anywhere in their words.
+    pub fn word(&self, j: usize) -> u64
+        ensures each { (k : ℕ) → k < 64 → (bit_at result k == 1) ≡ slice_index_or self.now (64 * j + k) false }
+        ensures word { result ≡ word_of (sliced self.now (64 * j) 64) }
+    {
+        let len = self.len();
+        let start = j.saturating_mul(WORD_BITS).min(len);
+        self.bits_from(start, WORD_BITS.min(len - start))
     }
 
     /// How many bits are not set, counted a word at a time.

@@ -11,6 +11,7 @@ use Rattle.arrow_memory.proofs.OffsetLemmas.{map_sliced}
 use Rattle.arrow_memory.proofs.SlicedLemmas.{length-sliced}
 use Rattle.arrow_flat.specs.Parts.{bits_of_slice}
 use Rattle.arrow_flat.proofs.PartsLemmas.{masked-sliced}
+use Rattle.arrow_flat.proofs.RunLemmas.{mask_of_nulls, mask_of_values}
 use Rattle.arrow_arrays.specs.Layout.{Layout, rows, type_of_layout}
 use Rattle.arrow_arrays.proofs.NullLemmas.{map_constant}
 use Rattle.arrow_flat_growable.specs.Grown.{Grown, CannotHold, FitsWith, NamesRows, named_rows}
@@ -19,17 +20,6 @@ use Rattle.arrow_growable.proofs.GrowLemmas.{named, nulls, refuses_whole, too_ma
 use Rattle.arrow_select.specs.Choice.{AreOneLength, CannotAppendChosen, CannotChoose, CannotHoldRun, ChosenDoNotFit, run_rows, truth_slot}
 
 -- runs of a predicate
-
-mask_of_values : (xs : List Slot) (n : ℕ) → length xs ≤ n → mask (replicate n true) xs ≡ xs
-mask_of_values [] zero short = refl
-mask_of_values [] (suc n) short = refl
-mask_of_values (x ∷ xs) zero short = absurd (omega (arith, short))
-mask_of_values (x ∷ xs) (suc n) short = ap (λ ys. x ∷ ys) (mask_of_values xs n (omega (arith, short)))
-
-mask_of_nulls : (xs : List Slot) (n : ℕ) → n ≤ length xs → mask (replicate n false) xs ≡ replicate n Null
-mask_of_nulls xs zero long = refl
-mask_of_nulls [] (suc n) long = absurd (omega (arith, long))
-mask_of_nulls (x ∷ xs) (suc n) long = ap (λ ys. Null ∷ ys) (mask_of_nulls xs n (omega (arith, long)))
 
 -- a part of the rows under a validity
 rows_part : (v : Option (List Bool)) (xs : List Slot) (row n : ℕ) → row + n ≤ length xs → sliced (masked v xs) row n ≡ mask (bits_of_slice v row n) (sliced xs row n)

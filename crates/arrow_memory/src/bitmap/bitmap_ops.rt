@@ -3,7 +3,7 @@
 ghost use Rattle.std.specs.Prelude.{◌≡◌, ◌+◌, ◌*◌, ◌^◌, ◌<◌, ◌&&◌, ◌||◌, ◌==◌, Bool, ℕ, length, map, not, IfOk, IsOkUnless};
 ghost use Rattle.std.specs.Int.{bit_at, div_ceil};
 ghost use Rattle.arrow_types.specs.declared.error.Error.{Error};
-ghost use Rattle.arrow_memory.specs.Bits.{paired, both_bits, either_bits};
+ghost use Rattle.arrow_memory.specs.Bits.{paired, both_bits, either_bits, first_bits};
 ghost use Rattle.arrow_memory.specs.Words.{is_set, Reads};
 
 use crate::bitmap::Bitmap;
@@ -20,6 +20,17 @@ impl Logic for And {
 
     fn of(left: u64, right: u64) -> u64 {
         left & right
+    }
+}
+
+/// Whether the first is set, and the second is not.
+pub(crate) struct AndNot;
+
+impl Logic for AndNot {
+    ghost bits = { λ x y. x && not y };
+
+    fn of(left: u64, right: u64) -> u64 {
+        left & !right
     }
 }
 
@@ -48,6 +59,21 @@ impl Bitmap {
         ensures err { IsOkUnless result Error.OutOfMemory }
     {
         self.combined::<And>(alloc, other)
+    }
+
+    /// The bits that are set here and not in the other, word by word.
+    ///
+    /// # Requires
+    /// Both have as many bits.
+    ///
+    /// # Errors
+    /// `OutOfMemory` as of [`Bitmap::new_zeroed`].
+    pub fn and_not(&self, alloc: Global, other: &Bitmap) -> Result<Bitmap, Error>
+        requires { length self.now ≡ length other.now }
+        ensures ok { IfOk result (λ bitmap. bitmap ≡ first_bits self.now other.now) }
+        ensures err { IsOkUnless result Error.OutOfMemory }
+    {
+        self.combined::<AndNot>(alloc, other)
     }
 
     /// The bits that are set in one at least, word by word.
