@@ -1,11 +1,13 @@
 //! What a line is answered, and how it is printed.
 
-ghost use Rattle.std.specs.Prelude.{IfOk};
+ghost use Rattle.std.specs.Prelude.{◌≡◌, IfOk};
+ghost use Rattle.arrow_types.specs.ArrowType.{plain, boolean};
 ghost use Rattle.arrow_arrays.specs.Any.{any_array_type};
 ghost use Rattle.arrow_engine.specs.Written.{IsWritten};
 
 use crate::literals::WrittenArray;
 use arrow_arrays::array::AnyArray;
+use arrow_flat::array::BooleanArray;
 use arrow_types::error::Error;
 use std::fmt;
 
@@ -26,6 +28,7 @@ pub(crate) enum Refusal {
 #[derive(Drop)]
 pub(crate) enum Answer {
     Array(WrittenArray),
+    Truth(bool),
     Refused(Refusal),
 }
 
@@ -40,6 +43,16 @@ impl Answer {
         }
     }
 
+    /// What a kernel that makes an array of truth values has answered.
+    pub(crate) fn of_predicate(outcome: Result<BooleanArray, Error>) -> Answer
+        requires { IfOk outcome (λ array. array.arrow_type ≡ plain boolean) }
+    {
+        match outcome {
+            Ok(array) => Answer::Array(WrittenArray::new(AnyArray::Boolean(array))),
+            Err(error) => Answer::Refused(Refusal::Kernel(error)),
+        }
+    }
+
     pub(crate) fn is_refusal(&self) -> bool {
         matches!(self, Answer::Refused(_))
     }
@@ -49,6 +62,7 @@ impl fmt::Display for Answer {
     fn fmt<W: fmt::Write>(&self, f: &mut fmt::Formatter<W>) -> fmt::Result {
         match self {
             Answer::Array(array) => write!(f, "{array}"),
+            Answer::Truth(truth) => write!(f, "{truth}"),
             Answer::Refused(refusal) => write!(f, "error {refusal}"),
         }
     }

@@ -1,15 +1,15 @@
 //! The commands, and the kernel that each calls.
 
-ghost use Rattle.std.specs.Prelude.{◌≡◌, length, IfOk};
-ghost use Rattle.arrow_flat.specs.Parts.{boolean_rows};
-ghost use Rattle.arrow_arrays.specs.Any.{any_array_rows, any_array_type};
+mod logic;
+mod selection;
+mod text;
 
 use crate::answer::{Answer, Refusal};
 use crate::literals::Literal;
-use arrow_arrays::array::{AnyArray, are_within};
-use arrow_flat::array::{AnyPrimitive, BooleanArray};
-use arrow_select::{concatenate, filter, if_then_else, take, window};
+use arrow_arrays::array::AnyArray;
+use arrow_flat::array::BooleanArray;
 use arrow_types::error::Error;
+use logic::{Connective, Quantifier};
 use std::alloc::{AllocError, Global};
 
 /// A command that a line may name.
@@ -17,20 +17,38 @@ use std::alloc::{AllocError, Global};
 pub(crate) enum Command {
     BuildFilter,
     Concatenate,
+    Connect(Connective),
     Filter,
     IfThenElse,
+    IsNotNull,
+    IsNull,
+    Length,
+    Not,
+    Quantify(Quantifier),
     Shift,
+    Substring,
     Take,
 }
 
 impl Command {
     pub(crate) fn from_name(name: &str) -> Option<Command> {
         match name {
+            "all" => Some(Command::Quantify(Quantifier::All)),
+            "and" => Some(Command::Connect(Connective::And)),
+            "any" => Some(Command::Quantify(Quantifier::Any)),
             "build_filter" => Some(Command::BuildFilter),
             "concatenate" => Some(Command::Concatenate),
             "filter" => Some(Command::Filter),
             "if_then_else" => Some(Command::IfThenElse),
+            "is_not_null" => Some(Command::IsNotNull),
+            "is_null" => Some(Command::IsNull),
+            "kleene_and" => Some(Command::Connect(Connective::KleeneAnd)),
+            "kleene_or" => Some(Command::Connect(Connective::KleeneOr)),
+            "length" => Some(Command::Length),
+            "not" => Some(Command::Not),
+            "or" => Some(Command::Connect(Connective::Or)),
             "shift" => Some(Command::Shift),
+            "substring" => Some(Command::Substring),
             "take" => Some(Command::Take),
             _ => None,
         }
@@ -43,12 +61,19 @@ impl Command {
         arguments: &[Literal<'_>],
     ) -> Result<Answer, AllocError> {
         match self {
-            Command::BuildFilter => Ok(build_filter(alloc, arguments)),
-            Command::Concatenate => concatenate(alloc, arguments),
-            Command::Filter => Ok(filter(alloc, arguments)),
-            Command::IfThenElse => Ok(if_then_else(alloc, arguments)),
-            Command::Shift => Ok(shift(alloc, arguments)),
-            Command::Take => Ok(take(alloc, arguments)),
+            Command::BuildFilter => Ok(selection::build_filter(alloc, arguments)),
+            Command::Concatenate => selection::concatenate(alloc, arguments),
+            Command::Connect(connective) => Ok(logic::connect(alloc, connective, arguments)),
+            Command::Filter => Ok(selection::filter(alloc, arguments)),
+            Command::IfThenElse => Ok(selection::if_then_else(alloc, arguments)),
+            Command::IsNotNull => Ok(logic::is_not_null(alloc, arguments)),
+            Command::IsNull => Ok(logic::is_null(alloc, arguments)),
+            Command::Length => Ok(text::length(alloc, arguments)),
+            Command::Not => Ok(logic::not(alloc, arguments)),
+            Command::Quantify(quantifier) => Ok(logic::quantify(quantifier, arguments)),
+            Command::Shift => Ok(selection::shift(alloc, arguments)),
+            Command::Substring => Ok(text::substring(alloc, arguments)),
+            Command::Take => Ok(selection::take(alloc, arguments)),
         }
     }
 }
@@ -56,132 +81,13 @@ impl Command {
 /// The answer where a text is too long for an array of its type.
 const TOO_LONG: Refusal = Refusal::Kernel(Error::Overflow);
 
-fn concatenate(alloc: Global, arguments: &[Literal<'_>]) -> Result<Answer, AllocError> {
-    let mut arrays = Vec::new(alloc);
-    for argument in arguments {
-        match argument {
-            Literal::Array(array) => arrays.push(array.as_array())?,
-            Literal::TooLong(_) => return Ok(Answer::Refused(beside_too_long(arguments))),
-            Literal::Number(_) => return Ok(Answer::Refused(Refusal::Usage)),
-        }
-    }
-    Ok(Answer::of_kernel(concatenate::concatenate(alloc, &arrays)))
-}
-
-/// The refusal of arguments one of which is too long, where all are to be arrays.
-fn beside_too_long(arguments: &[Literal<'_>]) -> Refusal {
-    for argument in arguments {
-        if matches!(argument, Literal::Number(_)) {
-            return Refusal::Usage;
-        }
-    }
-    TOO_LONG
-}
-
-fn filter(alloc: Global, arguments: &[Literal<'_>]) -> Answer {
-    let [array, predicate] = arguments else {
-        return Answer::Refused(Refusal::Usage);
+/// The array of truth values that an argument is, if it is one.
+fn as_boolean<'a>(argument: &'a Literal<'_>) -> Option<&'a BooleanArray> {
+    let Literal::Array(array) = argument else {
+        return None;
     };
-    let Literal::Array(predicate) = predicate else {
-        return Answer::Refused(Refusal::Usage);
+    let AnyArray::Boolean(array) = array.as_array() else {
+        return None;
     };
-    let AnyArray::Boolean(predicate) = predicate.as_array() else {
-        return Answer::Refused(Refusal::Usage);
-    };
-    match array {
-        Literal::Array(array) if array.as_array().len() == predicate.len() => {
-            Answer::of_kernel(filter::filter(alloc, array.as_array(), predicate))
-        }
-        Literal::TooLong(len) if *len == predicate.len() => Answer::Refused(TOO_LONG),
-        _ => Answer::Refused(Refusal::Usage),
-    }
-}
-
-fn build_filter(alloc: Global, arguments: &[Literal<'_>]) -> Answer {
-    let [predicate, array] = arguments else {
-        return Answer::Refused(Refusal::Usage);
-    };
-    let Literal::Array(predicate) = predicate else {
-        return Answer::Refused(Refusal::Usage);
-    };
-    let AnyArray::Boolean(predicate) = predicate.as_array() else {
-        return Answer::Refused(Refusal::Usage);
-    };
-    match array {
-        Literal::Array(array) if array.as_array().len() == predicate.len() => {
-            Answer::of_kernel(build_and_apply(alloc, predicate, array.as_array()))
-        }
-        Literal::TooLong(len) if *len == predicate.len() => Answer::Refused(TOO_LONG),
-        _ => Answer::Refused(Refusal::Usage),
-    }
-}
-
-/// The rows that a filter keeps which is built of the predicate.
-fn build_and_apply(
-    alloc: Global,
-    predicate: &BooleanArray,
-    array: &AnyArray,
-) -> Result<AnyArray, Error>
-    requires lengths { length (boolean_rows predicate.now) ≡ length (any_array_rows array.now) }
-    ensures { IfOk result (λ kept. any_array_type kept ≡ any_array_type array.now) }
-{
-    let built = filter::build_filter(alloc, predicate)?;
-    built.apply(alloc, array)
-}
-
-fn if_then_else(alloc: Global, arguments: &[Literal<'_>]) -> Answer {
-    let [predicate, lhs, rhs] = arguments else {
-        return Answer::Refused(Refusal::Usage);
-    };
-    let Literal::Array(predicate) = predicate else {
-        return Answer::Refused(Refusal::Usage);
-    };
-    let AnyArray::Boolean(predicate) = predicate.as_array() else {
-        return Answer::Refused(Refusal::Usage);
-    };
-    let Literal::Array(lhs) = lhs else {
-        return Answer::Refused(beside_too_long(arguments));
-    };
-    let Literal::Array(rhs) = rhs else {
-        return Answer::Refused(beside_too_long(arguments));
-    };
-    Answer::of_kernel(if_then_else::if_then_else(alloc, predicate, lhs.as_array(), rhs.as_array()))
-}
-
-fn shift(alloc: Global, arguments: &[Literal<'_>]) -> Answer {
-    let [array, offset] = arguments else {
-        return Answer::Refused(Refusal::Usage);
-    };
-    let Literal::Number(offset) = offset else {
-        return Answer::Refused(Refusal::Usage);
-    };
-    let Ok(offset) = offset.parse() else {
-        return Answer::Refused(Refusal::Usage);
-    };
-    match array {
-        Literal::Array(array) => {
-            Answer::of_kernel(window::shift(alloc, array.as_array(), offset))
-        }
-        Literal::TooLong(_) => Answer::Refused(TOO_LONG),
-        Literal::Number(_) => Answer::Refused(Refusal::Usage),
-    }
-}
-
-fn take(alloc: Global, arguments: &[Literal<'_>]) -> Answer {
-    let [array, indices] = arguments else {
-        return Answer::Refused(Refusal::Usage);
-    };
-    let Literal::Array(indices) = indices else {
-        return Answer::Refused(Refusal::Usage);
-    };
-    let AnyArray::Primitive(AnyPrimitive::Int32(indices)) = indices.as_array() else {
-        return Answer::Refused(Refusal::Usage);
-    };
-    match array {
-        Literal::Array(array) if are_within(indices, array.as_array().len()) => {
-            Answer::of_kernel(take::take(alloc, array.as_array(), indices))
-        }
-        Literal::TooLong(len) if are_within(indices, *len) => Answer::Refused(TOO_LONG),
-        _ => Answer::Refused(Refusal::Usage),
-    }
+    Some(array)
 }

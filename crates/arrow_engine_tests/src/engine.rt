@@ -155,7 +155,7 @@ fn check_run(
 }
 
 /// Input by a name, whether a line of it is refused, and the output.
-const LINES: [(&str, &[u8], bool, &[u8]); 55] = [
+const LINES: [(&str, &[u8], bool, &[u8]); 63] = [
     ("nothing", b"", false, b""),
     (
         "filter",
@@ -276,6 +276,54 @@ const LINES: [(&str, &[u8], bool, &[u8]); 55] = [
         b"if_then_else i32[1] i32[1] i32[1]\nif_then_else bool[t] i32[1] 4\nif_then_else bool[t] i32[1]\n",
         true,
         b"error Usage\nerror Usage\nerror Usage\n",
+    ),
+    (
+        "two-valued logic",
+        b"and bool[f,t,_] bool[t,t,f]\nor bool[f,t,_] bool[t,t,f]\nnot bool[f,t,_t]\n",
+        false,
+        b"bool[f,t,_]\nbool[t,t,_]\nbool[t,f,_]\n",
+    ),
+    (
+        "Kleene's logic",
+        b"kleene_and bool[t,f,_] bool[_,_t,_f]\nkleene_or bool[t,f,_] bool[_f,_,_t]\n",
+        false,
+        b"bool[_,f,_]\nbool[t,_,_]\n",
+    ),
+    (
+        "whether some rows and all rows are true",
+        b"any bool[f,_t]\nany bool[f,t]\nany bool[]\nall bool[]\nall bool[t,_t]\nall bool[t,t]\n",
+        false,
+        b"false\ntrue\nfalse\ntrue\nfalse\ntrue\n",
+    ),
+    (
+        "nulls",
+        b"is_null i32[1,_2]\nis_not_null utf8[\"a\",_]\nis_null bool[_t]\n",
+        false,
+        b"bool[f,t]\nbool[t,f]\nbool[t]\n",
+    ),
+    (
+        "bytes of texts",
+        b"length utf8[\"h\xc3\xa9llo\",_,\"\"]\nlength i32[1]\n",
+        true,
+        b"i32[6,_,0]\nerror LengthType\n",
+    ),
+    (
+        "parts of texts",
+        b"substring utf8[\"a b\"] -1\nsubstring utf8[\"h\xc3\xa9llo\",_] 1 2\nsubstring utf8[\"a\"] 0 18446744073709551615\nsubstring i32[1] 0\n",
+        true,
+        b"utf8[\"b\"]\nutf8[\"\xc3\xa9l\",_]\nutf8[\"a\"]\nerror SubstringType\n",
+    ),
+    (
+        "other arguments of logic",
+        b"and bool[t] bool[t,f]\nkleene_or bool[t] i32[1]\nnot i32[1]\nany bool[t] bool[t]\nis_null 4\nor bool[t]\n",
+        true,
+        b"error Usage\nerror Usage\nerror Usage\nerror Usage\nerror Usage\nerror Usage\n",
+    ),
+    (
+        "other arguments of lengths and parts",
+        b"length 4\nsubstring 1 utf8[\"a\"]\nsubstring utf8[\"a\"]\nsubstring utf8[\"a\"] 9223372036854775808\nsubstring utf8[\"a\"] 0 18446744073709551616\nsubstring utf8[\"a\"] 0 -1\n",
+        true,
+        b"error Usage\nerror Usage\nerror Usage\nerror Usage\nerror Usage\nerror Usage\n",
     ),
     (
         "booleans",

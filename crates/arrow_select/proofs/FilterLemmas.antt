@@ -1,11 +1,16 @@
 -- The mask that a predicate stands for, and the rows that a mask selects, a run at a time.
-use Rattle.std.proofs.Common.{arith, ◌≡◌, ◌+◌, ℕ, zero, suc, Bool, true, false, Option, Some, None, List, [], ◌∷◌, ◌++◌, length, map, replicate, take, drop, refl, ap, sym, ◌∙◌, append_assoc}
+use Rattle.std.proofs.Common.{arith, ◌≡◌, ◌+◌, ℕ, zero, suc, Bool, true, false, Option, Some, None, List, [], ◌∷◌, ◌++◌, length, map, replicate, take, drop, cond, if◌then◌else◌, refl, ap, sym, subst, ◌∙◌, append_assoc}
+use Rattle.std.specs.Prelude.{count_by, option_map}
 use Rattle.std.proofs.lemmas.List.{append-nil, drop-drop}
+use Rattle.std.proofs.lemmas.List.Sums.{count_by-le-length, sum_by-cons}
 use Rattle.arrow_types.specs.Rows.{mask, mask_of, masked, select}
-use Rattle.arrow_types.specs.Slot.{Slot, Boolean}
+use Rattle.arrow_types.specs.Slot.{Slot, Boolean, Null}
 use Rattle.arrow_types.proofs.RowsLemmas.{select-nil}
 use Rattle.arrow_memory.specs.Bits.{both_bits}
 use Rattle.arrow_memory.specs.Sliced.{sliced}
+use Rattle.arrow_flat.specs.Parts.{FitsRows}
+use Rattle.arrow_select.specs.Selected.{at_set}
+use Rattle.arrow_select.proofs.SetLemmas.{length-at_set}
 
 -- the mask of truth values, none of which is null
 mask_of_bits : (bits : List Bool) → mask_of (map Boolean bits) ≡ bits
@@ -63,3 +68,55 @@ module _ (unset count : ℕ) (old left : List Bool) (is : old ≡ replicate unse
   pub keeps_run : (kept : List Slot) (mask : List Bool) → KeepsUpTo kept old mask xs row → KeepsUpTo (kept ++ sliced xs (row + unset) count) left mask xs (row + unset + count)
   keeps_run kept mask so_far =
       append_assoc kept (sliced xs (row + unset) count) (select left (drop (row + unset + count) xs)) ∙ (ap (λ ys. kept ++ ys) (sym run_selects) ∙ so_far)
+
+-- ---- rows by the members at which a mask is set
+
+nil_at : {A : Type 0} (mask : List Bool) → ◌≡◌ {A = List A} (at_set mask []) []
+nil_at [] = refl
+nil_at (b ∷ mask) = refl
+
+nil_under : (validity : List Bool) → ◌≡◌ {A = List Slot} (mask validity []) []
+nil_under [] = refl
+nil_under (b ∷ validity) = refl
+
+select_is : (m : List Bool) (xs : List Slot) → select m xs ≡ at_set m xs
+select_is [] xs = refl
+select_is (b ∷ m) [] = refl
+select_is (true ∷ m) (x ∷ xs) = ap (λ ys. x ∷ ys) (select_is m xs)
+select_is (false ∷ m) (x ∷ xs) = select_is m xs
+
+at_set-map : {A B : Type 0} (f : A → B) (m : List Bool) (xs : List A) → map f (at_set m xs) ≡ at_set m (map f xs)
+at_set-map f [] xs = refl
+at_set-map f (b ∷ m) [] = refl
+at_set-map f (true ∷ m) (x ∷ xs) = ap (λ ys. f x ∷ ys) (at_set-map f m xs)
+at_set-map f (false ∷ m) (x ∷ xs) = at_set-map f m xs
+
+at_set-mask : (m validity : List Bool) (xs : List Slot) → mask (at_set m validity) (at_set m xs) ≡ at_set m (mask validity xs)
+at_set-mask [] validity xs = refl
+at_set-mask (b ∷ m) [] xs = refl
+at_set-mask (b ∷ m) (v ∷ validity) [] = nil_under (at_set (b ∷ m) (v ∷ validity))
+at_set-mask (true ∷ m) (v ∷ validity) (x ∷ xs) = ap (λ ys. (if v then x else Null) ∷ ys) (at_set-mask m validity xs)
+at_set-mask (false ∷ m) (v ∷ validity) (x ∷ xs) = at_set-mask m validity xs
+
+-- what is stored, under the validity of the rows that are kept
+pub set_rows : {T : Type 0} (slot : T → Slot) (m : List Bool) (v w : Option (List Bool)) (values kept : List T) → w ≡ option_map (at_set m) v → kept ≡ at_set m values → masked w (map slot kept) ≡ select m (masked v (map slot values))
+set_rows slot m None w values kept is are =
+    (λ i. masked (is i) (map slot (are i))) ∙ (at_set-map slot m values ∙ sym (select_is m (map slot values)))
+set_rows slot m (Some validity) w values kept is are =
+    (λ i. masked (is i) (map slot (are i))) ∙ (ap (mask (at_set m validity)) (at_set-map slot m values) ∙ (at_set-mask m validity (map slot values) ∙ sym (select_is m (mask validity (map slot values)))))
+
+-- and it has a bit for each of them
+pub set_fits : {T : Type 0} (m : List Bool) (v w : Option (List Bool)) (values kept : List T) → w ≡ option_map (at_set m) v → kept ≡ at_set m values → length m ≡ length values → FitsRows v (length values) → FitsRows w (length kept)
+set_fits m None w values kept is are lengths fits = subst (λ w. FitsRows w (length kept)) (sym is) tt
+set_fits m (Some validity) w values kept is are lengths fits =
+    subst (λ w. FitsRows w (length kept)) (sym is) (length-at_set m validity (lengths ∙ sym fits) ∙ (sym (length-at_set m values lengths) ∙ sym (ap length are)))
+
+-- where each bit is set these are all
+pub select_all : (m : List Bool) (xs : List Slot) → length m ≡ length xs → count_by (λ b. b) m ≡ length xs → xs ≡ select m xs
+select_all [] [] lengths all = refl
+select_all [] (x ∷ xs) lengths all = absurd (omega (arith, lengths))
+select_all (b ∷ m) [] lengths all = absurd (omega (arith, lengths))
+select_all (true ∷ m) (x ∷ xs) lengths all =
+    ap (λ ys. x ∷ ys) (select_all m xs (omega (arith, lengths)) (omega (arith, all, sum_by-cons (λ b. cond b 1 0) true m)))
+select_all (false ∷ m) (x ∷ xs) lengths all =
+    absurd (omega (arith, lengths, all, sum_by-cons (λ b. cond b 1 0) false m, count_by-le-length (λ b. b) m))

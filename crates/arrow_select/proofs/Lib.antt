@@ -6,10 +6,10 @@ pub mod FilterLemmas
 pub mod IndexLemmas
 pub mod KeyLemmas
 pub mod LawLemmas
+pub mod SetLemmas
 pub mod ShiftLemmas
 pub mod TakenBytes
 pub mod TakenFields
 pub mod TakenKeys
 pub mod TakenRuns
 pub mod TakenTypes
-pub mod ValueLemmas

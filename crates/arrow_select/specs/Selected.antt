@@ -1,9 +1,10 @@
--- Rows of columns that a mask keeps.
-use Rattle.std.specs.Prelude.{◌≡◌, ℕ, Bool, List, Some, slice_get, take}
+-- Rows of columns that a mask keeps, and values and bits at which a mask is set.
+use Rattle.std.specs.Prelude.{◌≡◌, ℕ, Bool, List, [], ◌∷◌, Some, length, slice_get, take, if◌then◌else◌}
 use Rattle.std.specs.List.{All}
 use Rattle.arrow_types.specs.Fits.{Fits}
 use Rattle.arrow_types.specs.Rows.{select}
 use Rattle.arrow_types.specs.Slot.{Slot}
+use Rattle.arrow_memory.specs.Words.{low_bits}
 use Rattle.arrow_arrays.specs.Layout.{Layout, rows, type_of_layout}
 
 -- those of one column
@@ -14,3 +15,16 @@ selected_rows mask column = select mask (rows column)
 abbrev pub FirstDoesNotFit : List Bool → List Layout → Type 0
 FirstDoesNotFit mask columns =
     (k : ℕ) × (column : Layout) × (slice_get columns k ≡ Some column) × All (λ c. Fits (type_of_layout c) (selected_rows mask c)) (take k columns) × (Fits (type_of_layout column) (selected_rows mask column) → ⊥)
+
+-- the members of a list at which a mask is set, in order
+abbrev pub at_set : {A : Type 0} → List Bool → List A → List A
+at_set (bit ∷ mask) (x ∷ xs) = if bit then x ∷ at_set mask xs else at_set mask xs
+at_set _ _ = []
+
+-- the values at which the bits of a word are set, from the least significant one on; bits past the values count for nothing
+abbrev pub set_in_word : {A : Type 0} → ℕ → List A → List A
+set_in_word word xs = at_set (low_bits word (length xs)) xs
+
+-- the bits of a word, from the least significant one on
+unfoldable pub word_bits : ℕ → List Bool
+word_bits word = low_bits word 64

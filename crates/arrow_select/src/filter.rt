@@ -11,8 +11,10 @@ ghost use Rattle.arrow_flat.specs.Parts.{boolean_rows};
 ghost use Rattle.arrow_memory.specs.Grown.{IsGrowthError};
 ghost use Rattle.arrow_select.specs.Selected.{FirstDoesNotFit, selected_rows};
 
+mod boolean;
 mod prepared;
 mod primitive;
+mod words;
 
 use arrow_arrays::array::AnyArray;
 use arrow_arrays::chunk::Chunk;
@@ -20,6 +22,7 @@ use arrow_flat::array::BooleanArray;
 use arrow_types::error::Error;
 pub use prepared::{Filter, build_filter};
 use std::alloc::Global;
+pub use words::extend_from_word;
 
 /// The rows at which the predicate is true, in order, in an array of the same type. A null of the
 /// predicate counts as false, whatever is stored beneath it.

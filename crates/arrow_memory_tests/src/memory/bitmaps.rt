@@ -84,6 +84,7 @@ fn check_twice(rt: &(impl Abort + Alloc<A = Global>), part: &Bitmap, want: &[boo
 #[derive(Clone, Copy)]
 enum Logic {
     And,
+    AndNot,
     Or,
     Not,
 }
@@ -99,6 +100,7 @@ fn combined(
     let alloc = rt.alloc();
     match logic {
         Logic::And => a.and(alloc, b),
+        Logic::AndNot => a.and_not(alloc, b),
         Logic::Or => a.or(alloc, b),
         Logic::Not => a.not(alloc),
     }
@@ -115,6 +117,7 @@ fn combined_bits(
     for (x, y) in left.iter().zip(right) {
         bits.push(match logic {
             Logic::And => *x && *y,
+            Logic::AndNot => *x && !*y,
             Logic::Or => *x || *y,
             Logic::Not => !*x,
         })?;
@@ -207,11 +210,24 @@ fn check_run(
         check_twice(rt, &a, left);
     }
     let b = part_of(rt, whole, 20, len);
-    for logic in [Logic::And, Logic::Or, Logic::Not] {
+    for logic in [Logic::And, Logic::AndNot, Logic::Or, Logic::Not] {
         check_logic(rt, logic, &a, &b, left, &bits[20..20 + len]);
     }
     check_appended(rt, whole, bits, len, offset, len);
     check_appended(rt, whole, bits, offset, 1, len);
+    for j in [0, 1, 2, 3, usize::MAX] {
+        check_read(rt, &a, left, j);
+    }
+}
+
+/// Word `j` of a bitmap: its bits, and zeros past the last.
+fn check_read(rt: &impl Abort, found: &Bitmap, want: &[bool], j: usize) {
+    let word = found.word(j);
+    for k in 0..64usize {
+        let place = j.saturating_mul(64).saturating_add(k);
+        let bit = want.get(place).copied().unwrap_or(false);
+        check!(rt; (word >> k & 1 == 1) == bit, (j, k));
+    }
 }
 
 /// Each length at each bit offset, of bits without a short period.

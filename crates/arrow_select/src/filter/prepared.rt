@@ -11,6 +11,7 @@ ghost use Rattle.arrow_growable.specs.AnyGrowable.{grown_of};
 ghost use Rattle.arrow_growable.specs.Growing.{HasAppended};
 ghost use Rattle.arrow_memory.specs.Grown.{IsGrowthError};
 
+use crate::filter::boolean::filter_boolean;
 use crate::filter::primitive::filter_primitive;
 use arrow_arrays::array::AnyArray;
 use arrow_flat::array::BooleanArray;
@@ -79,9 +80,13 @@ impl Filter {
         ensures others { IfErr result IsGrowthError }
     {
         match array {
-            AnyArray::Primitive(values) if values.validity().is_none() => {
+            AnyArray::Primitive(values) => {
                 let kept = filter_primitive(alloc, values, &self.mask, self.count())?;
                 Ok(AnyArray::Primitive(kept))
+            }
+            AnyArray::Boolean(values) => {
+                let kept = filter_boolean(alloc, values, &self.mask, self.count())?;
+                Ok(AnyArray::Boolean(kept))
             }
             _ => {
                 let growable = make_growable(alloc, &[array], false, self.count())?;

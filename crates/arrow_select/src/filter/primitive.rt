@@ -1,12 +1,13 @@
-//! Values of a fixed width, none of which is null, at which a mask is set.
+//! Numbers and intervals at which a mask is set.
 
-ghost use Rattle.std.specs.Prelude.{◌≡◌, None, count_by, length, map, IfOk, IsOkUnless};
+ghost use Rattle.std.specs.Prelude.{◌≡◌, count_by, length, map, IfOk, IsOkUnless};
 ghost use Rattle.arrow_types.specs.declared.error.Error.{Error};
 ghost use Rattle.arrow_types.specs.Fits.{Fits};
 ghost use Rattle.arrow_types.specs.Rows.{select};
-ghost use Rattle.arrow_flat.specs.AnyPrimitive.{any_parts, any_rows, any_type};
+ghost use Rattle.arrow_flat.specs.AnyPrimitive.{any_rows, any_type};
 ghost use Rattle.arrow_flat.specs.Parts.{rows_by};
 
+use crate::filter::words::set_rows;
 use arrow_flat::array::{AnyPrimitive, PrimitiveArray};
 use arrow_memory::bitmap::Bitmap;
 use arrow_memory::buffer::Buffer;
@@ -17,7 +18,7 @@ use std::alloc::Global;
 /// The rows at which the mask is set, in an array of the same type, of any element type.
 ///
 /// # Requires
-/// The array has no validity, the mask has a bit for each row, and `count` of them are set.
+/// The mask has a bit for each row, and `count` of them are set.
 ///
 /// # Errors
 /// `OutOfMemory` where memory is refused.
@@ -27,7 +28,6 @@ pub(super) fn filter_primitive(
     mask: &Bitmap,
     count: usize,
 ) -> Result<AnyPrimitive, Error>
-    requires no_nulls { (any_parts array.now).validity ≡ None }
     requires lengths { length mask.now ≡ length (any_rows array.now) }
     requires count { count ≡ count_by (λ is_kept. is_kept) mask.now }
     ensures array_type { IfOk result (λ kept. any_type kept ≡ any_type array.now) }
@@ -56,14 +56,13 @@ pub(super) fn filter_primitive(
     }
 }
 
-/// The same of one element type.
+/// The same of one element type. Where all rows are kept the array is shared, and nothing is copied.
 fn filter_values<T: NativeType>(
     alloc: Global,
     array: &PrimitiveArray<T>,
     mask: &Bitmap,
     count: usize,
 ) -> Result<PrimitiveArray<T>, Error>
-    requires no_nulls { array.now.validity ≡ None }
     requires lengths { length mask.now ≡ length (rows_by (map T.slot) array.now) }
     requires count { count ≡ count_by (λ is_kept. is_kept) mask.now }
     ensures array_type { IfOk result (λ kept. kept.arrow_type ≡ array.now.arrow_type) }
@@ -71,45 +70,15 @@ fn filter_values<T: NativeType>(
     ensures fits { IfOk result (λ kept. Fits kept.arrow_type (rows_by (map T.slot) kept)) }
     ensures err { IsOkUnless result Error.OutOfMemory }
 {
-    let kept = set_values(alloc, array.values().as_slice(), mask, count)?;
+    let data_type = array.data_type();
+    if count == array.len() {
+        return Ok(array.clone()?);
+    }
+    let values = array.values().as_slice();
+    let (kept, validity) = set_rows(alloc, values, array.validity(), mask, count)?;
     let kept = Buffer::from_vec(alloc, kept)?;
-    let data_type = array.data_type().clone()?;
-    let Ok(kept) = PrimitiveArray::try_new(data_type, kept, None) else {
+    let Ok(kept) = PrimitiveArray::try_new(data_type.clone()?, kept, validity) else {
         unreachable!();
     };
     Ok(kept)
-}
-
-/// The values at which the mask is set.
-fn set_values<T: NativeType>(
-    alloc: Global,
-    values: &[T],
-    mask: &Bitmap,
-    count: usize,
-) -> Result<Vec<T>, Error>
-    requires lengths { length mask.now ≡ length values.now }
-    requires count { count ≡ count_by (λ is_kept. is_kept) mask.now }
-    ensures ok { IfOk result (λ kept. map T.slot kept.items ≡ select mask.now (map T.slot values.now)) }
-    ensures err { IsOkUnless result Error.OutOfMemory }
-{
-    let mut kept = Vec::with_capacity(alloc, count)?;
-    kept.resize(count, T::default())?;
-    write_set(&mut kept, values, mask);
-    Ok(kept)
-}
-
-/// Writes the values at which the mask is set, of which there are as many as there is room for. Each value is written
-/// where the next one stands that is kept, and is overwritten where it is not itself: no branch depends on a bit.
-fn write_set<T: NativeType>(kept: &mut [T], values: &[T], mask: &Bitmap)
-    requires room { length kept.old ≡ count_by (λ is_kept. is_kept) mask.now }
-    requires lengths { length mask.now ≡ length values.now }
-    ensures { map T.slot kept.new ≡ select mask.now (map T.slot values.now) }
-{
-    let mut row = 0;
-    let mut next = 0;
-    while next < kept.len() {
-        kept[next] = values[row];
-        next += usize::from(mask.get_bit(row));
-        row += 1;
-    }
 }

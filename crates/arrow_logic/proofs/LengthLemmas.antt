@@ -1,0 +1,85 @@
+-- How long rows are, a word of rows at a time.
+use Rattle.std.proofs.Common.{◌≡◌, ℕ, suc, ◌+◌, ◌-◌, ◌/◌, ◌^◌, ◌<◌, ◌≤◌, ◌==◌, ℤ, pos, ◌-ℤ◌, ◌≤ℤ◌, Bool, true, false, Option, List, [], ◌∷◌, ◌++◌, length, map, take, get_or, slice_index, if◌then◌else◌, bit_and, nat_eq, refl, ap, subst, subst₂, sym, ◌∙◌, append_assoc, arith}
+use Rattle.std.specs.Int.{bit_at}
+use Rattle.std.specs.List.{range_with_len}
+use Rattle.std.proofs.Math.Seq.{take-add}
+use Rattle.std.proofs.lemmas.Int.{ints}
+use Rattle.std.proofs.lemmas.List.{ext_get_or, map-append}
+use Rattle.std.proofs.lemmas.List.FromFn.{get_or-map-range_with_len, length-map-range_with_len, map-range_with_len_more}
+use Rattle.std.proofs.lemmas.Nat.Bits.{shr_and_one}
+use Rattle.std.proofs.lemmas.Option.{get_or_from_slice_get}
+use Rattle.std.proofs.lemmas.Simd.{map-map}
+use Rattle.arrow_types.specs.Slot.{Slot, Number}
+use Rattle.arrow_memory.specs.Offsets.{IsOffsets, last_of}
+use Rattle.arrow_memory.specs.Sliced.{sliced}
+use Rattle.arrow_memory.proofs.OffsetLemmas.{at_most_last, offsets_rise}
+use Rattle.arrow_memory.proofs.SlicedLemmas.{length-sliced}
+use Rattle.arrow_flat.specs.Parts.{FitsRows}
+use Rattle.arrow_flat.specs.Pieces.{pieces}
+use Rattle.arrow_flat.proofs.PartsLemmas.{fits_within}
+use Rattle.arrow_flat.proofs.PieceLemmas.{length-pieces, member_of_part, piece_at}
+use Rattle.arrow_logic.specs.Kept.{kept}
+use Rattle.arrow_logic.specs.Length.{HasBitsFrom, word_length}
+use Rattle.arrow_logic.proofs.KeptLemmas.{at-kept, length-kept}
+
+-- rows that lie so in bytes, under a validity
+module _ (v : Option (List Bool)) (os bytes : List ℕ) (sound : IsOffsets os) (within : last_of os ≤ length bytes) (fits : FitsRows v (length os - 1)) where
+  -- the bytes of row i, and how many there are
+  pub row_is : (i : ℕ) → i + 1 < length os → get_or (pieces os bytes) i [] ≡ sliced bytes (slice_index os i) (slice_index os (i + 1) - slice_index os i)
+  row_is i here = get_or_from_slice_get (pieces os bytes) i _ [] (piece_at os bytes i here)
+
+  row_long : (i : ℕ) → i + 1 < length os → length (get_or (pieces os bytes) i []) ≡ slice_index os (i + 1) - slice_index os i
+  row_long i here =
+      let order = offsets_rise os i (i + 1) sound (omega arith) here in
+      let end = at_most_last os (i + 1) sound here in
+      ap length (row_is i here) ∙ length-sliced bytes (slice_index os i) (slice_index os (i + 1) - slice_index os i) (omega (arith, order, end, within))
+
+  counted : length (pieces os bytes) ≡ length os - 1
+  counted = length-pieces os bytes
+
+  -- as many as there are rows
+  pub length-lengths : length (kept 0 length v (pieces os bytes)) ≡ length os - 1
+  length-lengths = length-kept 0 length v (pieces os bytes) (subst (FitsRows v) (sym counted) fits) ∙ counted
+
+  -- so many rows by the bits of a word
+  pub word_of_lengths : (word row count : ℕ) → count ≤ 64 → row + count < length os → HasBitsFrom row v word → map (word_length word os row) (range_with_len 0 count) ≡ sliced (kept 0 length v (pieces os bytes)) row count
+  word_of_lengths word row count small here marks =
+      let long = length-sliced (kept 0 length v (pieces os bytes)) row count (omega (arith, length-lengths, here)) in
+      ext_get_or 0 _ _ (length-map-range_with_len (word_length word os row) 0 count ∙ sym long) (λ i at. each i (omega (arith, at, length-map-range_with_len (word_length word os row) 0 count)))
+    where
+      each : (i : ℕ) → i < count → get_or (map (word_length word os row) (range_with_len 0 count)) i 0 ≡ get_or (sliced (kept 0 length v (pieces os bytes)) row count) i 0
+      each i at =
+          let inside : row + i + 1 < length os = omega arith in
+          let bit = marks i (omega arith) (fits_within v (length os - 1) (suc (row + i)) fits (omega arith)) in
+          let read = at-kept 0 length v (pieces os bytes) (row + i) [] (subst (FitsRows v) (sym counted) fits) (omega (arith, counted)) in
+          get_or-map-range_with_len (word_length word os row) 0 count i i 0 at (omega arith) ∙ ((λ t. if bit t then sym (row_long (row + i) inside) t else 0) ∙ sym (member_of_part _ row count i at ∙ read))
+
+  -- a word of rows more
+  pub lengths_next : {A : Type 0} (f : A → ℤ) (old new : List A) (word row count place : ℕ) (w : Option (List Bool)) → w ≡ v → place ≡ row → count ≤ 64 → row + count < length os → HasBitsFrom place w word → map f new ≡ map f old ++ map (λ k. pos (word_length word os row k)) (range_with_len 0 count) → map f old ≡ map pos (take row (kept 0 length v (pieces os bytes))) → map f new ≡ map pos (take (row + count) (kept 0 length v (pieces os bytes)))
+  lengths_next f old new word row count place w same here small inside marks more before =
+      let all = kept 0 length v (pieces os bytes) in
+      let by_bits = word_of_lengths word row count small inside (subst₂ (λ n w. HasBitsFrom n w word) here same marks) in
+      let behind = sym (map-map pos (word_length word os row) (range_with_len 0 count)) ∙ ap (map pos) by_bits in
+      more ∙ ((λ t. before t ++ behind t) ∙ (sym (map-append pos (take row all) (sliced all row count)) ∙ ap (map pos) (sym (take-add row count all))))
+
+-- one row more, by a bit of a word and the offsets on both sides of it
+pub length_next : {A : Type 0} (f : A → ℤ) (old new : List A) (x : A) (before : List ℤ) (word : ℕ) (os : List ℕ) (start k : ℕ) (begin end : ℤ) → k < 64 → new ≡ old ++ x ∷ [] → f x ≡ (if nat_eq (bit_and (word / 2 ^ k) 1) 1 then end -ℤ begin else pos 0) → begin ≡ pos (slice_index os (start + k)) → end ≡ pos (slice_index os (start + k + 1)) → begin ≤ℤ end → map f old ≡ before ++ map (λ k. pos (word_length word os start k)) (range_with_len 0 k) → map f new ≡ before ++ map (λ k. pos (word_length word os start k)) (range_with_len 0 (k + 1))
+length_next f old new x before word os start k begin end below is value here there order so_far =
+    let lengths = λ (n : ℕ). pos (word_length word os start n) in
+    let bit : nat_eq (bit_and (word / 2 ^ k) 1) 1 ≡ (bit_at word k == 1) = ap (λ b. nat_eq b 1) (shr_and_one word k) in
+    let long : end -ℤ begin ≡ pos (slice_index os (start + k + 1) - slice_index os (start + k)) = omega (arith, ints) in
+    let one : f x ≡ lengths k = value ∙ ((λ t. if bit t then long t else pos 0) ∙ choice (bit_at word k == 1) _) in
+    ap (map f) is ∙ (map-append f old (x ∷ []) ∙ ((λ t. so_far t ++ one t ∷ []) ∙ (append_assoc before (map lengths (range_with_len 0 k)) (lengths k ∷ []) ∙ ap (λ zs. before ++ zs) (sym (map-range_with_len_more lengths 0 k k (omega arith))))))
+  where
+    choice : (t : Bool) (n : ℕ) → (if t then pos n else pos 0) ≡ pos (if t then n else 0)
+    choice true n = refl
+    choice false n = refl
+
+-- values whose numbers are these, as slots
+pub slots_of_numbers : {A : Type 0} (slot : A → Slot) (number : A → ℤ) → ((x : A) → slot x ≡ Number (number x)) → (xs : List A) (ns : List ℕ) → map number xs ≡ map pos ns → map slot xs ≡ map (λ n. Number (pos n)) ns
+slots_of_numbers slot number numbered xs ns same =
+    every xs ∙ (sym (map-map Number number xs) ∙ (ap (map Number) same ∙ map-map Number pos ns))
+  where
+    every : (ys : _) → map slot ys ≡ map (λ x. Number (number x)) ys
+    every [] = refl
+    every (y ∷ ys) = λ i. numbered y i ∷ every ys i

@@ -1,0 +1,13 @@
+pub mod AnswerLemmas
+pub mod BitLemmas
+pub mod ConnectiveLemmas
+pub mod KeptLemmas
+pub mod LawLemmas
+pub mod LengthLemmas
+pub mod MaskedLemmas
+pub mod NullLemmas
+pub mod NullRowLemmas
+pub mod PartLemmas
+pub mod ScalarLemmas
+pub mod TextLemmas
+pub mod WordLemmas

@@ -1,0 +1,82 @@
+-- Which rows of an array of any type are null, by its validity.
+use Rattle.std.proofs.Common.{◌≡◌, ◌↔◌, ℕ, suc, Bool, true, false, not, Some, None, List, [], ◌∷◌, length, map, replicate, refl, ap, sym, ◌∙◌, arith}
+use Rattle.std.specs.Prelude.{IsTrue}
+use Rattle.std.specs.List.{All}
+use Rattle.std.proofs.lemmas.List.{length-replicate}
+use Rattle.std.proofs.lemmas.Simd.{map-map}
+use Rattle.std.proofs.Math.Bool.{not-not}
+use Rattle.arrow_types.specs.Relation.{is_null}
+use Rattle.arrow_types.specs.Slot.{Slot, Null as null}
+use Rattle.arrow_flat.specs.Parts.{IsValue}
+use Rattle.arrow_arrays.specs.Any.{MarksArray, any_array_rows, kind_of, null_kind}
+use Rattle.arrow_arrays.specs.declared.array.any.AnyArray.{AnyArray}
+use Rattle.arrow_arrays.specs.declared.array.any.AnyArray.TheVariants.{Null, Boolean, Primitive, Utf8, LargeUtf8, Binary, LargeBinary, FixedSizeBinary, List as ListOf, FixedSizeList, Struct, Union, Map, Dictionary}
+use Rattle.arrow_logic.proofs.MaskedLemmas.{replicate-of}
+
+-- no row is null, and each is
+values_are_not_null : (xs : List Slot) (r : Bool) → All IsValue xs → (IsTrue r → ⊥) → map is_null xs ≡ replicate (length xs) r
+values_are_not_null [] r values not_null = refl
+values_are_not_null (x ∷ xs) true values not_null = absurd (not_null refl)
+values_are_not_null (x ∷ xs) false values not_null =
+    let first : is_null x ≡ false = values 0 x (omega arith) in
+    let rest = values_are_not_null xs false (λ k d within. values (suc k) d (omega (arith, within))) not_null in
+    λ i. first i ∷ rest i
+
+nulls_are_null : (n : ℕ) (r : Bool) → IsTrue r → map is_null (replicate n null) ≡ replicate (length (replicate n null)) r
+nulls_are_null n r is =
+    replicate-of is_null n null ∙ (λ i. replicate (sym (length-replicate n null) i) (sym is i))
+
+-- where there is no validity
+pub unmarked_rows : (array : AnyArray) (r : Bool) → MarksArray array None → (IsTrue r ↔ (kind_of array ≡ null_kind)) → map is_null (any_array_rows array) ≡ replicate (length (any_array_rows array)) r
+unmarked_rows (Null p) r marks told = nulls_are_null p.count r (told.1 refl)
+unmarked_rows (Boolean p) r marks told =
+    values_are_not_null (any_array_rows (Boolean p)) r marks (λ e. let k = told.0 e in cc)
+unmarked_rows (Primitive p) r marks told =
+    values_are_not_null (any_array_rows (Primitive p)) r marks (λ e. let k = told.0 e in cc)
+unmarked_rows (Utf8 p) r marks told =
+    values_are_not_null (any_array_rows (Utf8 p)) r marks (λ e. let k = told.0 e in cc)
+unmarked_rows (LargeUtf8 p) r marks told =
+    values_are_not_null (any_array_rows (LargeUtf8 p)) r marks (λ e. let k = told.0 e in cc)
+unmarked_rows (Binary p) r marks told =
+    values_are_not_null (any_array_rows (Binary p)) r marks (λ e. let k = told.0 e in cc)
+unmarked_rows (LargeBinary p) r marks told =
+    values_are_not_null (any_array_rows (LargeBinary p)) r marks (λ e. let k = told.0 e in cc)
+unmarked_rows (FixedSizeBinary p) r marks told =
+    values_are_not_null (any_array_rows (FixedSizeBinary p)) r marks (λ e. let k = told.0 e in cc)
+unmarked_rows (ListOf p) r marks told =
+    values_are_not_null (any_array_rows (ListOf p)) r marks (λ e. let k = told.0 e in cc)
+unmarked_rows (FixedSizeList p) r marks told =
+    values_are_not_null (any_array_rows (FixedSizeList p)) r marks (λ e. let k = told.0 e in cc)
+unmarked_rows (Struct p) r marks told =
+    values_are_not_null (any_array_rows (Struct p)) r marks (λ e. let k = told.0 e in cc)
+unmarked_rows (Union p) r marks told =
+    values_are_not_null (any_array_rows (Union p)) r marks (λ e. let k = told.0 e in cc)
+unmarked_rows (Map p) r marks told =
+    values_are_not_null (any_array_rows (Map p)) r marks (λ e. let k = told.0 e in cc)
+unmarked_rows (Dictionary p) r marks told =
+    values_are_not_null (any_array_rows (Dictionary p)) r marks (λ e. let k = told.0 e in cc)
+
+-- where there is one
+pub marked_rows : (array : AnyArray) (bits : List Bool) → MarksArray array (Some bits) → bits ≡ map (λ s. not (is_null s)) (any_array_rows array)
+marked_rows (Null p) bits marks = absurd (cc)
+marked_rows (Boolean p) bits marks = marks
+marked_rows (Primitive p) bits marks = marks
+marked_rows (Utf8 p) bits marks = marks
+marked_rows (LargeUtf8 p) bits marks = marks
+marked_rows (Binary p) bits marks = marks
+marked_rows (LargeBinary p) bits marks = marks
+marked_rows (FixedSizeBinary p) bits marks = marks
+marked_rows (ListOf p) bits marks = marks
+marked_rows (FixedSizeList p) bits marks = marks
+marked_rows (Struct p) bits marks = marks
+marked_rows (Union p) bits marks = marks
+marked_rows (Map p) bits marks = marks
+marked_rows (Dictionary p) bits marks = marks
+
+-- and turned
+pub valid_rows : (rows : List Slot) (n : ℕ) (r : Bool) → map is_null rows ≡ replicate n r → replicate n (not r) ≡ map (λ s. not (is_null s)) rows
+valid_rows rows n r nulls = sym (replicate-of not n r) ∙ (ap (map not) (sym nulls) ∙ map-map not is_null rows)
+
+pub turned_marks : (xs : List Slot) → map not (map (λ s. not (is_null s)) xs) ≡ map is_null xs
+turned_marks [] = refl
+turned_marks (x ∷ xs) = λ i. not-not (is_null x) i ∷ turned_marks xs i

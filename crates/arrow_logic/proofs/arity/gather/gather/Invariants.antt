@@ -1,0 +1,12 @@
+use Rattle.std.proofs.Common.{◌≡◌, ◌≤◌, length}
+use Rattle.std.specs.Vec.{vec_capacity}
+use Rattle.arrow_logic.specs.Gathered.{AnswersFrom}
+use Rattle.arrow_logic.proofs.arity.gather.gather.Given as goal
+
+-- the answers so far, and room for all
+abbrev pub invariant-loop-row : goal.invariant-loop-row
+invariant-loop-row g l = record {
+  each : AnswersFrom (goal.F-post g l.op) 0 l.values.items;
+  count : length l.values.items ≡ l.row;
+  room : l.len ≤ vec_capacity l.values;
+}

@@ -1,0 +1,14 @@
+pub mod AnswerExamples
+pub mod Answers
+pub mod Connective
+pub mod Examples
+pub mod Gathered
+pub mod Kept
+pub mod Laws
+pub mod Length
+pub mod LengthExamples
+pub mod RowByRow
+pub mod Substring
+pub mod SubstringExamples
+pub mod SubstringLaws
+pub mod Validities

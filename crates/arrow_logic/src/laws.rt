@@ -1,0 +1,102 @@
+//! The laws of logic and of parts: each is the contract of a function over what is handed in, and says of the definitions
+//! that the kernels' contracts cite what a caller may replace by what. None makes an array.
+
+ghost use Rattle.std.specs.Prelude.{◌≡◌, ◌+◌, map, pos, not};
+ghost use Rattle.arrow_types.specs.Logic.{both, either, kleene_both, kleene_either, negated};
+ghost use Rattle.arrow_types.specs.Part.{part};
+ghost use Rattle.arrow_types.specs.Relation.{is_null};
+ghost use Rattle.arrow_types.specs.Slot.{Boolean, Bytes, Text};
+ghost use Rattle.arrow_flat.specs.Parts.{boolean_rows};
+ghost use Rattle.arrow_arrays.specs.Any.{any_array_rows};
+ghost use Rattle.arrow_logic.specs.Laws.{length_within};
+ghost use Rattle.arrow_logic.specs.RowByRow.{row_by_row};
+
+use arrow_arrays::array::AnyArray;
+use arrow_flat::array::BooleanArray;
+
+/// It makes no difference which side of an `and` is the left one.
+pub fn both_is_commutative(lhs: &BooleanArray, rhs: &BooleanArray)
+    ensures { row_by_row both (boolean_rows lhs.now) (boolean_rows rhs.now) ≡ row_by_row both (boolean_rows rhs.now) (boolean_rows lhs.now) }
+{}
+
+/// The same of an `or`.
+pub fn either_is_commutative(lhs: &BooleanArray, rhs: &BooleanArray)
+    ensures { row_by_row either (boolean_rows lhs.now) (boolean_rows rhs.now) ≡ row_by_row either (boolean_rows rhs.now) (boolean_rows lhs.now) }
+{}
+
+/// The same of Kleene's `and`.
+pub fn kleene_both_is_commutative(lhs: &BooleanArray, rhs: &BooleanArray)
+    ensures { row_by_row kleene_both (boolean_rows lhs.now) (boolean_rows rhs.now) ≡ row_by_row kleene_both (boolean_rows rhs.now) (boolean_rows lhs.now) }
+{}
+
+/// The same of Kleene's `or`.
+pub fn kleene_either_is_commutative(lhs: &BooleanArray, rhs: &BooleanArray)
+    ensures { row_by_row kleene_either (boolean_rows lhs.now) (boolean_rows rhs.now) ≡ row_by_row kleene_either (boolean_rows rhs.now) (boolean_rows lhs.now) }
+{}
+
+/// It makes no difference which two of three arrays an `and` takes first.
+pub fn both_is_associative(left: &BooleanArray, middle: &BooleanArray, right: &BooleanArray)
+    ensures { row_by_row both (row_by_row both (boolean_rows left.now) (boolean_rows middle.now)) (boolean_rows right.now) ≡ row_by_row both (boolean_rows left.now) (row_by_row both (boolean_rows middle.now) (boolean_rows right.now)) }
+{}
+
+/// The same of an `or`.
+pub fn either_is_associative(left: &BooleanArray, middle: &BooleanArray, right: &BooleanArray)
+    ensures { row_by_row either (row_by_row either (boolean_rows left.now) (boolean_rows middle.now)) (boolean_rows right.now) ≡ row_by_row either (boolean_rows left.now) (row_by_row either (boolean_rows middle.now) (boolean_rows right.now)) }
+{}
+
+/// The same of Kleene's `and`.
+pub fn kleene_both_is_associative(left: &BooleanArray, middle: &BooleanArray, right: &BooleanArray)
+    ensures { row_by_row kleene_both (row_by_row kleene_both (boolean_rows left.now) (boolean_rows middle.now)) (boolean_rows right.now) ≡ row_by_row kleene_both (boolean_rows left.now) (row_by_row kleene_both (boolean_rows middle.now) (boolean_rows right.now)) }
+{}
+
+/// The same of Kleene's `or`.
+pub fn kleene_either_is_associative(
+    left: &BooleanArray,
+    middle: &BooleanArray,
+    right: &BooleanArray,
+)
+    ensures { row_by_row kleene_either (row_by_row kleene_either (boolean_rows left.now) (boolean_rows middle.now)) (boolean_rows right.now) ≡ row_by_row kleene_either (boolean_rows left.now) (row_by_row kleene_either (boolean_rows middle.now) (boolean_rows right.now)) }
+{}
+
+/// De Morgan's law of Kleene's `and`: turned, it is the `or` of both sides turned.
+pub fn negated_kleene_both(lhs: &BooleanArray, rhs: &BooleanArray)
+    ensures { map negated (row_by_row kleene_both (boolean_rows lhs.now) (boolean_rows rhs.now)) ≡ row_by_row kleene_either (map negated (boolean_rows lhs.now)) (map negated (boolean_rows rhs.now)) }
+{}
+
+/// De Morgan's law of Kleene's `or`: turned, it is the `and` of both sides turned.
+pub fn negated_kleene_either(lhs: &BooleanArray, rhs: &BooleanArray)
+    ensures { map negated (row_by_row kleene_either (boolean_rows lhs.now) (boolean_rows rhs.now)) ≡ row_by_row kleene_both (map negated (boolean_rows lhs.now)) (map negated (boolean_rows rhs.now)) }
+{}
+
+/// Truth values that are turned twice are those of before.
+pub fn negated_twice(array: &BooleanArray)
+    ensures { map negated (map negated (boolean_rows array.now)) ≡ boolean_rows array.now }
+{}
+
+/// Which rows are no nulls is which rows are null, turned.
+pub fn valid_is_negated_null(input: &AnyArray)
+    ensures { map (λ s. Boolean (not (is_null s))) (any_array_rows input.now) ≡ map negated (map (λ s. Boolean (is_null s)) (any_array_rows input.now)) }
+{}
+
+/// A part of a part of a text is a part of the text, which begins as many characters later; so is one from the front of
+/// each.
+pub fn part_of_part_of_text(
+    text: &str,
+    start: u64,
+    len: Option<u64>,
+    next_start: u64,
+    next_len: Option<u64>,
+)
+    ensures { part (pos next_start) next_len (part (pos start) len (Text text.now)) ≡ part (pos (start + next_start)) (length_within len next_start next_len) (Text text.now) }
+{}
+
+/// The same of bytes.
+pub fn part_of_part_of_bytes(
+    bytes: &[u8],
+    start: u64,
+    len: Option<u64>,
+    next_start: u64,
+    next_len: Option<u64>,
+)
+    ensures { part (pos next_start) next_len (part (pos start) len (Bytes bytes.now)) ≡ part (pos (start + next_start)) (length_within len next_start next_len) (Bytes bytes.now) }
+{}

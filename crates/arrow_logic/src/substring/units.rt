@@ -1,0 +1,139 @@
+//! What a part of a row is counted in: the characters of a text, or bytes.
+
+ghost use Rattle.std.specs.Prelude.{◌≡◌, ◌<◌, ◌≤◌, ◌-◌, ℕ, ℤ, Option, List, [], drop, length, count_by, encode_utf8_all, IsUtf8};
+ghost use Rattle.std.specs.Str.{chars};
+ghost use Rattle.std.proofs.lemmas.Str.{IsUtf8-nil};
+ghost use Rattle.arrow_types.specs.Part.{cut, part, part_begin};
+ghost use Rattle.arrow_types.specs.Slot.{Slot};
+ghost use Rattle.arrow_memory.specs.Sliced.{sliced};
+ghost use Rattle.arrow_logic.specs.Substring.{begins, skipped, text_cut};
+ghost use Rattle.arrow_logic.specs.SubstringLaws.{IsUtf8-cut, part_of_bytes, part_of_text};
+
+use arrow_flat::array::{Binary, ByteKind, Text};
+
+/// Rows of bytes that parts can be taken of.
+pub(crate) trait Units: ByteKind {
+    // the bytes of the part of a row, by its start and the most units that it may have
+    ghost cut: { ℤ → Option ℕ → List ℕ → List ℕ };
+
+    /// Where the part lies among the bytes of a row.
+    ///
+    /// # Requires
+    /// A row may have these bytes.
+    fn span(row: &[u8], start: i64, count: Option<u64>) -> (usize, usize)
+        requires { Self.Allows row.now }
+        ensures rises { result.0 ≤ result.1 }
+        ensures within { result.1 ≤ length row.now }
+        ensures part { sliced row.now result.0 (result.1 - result.0) ≡ cut start count row.now };
+
+    ghost is_part: { (start : ℤ) (count : Option ℕ) (bytes : List ℕ) → part start count (Self.slot bytes) ≡ Self.slot (cut start count bytes) };
+
+    // a row may have the bytes of a part, and it may have none
+    ghost allows_part: { (start : ℤ) (count : Option ℕ) (bytes : List ℕ) → Self.Allows bytes → Self.Allows (cut start count bytes) };
+
+    ghost allows_none: { Self.Allows [] };
+}
+
+impl Units for Text {
+    ghost cut = { text_cut };
+
+    fn span(row: &[u8], start: i64, count: Option<u64>) -> (usize, usize) {
+        let begin = begin_of_part(row, start);
+        let end = match count {
+            Some(count) => begin + end_of_first(&row[begin..], count as usize),
+            None => row.len(),
+        };
+        (begin, end)
+    }
+
+    ghost is_part = { part_of_text };
+
+    ghost allows_part = { IsUtf8-cut };
+
+    ghost allows_none = { IsUtf8-nil };
+}
+
+impl Units for Binary {
+    ghost cut = { cut };
+
+    fn span(row: &[u8], start: i64, count: Option<u64>) -> (usize, usize) {
+        let units = start.unsigned_abs() as usize;
+        let begin = if start < 0 {
+            row.len().saturating_sub(units)
+        } else {
+            units.min(row.len())
+        };
+        let left = row.len() - begin;
+        let count = match count {
+            Some(count) => left.min(count as usize),
+            None => left,
+        };
+        (begin, begin + count)
+    }
+
+    ghost is_part = { part_of_bytes };
+
+    ghost allows_part = { λ start count bytes any. any };
+
+    ghost allows_none = { tt };
+}
+
+/// Whether a byte of a text begins a character, and does not go on with one.
+fn begins_character(byte: u8) -> bool
+    ensures { result ≡ begins byte }
+{
+    byte < 0x80 || byte >= 0xC0
+}
+
+/// Where a part of a text begins: so many characters from the front or, where `start` is negative, from the end.
+fn begin_of_part(text: &[u8], start: i64) -> usize
+    requires { IsUtf8 text.now }
+    ensures rest { drop result text.now ≡ encode_utf8_all (drop (part_begin start (length (chars text.now))) (chars text.now)) }
+    ensures within { result ≤ length text.now }
+{
+    let count = start.unsigned_abs() as usize;
+    if start < 0 {
+        begin_of_last(text, count)
+    } else {
+        end_of_first(text, count)
+    }
+}
+
+/// Where the first `count` characters of a text end: where it ends, if there are fewer. Nothing is read behind them.
+fn end_of_first(text: &[u8], count: usize) -> usize
+    ensures place { result ≡ skipped count text.now }
+    ensures within { result ≤ length text.now }
+{
+    let mut left = count;
+    for (place, &byte) in text.iter().enumerate() {
+        if begins_character(byte) {
+            if left == 0 {
+                return place;
+            }
+            left -= 1;
+        }
+    }
+    text.len()
+}
+
+/// Where the last `count` characters of a text begin: at its front, if there are fewer. Nothing is read before them.
+///
+/// # Requires
+/// `count` is not 0.
+fn begin_of_last(text: &[u8], count: usize) -> usize
+    requires text { IsUtf8 text.now }
+    requires some { 0 < count }
+    ensures place { result ≡ skipped (count_by begins text.now - count) text.now }
+    ensures within { result ≤ length text.now }
+{
+    let mut left = count;
+    for place in (0..text.len()).rev() {
+        if begins_character(text[place]) {
+            left -= 1;
+            if left == 0 {
+                return place;
+            }
+        }
+    }
+    0
+}

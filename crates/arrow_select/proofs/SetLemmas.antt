@@ -1,0 +1,361 @@
+-- Members of lists at which a mask is set: of a word, from the lowest bit on, and of a list, a word at a time.
+use Rattle.std.proofs.Common.{arith, inl, inr, ◌≡◌, ◌+◌, ◌-◌, ◌*◌, ◌/◌, ◌%◌, ◌^◌, ◌<◌, ◌≤◌, min, ℕ, zero, suc, Bool, true, false, cond, if◌then◌else◌, Some, List, [], ◌∷◌, ◌++◌, length, map, take, drop, refl, ap, sym, subst, ◌∙◌, append_assoc, w64}
+use Rattle.std.specs.Prelude.{◌==◌, nat_eq, bit_and, count_ones, slice_get}
+use Rattle.std.specs.List.{range_with_len}
+use Rattle.std.specs.Int.{bit_at, trailing_zeros}
+use Rattle.std.proofs.Math.Nat.{pow-le-pow_right, mod-eq_of_lt}
+use Rattle.std.proofs.lemmas.Bool.{cases_lt}
+use Rattle.std.proofs.lemmas.List.{append-nil, length-append, drop-drop, drop_all, length-take, length-drop, take_min}
+use Rattle.std.proofs.lemmas.List.FromFn.{get_or-map-range_with_len}
+use Rattle.std.proofs.lemmas.Option.{slice_get-get_or}
+use Rattle.std.proofs.lemmas.List.Sums.{sum_by-cons}
+use Rattle.std.proofs.lemmas.Nat.Bits.{bit_at_and, bit_at_lowest, bit_at-suc, bit_at_above, bit_at-trailing_zeros, bit_at-zero, bit_at-lt, bit_at_ones}
+use Rattle.std.proofs.lemmas.Simd.{mask_l-lt}
+use Rattle.arrow_memory.specs.Sliced.{sliced}
+use Rattle.arrow_memory.specs.Words.{low_bits, set_count, word_of}
+use Rattle.arrow_memory.proofs.WordLemmas.{count_ones-word_of, length-low_bits, word_of-low_bits}
+use Rattle.arrow_select.specs.Selected.{at_set, set_in_word, word_bits}
+use Rattle.arrow_select.proofs.BitLemmas.{bits_of_word}
+
+-- how many members are set
+pub length-at_set : {A : Type 0} (mask : List Bool) (xs : List A) → length mask ≡ length xs → length (at_set mask xs) ≡ set_count mask
+length-at_set [] xs h = refl
+length-at_set (b ∷ mask) [] h = absurd (omega (arith, h))
+length-at_set (true ∷ mask) (x ∷ xs) h = omega (arith, length-at_set mask xs (omega (arith, h)), sum_by-cons (λ b. cond b 1 0) true mask)
+length-at_set (false ∷ mask) (x ∷ xs) h = omega (arith, length-at_set mask xs (omega (arith, h)), sum_by-cons (λ b. cond b 1 0) false mask)
+
+nil_at : {A : Type 0} (mask : List Bool) → ◌≡◌ {A = List A} (at_set mask []) []
+nil_at [] = refl
+nil_at (b ∷ mask) = refl
+
+-- no more than there are
+pub at_set-short : {A : Type 0} (mask : List Bool) (xs : List A) → length (at_set mask xs) ≤ length xs
+at_set-short [] xs = omega arith
+at_set-short (b ∷ mask) [] = omega arith
+at_set-short (true ∷ mask) (x ∷ xs) = omega (arith, at_set-short mask xs)
+at_set-short (false ∷ mask) (x ∷ xs) = omega (arith, at_set-short mask xs)
+
+pub at_set-append : {A : Type 0} (mask more : List Bool) (xs ys : List A) → length mask ≡ length xs → at_set (mask ++ more) (xs ++ ys) ≡ at_set mask xs ++ at_set more ys
+at_set-append [] more [] ys h = refl
+at_set-append [] more (x ∷ xs) ys h = absurd (omega (arith, h))
+at_set-append (b ∷ mask) more [] ys h = absurd (omega (arith, h))
+at_set-append (true ∷ mask) more (x ∷ xs) ys h = ap (λ zs. x ∷ zs) (at_set-append mask more xs ys (omega (arith, h)))
+at_set-append (false ∷ mask) more (x ∷ xs) ys h = at_set-append mask more xs ys (omega (arith, h))
+
+-- a list that is cut in two
+pub at_set-cut : {A : Type 0} (n : ℕ) (mask : List Bool) (xs : List A) → at_set mask xs ≡ at_set (take n mask) (take n xs) ++ at_set (drop n mask) (drop n xs)
+at_set-cut zero mask xs = refl
+at_set-cut (suc n) [] xs = refl
+at_set-cut (suc n) (b ∷ mask) [] = sym (nil_at (drop n mask))
+at_set-cut (suc n) (true ∷ mask) (x ∷ xs) = ap (λ ys. x ∷ ys) (at_set-cut n mask xs)
+at_set-cut (suc n) (false ∷ mask) (x ∷ xs) = at_set-cut n mask xs
+
+-- and from a place on
+pub at_set-from : {A : Type 0} (place n : ℕ) (mask : List Bool) (xs : List A) → at_set (drop place mask) (drop place xs) ≡ at_set (sliced mask place n) (sliced xs place n) ++ at_set (drop (place + n) mask) (drop (place + n) xs)
+at_set-from place n mask xs =
+    at_set-cut n (drop place mask) (drop place xs) ∙ (λ i. at_set (sliced mask place n) (sliced xs place n) ++ at_set (drop-drop n place mask i) (drop-drop n place xs i))
+
+-- ---- bits that a function gives
+
+-- bits that are the same
+map_range : (f g : ℕ → Bool) (a n : ℕ) → ((i : ℕ) → a ≤ i → i < a + n → f i ≡ g i) → map f (range_with_len a n) ≡ map g (range_with_len a n)
+map_range f g a zero same = refl
+map_range f g a (suc n) same =
+    let rest = map_range f g (a + 1) n (λ i from to. same i (omega (arith, from)) (omega (arith, to))) in
+    λ i. same a (omega arith) (omega arith) i ∷ rest i
+
+-- no bit is set
+none_at : {A : Type 0} (f : ℕ → Bool) (a n : ℕ) (xs : List A) → ((i : ℕ) → a ≤ i → f i ≡ false) → at_set (map f (range_with_len a n)) xs ≡ []
+none_at f a zero xs none = refl
+none_at f a (suc n) [] none = refl
+none_at f a (suc n) (x ∷ xs) none =
+    ap (λ b. if b then x ∷ at_set (map f (range_with_len (a + 1) n)) xs else at_set (map f (range_with_len (a + 1) n)) xs) (none a (omega arith)) ∙ none_at f (a + 1) n xs (λ i from. none i (omega (arith, from)))
+
+-- each bit is set
+all_at : {A : Type 0} (f : ℕ → Bool) (a n : ℕ) (xs : List A) → length xs ≡ n → ((i : ℕ) → i < a + n → f i ≡ true) → at_set (map f (range_with_len a n)) xs ≡ xs
+all_at f a zero [] long all = refl
+all_at f a zero (x ∷ xs) long all = absurd (omega (arith, long))
+all_at f a (suc n) [] long all = refl
+all_at f a (suc n) (x ∷ xs) long all =
+    ap (λ b. if b then x ∷ at_set (map f (range_with_len (a + 1) n)) xs else at_set (map f (range_with_len (a + 1) n)) xs) (all a (omega arith)) ∙ ap (λ ys. x ∷ ys) (all_at f (a + 1) n xs (omega (arith, long)) (λ i below. all i (omega (arith, below))))
+
+-- the first bit that is set, and others that differ in that bit alone
+first_at : {A : Type 0} (f g : ℕ → Bool) (a k n : ℕ) (xs : List A) (x : A) → k < n → ((i : ℕ) → i < a + k → f i ≡ false) → f (a + k) ≡ true → ((i : ℕ) → i ≤ a + k → g i ≡ false) → ((i : ℕ) → a + k < i → f i ≡ g i) → slice_get xs k ≡ Some x → at_set (map f (range_with_len a n)) xs ≡ x ∷ at_set (map g (range_with_len a n)) xs
+first_at f g a k zero xs x within below one unset above read = absurd (omega (arith, within))
+first_at f g a k (suc n) [] x within below one unset above read = cc
+first_at f g a zero (suc n) (y ∷ xs) x within below one unset above read =
+    let here : a + 0 ≡ a = omega arith in
+    let rest = map_range f g (a + 1) n (λ i from to. above i (omega (arith, from))) in
+    let is : y ≡ x = cc in
+    let set : f a ≡ true = ap f (sym here) ∙ one in
+    let fs = at_set (map f (range_with_len (a + 1) n)) xs in
+    let gs = at_set (map g (range_with_len (a + 1) n)) xs in
+    ap (λ b. if b then y ∷ fs else fs) set ∙ ((λ i. is i ∷ at_set (rest i) xs) ∙ ap (λ b. x ∷ (if b then y ∷ gs else gs)) (sym (unset a (omega arith))))
+first_at f g a (suc k) (suc n) (y ∷ xs) x within below one unset above read =
+    let there : a + suc k ≡ a + 1 + k = omega arith in
+    let fs = at_set (map f (range_with_len (a + 1) n)) xs in
+    let gs = at_set (map g (range_with_len (a + 1) n)) xs in
+    let rest = first_at f g (a + 1) k n xs x (omega (arith, within)) (λ i to. below i (omega (arith, to))) (ap f (sym there) ∙ one) (λ i to. unset i (omega (arith, to))) (λ i from. above i (omega (arith, from))) read in
+    ap (λ b. if b then y ∷ fs else fs) (below a (omega arith)) ∙ (rest ∙ ap (λ b. x ∷ (if b then y ∷ gs else gs)) (sym (unset a (omega arith))))
+
+-- ---- the lowest bit of a word that is set
+
+-- where a word is not 0, one is
+pub some_left : (w : ℕ) → (w ≡ 0 → ⊥) → 0 < w
+some_left zero none = absurd (none refl)
+some_left (suc w) none = omega arith
+
+above_lowest : (w i : ℕ) → (w - 1) / 2 ≡ w / 2 → 0 < i → bit_at (w - 1) i ≡ bit_at w i
+above_lowest w zero half above = absurd (omega (arith, above))
+above_lowest w (suc i) half above = bit_at-suc (w - 1) i ∙ (ap (λ n. bit_at n i) half ∙ sym (bit_at-suc w i))
+
+-- one less than a number has the same bits above the lowest one that is set, and not that one
+pub record LosesLowest (w k : ℕ) : Type 0 where
+  pub some : 0 < w
+  pub unset : bit_at (w - 1) k ≡ 0
+  pub above : (i : ℕ) → k < i → bit_at (w - 1) i ≡ bit_at w i
+
+above_half : (w v k i : ℕ) → (w - 1) / 2 ≡ v - 1 → w / 2 ≡ v → ((i : ℕ) → k < i → bit_at (v - 1) i ≡ bit_at v i) → suc k < i → bit_at (w - 1) i ≡ bit_at w i
+above_half w v k zero half whole rest from = absurd (omega (arith, from))
+above_half w v k (suc i) half whole rest from =
+    bit_at-suc (w - 1) i ∙ (ap (λ n. bit_at n i) half ∙ (rest i (omega (arith, from)) ∙ (ap (λ n. bit_at n i) (sym whole) ∙ sym (bit_at-suc w i))))
+
+one_less : (w k : ℕ) → ((i : ℕ) → i < k → bit_at w i ≡ 0) → bit_at w k ≡ 1 → LosesLowest w k
+one_less w zero below one =
+    let odd : w % 2 ≡ 1 = sym (bit_at_lowest w) ∙ one in
+    record {
+      some = omega (arith, odd);
+      unset = bit_at_lowest (w - 1) ∙ omega (arith, odd);
+      above = λ i from. above_lowest w i (omega (arith, odd)) from;
+    }
+one_less w (suc k) below one =
+    let even : w % 2 ≡ 0 = sym (bit_at_lowest w) ∙ below 0 (omega arith) in
+    let rest = one_less (w / 2) k (λ i to. sym (bit_at-suc w i) ∙ below (suc i) (omega (arith, to))) (sym (bit_at-suc w k) ∙ one) in
+    let half : (w - 1) / 2 ≡ w / 2 - 1 = omega (arith, even, rest.some) in
+    record {
+      some = omega (arith, rest.some);
+      unset = bit_at-suc (w - 1) k ∙ (ap (λ n. bit_at n k) half ∙ rest.unset);
+      above = λ i from. above_half w (w / 2) k i half refl rest.above from;
+    }
+
+-- a word without its lowest bit that is set
+pub record DropsLowest (w v k : ℕ) : Type 0 where
+  pub below : (i : ℕ) → i < k → bit_at w i ≡ 0
+  pub one : bit_at w k ≡ 1
+  pub unset : (i : ℕ) → i ≤ k → bit_at v i ≡ 0
+  pub above : (i : ℕ) → k < i → bit_at v i ≡ bit_at w i
+
+unset_at : (w k i : ℕ) → ((i : ℕ) → i < k → bit_at w i ≡ 0) → bit_at (w - 1) k ≡ 0 → i ≤ k → min (bit_at w i) (bit_at (w - 1) i) ≡ 0
+unset_at w k i below unset to =
+    elim (cases_lt i k) as (λ _. min (bit_at w i) (bit_at (w - 1) i) ≡ 0) [
+      | inl before ↦ omega (arith, below i before)
+      | inr after ↦
+          let at : i ≡ k = omega (arith, to, after) in
+          omega (arith, ap (bit_at (w - 1)) at ∙ unset)
+    ]
+
+pub drops_lowest : (w : ℕ) → 0 < w → w < 2 ^ 64 → DropsLowest w (bit_and w (w - 1)) (trailing_zeros w64 w)
+drops_lowest w some small =
+    let k = trailing_zeros w64 w in
+    let found = bit_at-trailing_zeros w64 w some small in
+    let less = one_less w k found.2 found.1 in
+    record {
+      below = found.2;
+      one = found.1;
+      unset = λ i to. bit_at_and w (w - 1) i ∙ unset_at w k i found.2 less.unset to;
+      above = λ i from. bit_at_and w (w - 1) i ∙ omega (arith, less.above i from);
+    }
+
+-- it lies within so many bits where the word does
+one_or_none : (b : ℕ) → b ≡ 1 → b ≡ 0 → ⊥
+one_or_none b one none = omega (arith, one, none)
+
+pub lowest_within : (w n : ℕ) → 0 < w → w < 2 ^ 64 → w < 2 ^ n → trailing_zeros w64 w < n
+lowest_within w n some small below =
+    let k = trailing_zeros w64 w in
+    elim (cases_lt k n) as (λ _. k < n) [
+      | inl before ↦ before
+      | inr after ↦ absurd (one_or_none (bit_at w k) (drops_lowest w some small).one (bit_at_above w n k below after))
+    ]
+
+is_one : (b c : ℕ) → b ≡ c → (b == 1) ≡ (c == 1)
+is_one b c same = ap (λ n. nat_eq n 1) same
+
+-- the member at the lowest bit comes first
+pub lowest_first : {A : Type 0} (w : ℕ) (xs : List A) (x : A) → 0 < w → w < 2 ^ 64 → w < 2 ^ length xs → slice_get xs (trailing_zeros w64 w) ≡ Some x → set_in_word w xs ≡ x ∷ set_in_word (bit_and w (w - 1)) xs
+lowest_first w xs x some small below read =
+    let k = trailing_zeros w64 w in
+    let drops = drops_lowest w some small in
+    first_at (λ i. bit_at w i == 1) (λ i. bit_at (bit_and w (w - 1)) i == 1) 0 k (length xs) xs x (lowest_within w (length xs) some small below) (λ i to. is_one (bit_at w i) 0 (drops.below i (omega (arith, to)))) (is_one (bit_at w (0 + k)) 1 (ap (bit_at w) (omega arith) ∙ drops.one)) (λ i to. is_one (bit_at (bit_and w (w - 1)) i) 0 (drops.unset i (omega (arith, to)))) (λ i from. is_one (bit_at w i) (bit_at (bit_and w (w - 1)) i) (sym (drops.above i (omega (arith, from))))) read
+
+-- no bit is set in 0, and each in the greatest word
+pub set_in_zero : {A : Type 0} (xs : List A) → set_in_word 0 xs ≡ []
+set_in_zero xs = none_at (λ i. bit_at 0 i == 1) 0 (length xs) xs (λ i from. is_one (bit_at 0 i) 0 (bit_at-zero i))
+
+pub set_in_full : {A : Type 0} (w : ℕ) (xs : List A) → w ≡ 2 ^ 64 - 1 → length xs ≡ 64 → set_in_word w xs ≡ xs
+set_in_full w xs is long =
+    all_at (λ i. bit_at w i == 1) 0 (length xs) xs refl (λ i below. is_one (bit_at w i) 1 (ap (λ n. bit_at n i) is ∙ bit_at_ones 64 i (omega (arith, below, long))))
+
+-- so many values are a word where all its bits are set within them
+pub full_long : (w n : ℕ) → w ≡ 2 ^ 64 - 1 → w < 2 ^ n → n ≤ 64 → n ≡ 64
+full_long w n is below most =
+    elim (cases_lt n 64) as (λ _. n ≡ 64) [
+      | inl before ↦
+          let power = pow-le-pow_right {n = 2} (omega arith) {i = n} {j = 63} (omega (arith, before)) in
+          absurd (omega (arith, power, is, below))
+      | inr after ↦ omega (arith, after, most)
+    ]
+
+-- ---- a word cut off
+
+-- its low bits are the same
+pub low_and : (w count : ℕ) → count < 64 → low_bits (bit_and w (1 * 2 ^ count % 18446744073709551616 - 1)) count ≡ low_bits w count
+low_and w count below =
+    let power = pow-le-pow_right {n = 2} (omega arith) {i = count} {j = 63} (omega (arith, below)) in
+    let mask : 1 * 2 ^ count % 18446744073709551616 - 1 ≡ 2 ^ count - 1 = omega (arith, power) in
+    map_range (λ i. bit_at (bit_and w (1 * 2 ^ count % 18446744073709551616 - 1)) i == 1) (λ i. bit_at w i == 1) 0 count (λ i from to.
+    let ones = ap (λ n. bit_at n i) mask ∙ bit_at_ones count i (omega (arith, to)) in
+    is_one _ _ (bit_at_and w (1 * 2 ^ count % 18446744073709551616 - 1) i ∙ omega (arith, ones, bit_at-lt w i)))
+
+-- as many values as the word has ones
+pub ones_in_word : {A : Type 0} (w : ℕ) (xs : List A) → w < 2 ^ length xs → length (set_in_word w xs) ≡ count_ones w
+ones_in_word w xs below =
+    let long = length-low_bits w (length xs) in
+    let word = word_of-low_bits w (length xs) ∙ mod-eq_of_lt below in
+    length-at_set (low_bits w (length xs)) xs long ∙ (sym (count_ones-word_of (low_bits w (length xs))) ∙ ap count_ones word)
+
+-- ---- the words of a mask
+
+-- the word of the mask that belongs to so many values from a place on
+pub record IsWordOf {A : Type 0} (mask : List Bool) (xs : List A) (place word n : ℕ) : Type 0 where
+  pub below : word < 2 ^ length (take n (drop place xs))
+  pub within : length (take n (drop place xs)) ≤ 64
+  pub same : set_in_word word (take n (drop place xs)) ≡ at_set (sliced mask place 64) (sliced xs place 64)
+
+pub word_of_part : {A : Type 0} (mask : List Bool) (xs : List A) (place word count n : ℕ) → length mask ≡ length xs → count ≡ min 64 (length mask - place) → n ≡ count → word ≡ word_of (sliced mask place 64) → IsWordOf mask xs place word n
+word_of_part mask xs place word count n lengths is cut read =
+    let bits = sliced mask place 64 in
+    let part = take n (drop place xs) in
+    let long : length bits ≡ count = omega (arith, is, length-take 64 (drop place mask), length-drop place mask) in
+    let parts : length part ≡ count = omega (arith, is, cut, lengths, length-take n (drop place xs), length-drop place xs) in
+    let many : n ≡ min 64 (length (drop place xs)) = omega (arith, cut, is, lengths, length-drop place xs) in
+    let whole : part ≡ sliced xs place 64 = ap (λ m. take m (drop place xs)) many ∙ take_min 64 (drop place xs) in
+    let shown : low_bits word (length part) ≡ bits = ap (low_bits word) parts ∙ bits_of_word bits word count read long in
+    record {
+      below = subst (λ m. word < 2 ^ m) (long ∙ sym parts) (subst (λ w. w < 2 ^ length bits) (sym read) (mask_l-lt bits));
+      within = omega (arith, parts, is);
+      same = λ i. at_set (shown i) (whole i);
+    }
+
+-- the bits of a word, cut in two
+split_range : (f : ℕ → Bool) (a m n : ℕ) → map f (range_with_len a (m + n)) ≡ map f (range_with_len a m) ++ map f (range_with_len (a + m) n)
+split_range f a zero n =
+    let whole : zero + n ≡ n = omega arith in
+    let start : a + zero ≡ a = omega arith in
+    λ i. map f (range_with_len (sym start i) (whole i))
+split_range f a (suc m) n =
+    let front : suc m + n ≡ suc (m + n) = omega arith in
+    let place : a + 1 + m ≡ a + suc m = omega arith in
+    ap (λ k. map f (range_with_len a k)) front ∙ (ap (λ bits. f a ∷ bits) (split_range f (a + 1) m n) ∙ ap (λ k. (f a ∷ map f (range_with_len (a + 1) m)) ++ map f (range_with_len k n)) place)
+
+-- as many bits as a word has
+pub length-word_bits : (word : ℕ) → length (word_bits word) ≡ 64
+unfolding word_bits
+length-word_bits word = length-low_bits word 64
+
+low-word_bits : (word bits : ℕ) → low_bits word (length (word_bits bits)) ≡ word_bits word
+unfolding word_bits
+low-word_bits word bits = ap (low_bits word) (length-low_bits bits 64)
+
+word_of-word_bits : (word : ℕ) → word < 2 ^ 64 → word_of (word_bits word) ≡ word
+unfolding word_bits
+word_of-word_bits word small = word_of-low_bits word 64 ∙ mod-eq_of_lt small
+
+read-word_bits : (word k : ℕ) → k < 64 → slice_get (word_bits word) k ≡ Some (bit_at word k == 1)
+unfolding word_bits
+read-word_bits word k within =
+    slice_get-get_or (low_bits word 64) k false (omega (arith, length-low_bits word 64, within)) ∙ ap (λ b. Some b) (get_or-map-range_with_len (λ i. bit_at word i == 1) 0 64 k k false within (omega arith))
+
+behind : (bits : List Bool) (word n : ℕ) → word ≡ word_of bits → length bits ≡ n → n ≤ 64 → word_bits word ≡ bits ++ map (λ i. bit_at word i == 1) (range_with_len (0 + n) (64 - n))
+unfolding word_bits
+behind bits word n read long most =
+    let f = λ (i : ℕ). bit_at word i == 1 in
+    let parts : 64 ≡ n + (64 - n) = omega (arith, most) in
+    ap (low_bits word) parts ∙ (split_range f 0 n (64 - n) ∙ ap (λ front. front ++ map f (range_with_len (0 + n) (64 - n))) (bits_of_word bits word n read long))
+
+-- the words of two lists of bits say what the one keeps of the other
+pub set_in_words : (ms bs : List Bool) (mask bits : ℕ) → mask ≡ word_of ms → bits ≡ word_of bs → length ms ≡ length bs → length ms ≤ 64 → set_in_word mask (word_bits bits) ≡ at_set ms bs
+set_in_words ms bs mask bits is read lengths most =
+    let n = length ms in
+    let f = λ (i : ℕ). bit_at mask i == 1 in
+    let g = λ (i : ℕ). bit_at bits i == 1 in
+    let small : mask < 2 ^ n = subst (λ w. w < 2 ^ n) (sym is) (mask_l-lt ms) in
+    let left = low-word_bits mask bits ∙ behind ms mask n is refl most in
+    let right = behind bs bits n read (sym lengths) most in
+    let above = none_at f (0 + n) (64 - n) (map g (range_with_len (0 + n) (64 - n))) (λ i from. is_one (bit_at mask i) 0 (bit_at_above mask n i small (omega (arith, from)))) in
+    (λ i. at_set (left i) (right i)) ∙ (at_set-append ms (map f (range_with_len (0 + n) (64 - n))) bs (map g (range_with_len (0 + n) (64 - n))) lengths ∙ (ap (λ ys. at_set ms bs ++ ys) above ∙ append-nil (at_set ms bs)))
+
+-- and from a place on
+pub set_in_part : (mask bits : List Bool) (place mask_word bits_word : ℕ) → length mask ≡ length bits → mask_word ≡ word_of (sliced mask place 64) → bits_word ≡ word_of (sliced bits place 64) → set_in_word mask_word (word_bits bits_word) ≡ at_set (sliced mask place 64) (sliced bits place 64)
+set_in_part mask bits place mask_word bits_word lengths is read =
+    let ms = length-take 64 (drop place mask) in
+    let bs = length-take 64 (drop place bits) in
+    set_in_words (sliced mask place 64) (sliced bits place 64) mask_word bits_word is read (omega (arith, lengths, ms, bs, length-drop place mask, length-drop place bits)) (omega (arith, ms))
+
+-- where none is left
+pub none_from : {A : Type 0} (place : ℕ) (mask : List Bool) (xs : List A) → length mask ≤ place → at_set (drop place mask) xs ≡ []
+none_from place [] xs past = ap (λ bits. at_set bits xs) (drop_all place [] (omega (arith, past)))
+none_from zero (b ∷ mask) xs past = absurd (omega (arith, past))
+none_from (suc place) (b ∷ mask) xs past = none_from place mask xs (omega (arith, past))
+
+-- ---- one step of a loop
+
+-- members that come before those that are left, and some more of these
+pub some_more : {A : Type 0} (old kept new first some rest all : List A) → first ≡ some ++ rest → new ≡ kept ++ some → kept ++ first ≡ old ++ all → new ++ rest ≡ old ++ all
+some_more old kept new first some rest all is pushed so_far =
+    ap (λ ys. ys ++ rest) pushed ∙ (append_assoc kept some rest ∙ (ap (λ ys. kept ++ ys) (sym is) ∙ so_far))
+
+-- ---- bits that are gathered
+
+-- they are those of a part of two lists
+pub record IsGathered (mask bits : List Bool) (place mask_word gathered : ℕ) : Type 0 where
+  pub same : low_bits gathered (count_ones mask_word) ≡ at_set (sliced mask place 64) (sliced bits place 64)
+  pub many : length (at_set (sliced mask place 64) (sliced bits place 64)) ≡ count_ones mask_word
+  pub within : count_ones mask_word ≤ 64
+
+pub gathered_bits : (mask bits : List Bool) (place mask_word bits_word gathered : ℕ) → length mask ≡ length bits → mask_word ≡ word_of (sliced mask place 64) → bits_word ≡ word_of (sliced bits place 64) → gathered ≡ word_of (set_in_word mask_word (word_bits bits_word)) → IsGathered mask bits place mask_word gathered
+gathered_bits mask bits place mask_word bits_word gathered lengths is read made =
+    let part = at_set (sliced mask place 64) (sliced bits place 64) in
+    let shown = set_in_part mask bits place mask_word bits_word lengths is read in
+    let ms = length-take 64 (drop place mask) in
+    let bs = length-take 64 (drop place bits) in
+    let even : length (sliced mask place 64) ≡ length (sliced bits place 64) = omega (arith, lengths, ms, bs, length-drop place mask, length-drop place bits) in
+    let long = length-at_set (sliced mask place 64) (sliced bits place 64) even ∙ (sym (count_ones-word_of (sliced mask place 64)) ∙ ap count_ones (sym is)) in
+    record {
+      same = bits_of_word part gathered (count_ones mask_word) (made ∙ ap word_of shown) long;
+      many = long;
+      within = omega (arith, long, at_set-short (sliced mask place 64) (sliced bits place 64), bs);
+    }
+
+-- the bit at the lowest set bit of a word comes first
+pub lowest_bit : (w bits : ℕ) → 0 < w → w < 2 ^ 64 → set_in_word w (word_bits bits) ≡ (bit_at bits (trailing_zeros w64 w) == 1) ∷ set_in_word (bit_and w (w - 1)) (word_bits bits)
+lowest_bit w bits some small =
+    let k = trailing_zeros w64 w in
+    let below : w < 2 ^ length (word_bits bits) = subst (λ n. w < 2 ^ n) (sym (length-word_bits bits)) small in
+    lowest_first w (word_bits bits) (bit_at bits k == 1) some small below (read-word_bits bits k (lowest_within w 64 some small small))
+
+-- so there is room for it
+pub room_for_bit : (mask left bits : ℕ) (kept rest : List Bool) (b : Bool) → set_in_word left (word_bits bits) ≡ b ∷ rest → kept ++ set_in_word left (word_bits bits) ≡ set_in_word mask (word_bits bits) → length kept < 64
+room_for_bit mask left bits kept rest b first so_far =
+    omega (arith, ap length so_far, length-append kept (set_in_word left (word_bits bits)), ap length first, at_set-short (low_bits mask (length (word_bits bits))) (word_bits bits), length-word_bits bits)
+
+-- all bits of a word
+pub set_in_full_word : (w bits : ℕ) → w ≡ 2 ^ 64 - 1 → bits < 2 ^ 64 → bits ≡ word_of (set_in_word w (word_bits bits))
+set_in_full_word w bits is small =
+    let all = set_in_full w (word_bits bits) is (length-word_bits bits) in
+    sym (ap word_of all ∙ word_of-word_bits bits small)
+
+-- members that were kept, of those that are left, are no more than all
+pub kept_below : {A : Type 0} (kept first part rest xs all : List A) (mask : List Bool) → first ≡ part ++ rest → kept ++ first ≡ all → all ≡ at_set mask xs → length kept + length part ≤ length xs
+kept_below kept first part rest xs all mask is so_far whole =
+    omega (arith, ap length is, ap length so_far, ap length whole, length-append kept first, length-append part rest, at_set-short mask xs)

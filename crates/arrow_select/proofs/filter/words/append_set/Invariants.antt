@@ -1,0 +1,11 @@
+use Rattle.std.proofs.Common.{◌≡◌, ◌+◌, ◌*◌, ◌≤◌, ◌++◌, length, drop}
+use Rattle.std.specs.Vec.{vec_len, vec_capacity}
+use Rattle.arrow_select.specs.Selected.{at_set}
+use Rattle.arrow_select.proofs.filter.words.append_set.Given as goal
+
+-- there is room for the values of the words that are left, and those so far, with these, are all
+abbrev pub invariant-loop-j : goal.invariant-loop-j
+invariant-loop-j g l = record {
+  room : vec_len l.kept + length (at_set (drop (64 * l.j) l.mask) (drop (64 * l.j) l.values)) ≤ vec_capacity l.kept;
+  items : l.kept.items ++ at_set (drop (64 * l.j) l.mask) (drop (64 * l.j) l.values) ≡ l.initial.kept.items ++ at_set l.mask l.values;
+}
