@@ -66,19 +66,25 @@ pub(super) fn quantify(quantifier: Quantifier, arguments: &[Literal<'_>]) -> Ans
 }
 
 pub(super) fn is_null(alloc: Global, arguments: &[Literal<'_>]) -> Answer {
-    match arguments {
-        [Literal::Array(array)] => Answer::of_predicate(boolean::is_null(alloc, array.as_array())),
-        [Literal::TooLong(_)] => Answer::Refused(TOO_LONG),
-        _ => Answer::Refused(Refusal::Usage),
+    let [array] = arguments else {
+        return Answer::Refused(Refusal::Usage);
+    };
+    match array {
+        Literal::Array(array) => Answer::of_predicate(boolean::is_null(alloc, array.as_array())),
+        Literal::TooLong(_) => Answer::Refused(TOO_LONG),
+        Literal::Number(_) => Answer::Refused(Refusal::Usage),
     }
 }
 
 pub(super) fn is_not_null(alloc: Global, arguments: &[Literal<'_>]) -> Answer {
-    match arguments {
-        [Literal::Array(array)] => {
+    let [array] = arguments else {
+        return Answer::Refused(Refusal::Usage);
+    };
+    match array {
+        Literal::Array(array) => {
             Answer::of_predicate(boolean::is_not_null(alloc, array.as_array()))
         }
-        [Literal::TooLong(_)] => Answer::Refused(TOO_LONG),
-        _ => Answer::Refused(Refusal::Usage),
+        Literal::TooLong(_) => Answer::Refused(TOO_LONG),
+        Literal::Number(_) => Answer::Refused(Refusal::Usage),
     }
 }

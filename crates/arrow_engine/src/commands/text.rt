@@ -7,32 +7,48 @@ use arrow_logic::{length, substring};
 use std::alloc::Global;
 
 pub(super) fn length(alloc: Global, arguments: &[Literal<'_>]) -> Answer {
-    match arguments {
-        [Literal::Array(array)] => Answer::of_kernel(length::length(alloc, array.as_array())),
-        [Literal::TooLong(_)] => Answer::Refused(TOO_LONG),
-        _ => Answer::Refused(Refusal::Usage),
+    let [array] = arguments else {
+        return Answer::Refused(Refusal::Usage);
+    };
+    match array {
+        Literal::Array(array) => Answer::of_kernel(length::length(alloc, array.as_array())),
+        Literal::TooLong(_) => Answer::Refused(TOO_LONG),
+        Literal::Number(_) => Answer::Refused(Refusal::Usage),
     }
 }
 
 pub(super) fn substring(alloc: Global, arguments: &[Literal<'_>]) -> Answer {
-    let (array, start, length) = match arguments {
-        [array, Literal::Number(start)] => (array, start, None),
-        [array, Literal::Number(start), Literal::Number(length)] => (array, start, Some(length)),
-        _ => return Answer::Refused(Refusal::Usage),
+    match arguments {
+        [array, start] => part(alloc, array, start, &None),
+        [array, start, length] => {
+            let Some(length) = length_of(length) else {
+                return Answer::Refused(Refusal::Usage);
+            };
+            part(alloc, array, start, &Some(length))
+        }
+        _ => Answer::Refused(Refusal::Usage),
+    }
+}
+
+/// The length that an argument is, if it is one of 64 bits.
+fn length_of(argument: &Literal<'_>) -> Option<u64> {
+    let Literal::Number(length) = argument else {
+        return None;
+    };
+    length.parse().ok()
+}
+
+/// The parts of texts from a start on, of so many characters at most.
+fn part(alloc: Global, array: &Literal<'_>, start: &Literal<'_>, length: &Option<u64>) -> Answer {
+    let Literal::Number(start) = start else {
+        return Answer::Refused(Refusal::Usage);
     };
     let Ok(start) = start.parse() else {
         return Answer::Refused(Refusal::Usage);
     };
-    let length = match length {
-        None => None,
-        Some(length) => match length.parse() {
-            Ok(length) => Some(length),
-            Err(_) => return Answer::Refused(Refusal::Usage),
-        },
-    };
     match array {
         Literal::Array(array) => {
-            Answer::of_kernel(substring::substring(alloc, array.as_array(), start, &length))
+            Answer::of_kernel(substring::substring(alloc, array.as_array(), start, length))
         }
         Literal::TooLong(_) => Answer::Refused(TOO_LONG),
         Literal::Number(_) => Answer::Refused(Refusal::Usage),
