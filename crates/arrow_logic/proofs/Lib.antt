@@ -1,13 +1,17 @@
 pub mod AnswerLemmas
 pub mod BitLemmas
 pub mod ConnectiveLemmas
+pub mod EqualLemmas
 pub mod KeptLemmas
 pub mod LawLemmas
+pub mod LayoutLemmas
 pub mod LengthLemmas
 pub mod MaskedLemmas
 pub mod NullLemmas
 pub mod NullRowLemmas
+pub mod NullifLemmas
 pub mod PartLemmas
+pub mod SameLemmas
 pub mod ScalarLemmas
 pub mod TextLemmas
 pub mod WordLemmas

@@ -2,11 +2,13 @@
 use Rattle.std.specs.Prelude.{◌≡◌, true, false, Some, None, List, refl, pos, [], ◌∷◌, map}
 use Rattle.arrow_types.specs.Logic.{both, either, kleene_both, kleene_either}
 use Rattle.arrow_types.specs.Part.{part}
-use Rattle.arrow_types.specs.Relation.{is_null}
-use Rattle.arrow_types.specs.Slot.{Slot, Boolean, Bytes, Dict, Null}
+use Rattle.arrow_types.specs.Relation.{is_null, nulled}
+use Rattle.arrow_types.specs.SameTree.{same_by}
+use Rattle.arrow_types.specs.Slot.{Slot, Boolean, Bytes, Dict, Null, Number}
 use Rattle.arrow_logic.specs.Connective.{decides, known_side}
 use Rattle.arrow_logic.specs.declared.connective.Connective.TheVariants.{And, Or}
 use Rattle.arrow_logic.specs.Laws.{length_within}
+use Rattle.arrow_logic.specs.Nullif.{valid_but, within_valid}
 use Rattle.arrow_logic.specs.RowByRow.{row_by_row}
 use Rattle.arrow_logic.specs.Validities.{combined}
 
@@ -55,6 +57,15 @@ two_validities = refl
 -- a dictionary's row is null by its key alone
 null_value : map is_null (Dict Null ∷ Null ∷ []) ≡ false ∷ true ∷ []
 null_value = refl
+
+-- rows that are null, or become so since they equal those of the other side; a null there is no value
+nulled_of_five : row_by_row nulled (Null ∷ Null ∷ Number (pos 1) ∷ Number (pos 1) ∷ Number (pos 1) ∷ []) (Null ∷ Number (pos 1) ∷ Null ∷ Number (pos 1) ∷ Number (pos 0) ∷ []) ≡ Null ∷ Null ∷ Number (pos 1) ∷ Null ∷ Number (pos 1) ∷ []
+unfolding same_by
+nulled_of_five = refl
+
+-- beside the validity [t, f, t] the last row becomes null
+null_last : valid_but (Some (true ∷ false ∷ true ∷ [])) (within_valid None (false ∷ true ∷ true ∷ [])) ≡ true ∷ false ∷ false ∷ []
+null_last = refl
 
 -- of five bytes, three from the second on, and of these two from the third on at most: one is left
 one_left : part (pos 2) (Some 2) (part (pos 1) (Some 3) (Bytes (1 ∷ 2 ∷ 3 ∷ 4 ∷ 5 ∷ []))) ≡ Bytes (4 ∷ [])

@@ -7,6 +7,7 @@ pub mod Kept
 pub mod Laws
 pub mod Length
 pub mod LengthExamples
+pub mod Nullif
 pub mod RowByRow
 pub mod Substring
 pub mod SubstringExamples

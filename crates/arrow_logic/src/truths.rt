@@ -15,7 +15,7 @@ use std::alloc::Global;
 ///
 /// # Requires
 /// A validity has a bit for each value.
-pub(crate) fn truths(values: Bitmap, validity: Option<Bitmap>) -> BooleanArray
+pub fn truths(values: Bitmap, validity: Option<Bitmap>) -> BooleanArray
     requires { FitsRows validity (length values) }
     ensures { result ≡ record { arrow_type = plain boolean; values = values; validity = validity } }
 {
@@ -29,7 +29,7 @@ pub(crate) fn truths(values: Bitmap, validity: Option<Bitmap>) -> BooleanArray
 ///
 /// # Errors
 /// `OutOfMemory` where memory is refused.
-pub(crate) fn equal_bits(alloc: Global, bit: bool, len: usize) -> Result<Bitmap, Error>
+pub fn equal_bits(alloc: Global, bit: bool, len: usize) -> Result<Bitmap, Error>
     ensures ok { IfOk result (λ bits. bits ≡ replicate len bit) }
     ensures err { IsOkUnless result Error.OutOfMemory }
 {

@@ -69,12 +69,12 @@ fn numbers_of(
     array_of(alloc, data_type.clone()?, &values, &marks)
 }
 
-fn ints(alloc: Global, letters: &[u8]) -> Result<PrimitiveArray<i32>, Error> {
+pub fn ints(alloc: Global, letters: &[u8]) -> Result<PrimitiveArray<i32>, Error> {
     numbers_of(alloc, &DataType::Int32, letters)
 }
 
 /// What lies in these rows, and beneath nulls, is as wanted.
-fn check_rows(
+pub fn check_rows(
     rt: &impl Abort,
     made: &PrimitiveArray<i32>,
     want: &PrimitiveArray<i32>,

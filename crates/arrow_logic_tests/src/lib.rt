@@ -10,6 +10,8 @@ mod check;
 #[cfg(test)]
 mod length;
 #[cfg(test)]
+mod nullif;
+#[cfg(test)]
 mod substring;
 #[cfg(test)]
 mod types;

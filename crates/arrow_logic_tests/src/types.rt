@@ -1,7 +1,7 @@
 //! The data types that the tests of every `can_` function go over.
 
 /// By their words.
-pub const TYPES: [&str; 46] = [
+pub const TYPES: [&str; 48] = [
     "null",
     "bool",
     "i8",
@@ -46,6 +46,8 @@ pub const TYPES: [&str; 46] = [
     "binary extension:a",
     "large_binary extension:a",
     "utf8 extension:a extension:b",
+    "i32 extension:a",
+    "f32 extension:a",
     "f32 list",
     "struct",
 ];

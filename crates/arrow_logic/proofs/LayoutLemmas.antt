@@ -1,0 +1,61 @@
+-- Which arrays and scalars have a primitive layout.
+use Rattle.std.proofs.Common.{◌≡◌, ◌≢◌, ◌∙◌, refl, sym}
+use Rattle.arrow_types.specs.declared.datatypes.physical_type.PhysicalType.{PhysicalType}
+use Rattle.arrow_types.specs.declared.datatypes.physical_type.PhysicalType.TheVariants as physical
+use Rattle.arrow_types.specs.declared.types.PrimitiveType.{PrimitiveType}
+use Rattle.arrow_types.specs.ArrowType.{ArrowType, plain, list, struct, union, dictionary, extension}
+use Rattle.arrow_types.specs.Physical.{physical_type_of}
+use Rattle.arrow_flat.specs.declared.array.any_primitive.AnyPrimitive.{AnyPrimitive}
+use Rattle.arrow_flat.specs.DictionaryScalar.{HasDictionary}
+use Rattle.arrow_arrays.specs.Any.{kind_in, kind_of, primitive_kind}
+use Rattle.arrow_arrays.specs.declared.array.any.AnyArray.{AnyArray}
+use Rattle.arrow_arrays.specs.declared.array.any.AnyArray.TheVariants.{Null, Boolean, Primitive, Utf8, LargeUtf8, Binary, LargeBinary, FixedSizeBinary, List, FixedSizeList, Struct, Union, Map, Dictionary}
+use Rattle.arrow_logic.specs.Nullif.{IsPrimitive}
+
+primitive_in : (p : PhysicalType) → IsPrimitive p → (e : PrimitiveType) × (kind_in p ≡ primitive_kind e)
+primitive_in (physical.Primitive e) is = (e, refl)
+primitive_in physical.Null is = absurd is
+primitive_in physical.Boolean is = absurd is
+primitive_in physical.Binary is = absurd is
+primitive_in physical.FixedSizeBinary is = absurd is
+primitive_in physical.LargeBinary is = absurd is
+primitive_in physical.Utf8 is = absurd is
+primitive_in physical.LargeUtf8 is = absurd is
+primitive_in physical.List is = absurd is
+primitive_in physical.FixedSizeList is = absurd is
+primitive_in physical.LargeList is = absurd is
+primitive_in physical.Struct is = absurd is
+primitive_in physical.Union is = absurd is
+primitive_in physical.Map is = absurd is
+primitive_in (physical.Dictionary keys) is = absurd is
+
+-- an array of the kind of primitives is one
+primitive_by_kind : (array : AnyArray) (e : PrimitiveType) → primitive_kind e ≡ kind_of array → ((p : AnyPrimitive) → array ≢ Primitive p) → ⊥
+primitive_by_kind (Null p) e is others = cc
+primitive_by_kind (Boolean p) e is others = cc
+primitive_by_kind (Primitive p) e is others = others p refl
+primitive_by_kind (Utf8 p) e is others = cc
+primitive_by_kind (LargeUtf8 p) e is others = cc
+primitive_by_kind (Binary p) e is others = cc
+primitive_by_kind (LargeBinary p) e is others = cc
+primitive_by_kind (FixedSizeBinary p) e is others = cc
+primitive_by_kind (List p) e is others = cc
+primitive_by_kind (FixedSizeList p) e is others = cc
+primitive_by_kind (Struct p) e is others = cc
+primitive_by_kind (Union p) e is others = cc
+primitive_by_kind (Map p) e is others = cc
+primitive_by_kind (Dictionary p) e is others = cc
+
+pub is_primitive : (array : AnyArray) (p : PhysicalType) → IsPrimitive p → kind_in p ≡ kind_of array → ((x : AnyPrimitive) → array ≢ Primitive x) → ⊥
+is_primitive array p is kind =
+    let layout = primitive_in p is in
+    primitive_by_kind array layout.0 (sym layout.1 ∙ kind)
+
+-- a dictionary's type, also in extensions, has another layout
+pub no_keys : (t : ArrowType) → HasDictionary t → IsPrimitive (physical_type_of t) → ⊥
+no_keys (plain t) has is = has
+no_keys (list form f) has is = has
+no_keys (struct fs) has is = has
+no_keys (union mode ids fs) has is = has
+no_keys (dictionary keys ordered t) has is = is
+no_keys (extension name metadata t) has is = no_keys t has is

@@ -1,0 +1,10 @@
+use Rattle.std.proofs.Common.{subst}
+use Rattle.arrow_types.specs.Physical.{physical_type_of}
+use Rattle.arrow_flat.specs.AnyScalar.{meaning_of}
+use Rattle.arrow_logic.specs.Nullif.{IsPrimitive}
+use Rattle.arrow_logic.proofs.LayoutLemmas.{no_keys}
+use Rattle.arrow_logic.proofs.nullif.as_primitive_scalar.Goals as goal
+
+pub unreachable-requires-in-Dictionary : goal.unreachable-requires-in-Dictionary
+unreachable-requires-in-Dictionary c =
+    no_keys c.in-Dictionary.scalar.arrow_type c.data_type-in-Dictionary.ensures.sound.kind (subst (λ s. IsPrimitive (physical_type_of (meaning_of s).0)) c.in-Dictionary.is c.requires)
