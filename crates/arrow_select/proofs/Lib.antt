@@ -6,6 +6,7 @@ pub mod FilterLemmas
 pub mod IndexLemmas
 pub mod KeyLemmas
 pub mod LawLemmas
+pub mod SetBytes
 pub mod SetLemmas
 pub mod ShiftLemmas
 pub mod TakenBytes

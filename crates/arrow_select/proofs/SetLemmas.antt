@@ -308,6 +308,15 @@ none_from place [] xs past = ap (λ bits. at_set bits xs) (drop_all place [] (om
 none_from zero (b ∷ mask) xs past = absurd (omega (arith, past))
 none_from (suc place) (b ∷ mask) xs past = none_from place mask xs (omega (arith, past))
 
+-- a word without a set bit keeps nothing
+pub none_in_word : {A : Type 0} (mask : List Bool) (xs : List A) (place word next : ℕ) → length mask ≡ length xs → word ≡ word_of (sliced mask place 64) → word ≡ 0 → next ≡ place + 64 → at_set (drop place mask) (drop place xs) ≡ at_set (drop next mask) (drop next xs)
+none_in_word mask xs place word next lengths read is at =
+    let n = min 64 (length mask - place) in
+    let part = take n (drop place xs) in
+    let here = word_of_part mask xs place word n n lengths refl refl read in
+    let none : at_set (sliced mask place 64) (sliced xs place 64) ≡ [] = sym here.same ∙ (ap (λ w. set_in_word w part) is ∙ set_in_zero part) in
+    at_set-from place 64 mask xs ∙ (ap (λ ys. ys ++ at_set (drop (place + 64) mask) (drop (place + 64) xs)) none ∙ ap (λ n. at_set (drop n mask) (drop n xs)) (sym at))
+
 -- ---- one step of a loop
 
 -- members that come before those that are left, and some more of these

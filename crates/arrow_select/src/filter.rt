@@ -12,6 +12,7 @@ ghost use Rattle.arrow_memory.specs.Grown.{IsGrowthError};
 ghost use Rattle.arrow_select.specs.Selected.{FirstDoesNotFit, selected_rows};
 
 mod boolean;
+mod bytes;
 mod prepared;
 mod primitive;
 mod words;

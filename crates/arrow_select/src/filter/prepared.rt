@@ -12,6 +12,7 @@ ghost use Rattle.arrow_growable.specs.Growing.{HasAppended};
 ghost use Rattle.arrow_memory.specs.Grown.{IsGrowthError};
 
 use crate::filter::boolean::filter_boolean;
+use crate::filter::bytes::filter_bytes;
 use crate::filter::primitive::filter_primitive;
 use arrow_arrays::array::AnyArray;
 use arrow_flat::array::BooleanArray;
@@ -87,6 +88,22 @@ impl Filter {
             AnyArray::Boolean(values) => {
                 let kept = filter_boolean(alloc, values, &self.mask, self.count())?;
                 Ok(AnyArray::Boolean(kept))
+            }
+            AnyArray::Utf8(values) => {
+                let kept = filter_bytes(alloc, values, &self.mask, self.count())?;
+                Ok(AnyArray::Utf8(kept))
+            }
+            AnyArray::LargeUtf8(values) => {
+                let kept = filter_bytes(alloc, values, &self.mask, self.count())?;
+                Ok(AnyArray::LargeUtf8(kept))
+            }
+            AnyArray::Binary(values) => {
+                let kept = filter_bytes(alloc, values, &self.mask, self.count())?;
+                Ok(AnyArray::Binary(kept))
+            }
+            AnyArray::LargeBinary(values) => {
+                let kept = filter_bytes(alloc, values, &self.mask, self.count())?;
+                Ok(AnyArray::LargeBinary(kept))
             }
             _ => {
                 let growable = make_growable(alloc, &[array], false, self.count())?;

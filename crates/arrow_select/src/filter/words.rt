@@ -140,9 +140,12 @@ fn append_set_both<T: NativeType>(
 {
     let len = mask.len();
     for j in 0..len.div_ceil(WORD_BITS) {
+        let word = mask.word(j);
+        if word == 0 {
+            continue;
+        }
         let start = WORD_BITS * j;
         let count = WORD_BITS.min(len - start);
-        let word = mask.word(j);
         append_word(kept, &values[start..start + count], word);
         valid.push_word(gathered(bits.word(j), word), word.count_ones() as usize)?;
     }
@@ -157,9 +160,13 @@ fn append_set<T: NativeType>(kept: &mut Vec<T>, values: &[T], mask: &Bitmap)
 {
     let len = mask.len();
     for j in 0..len.div_ceil(WORD_BITS) {
+        let bits = mask.word(j);
+        if bits == 0 {
+            continue;
+        }
         let start = WORD_BITS * j;
         let count = WORD_BITS.min(len - start);
-        append_word(kept, &values[start..start + count], mask.word(j));
+        append_word(kept, &values[start..start + count], bits);
     }
 }
 
@@ -215,6 +222,9 @@ fn append_set_bits(kept: &mut MutableBitmap, bits: &Bitmap, mask: &Bitmap) -> Re
     let len = mask.len();
     for j in 0..len.div_ceil(WORD_BITS) {
         let word = mask.word(j);
+        if word == 0 {
+            continue;
+        }
         kept.push_word(gathered(bits.word(j), word), word.count_ones() as usize)?;
     }
     Ok(())

@@ -202,13 +202,17 @@ fn three_letters(alloc: Global) -> Result<Vec<u8>, Error> {
     Ok(letters)
 }
 
-/// Of the numbers 0 to 129, by a predicate that begins at bit 3 of a word: 63, 64 and 129.
+/// Of the numbers 0 to 129, by a predicate that begins at bit 3 of a word: 63, 64 and 129. The same of rows some of which
+/// are null, in arrays that begin at their third row.
 fn check_three(rt: &(impl Abort + Alloc<A = Global>)) {
     let letters = made!(rt; three_letters(rt.alloc()));
     let predicate = from_bit(rt, made!(rt; truths(rt.alloc(), &letters)), 3);
     let rows = made!(rt; long_rows(rt.alloc(), 130));
     let want = [b'`' + 63, b'`' + 64, b'`' + 129];
     check_shapes(rt, &[Shape::Number], &predicate, 0, &rows, &want);
+    let rows = made!(rt; repeated(rt.alloc(), ROWS, 133));
+    let want = made!(rt; long_want(rt.alloc(), &rows, &letters, 0));
+    check_shapes(rt, &SOME, &predicate, 3, &rows, &want);
 }
 
 /// What there is with the values that a mask keeps behind it. Where memory is refused, that alone.

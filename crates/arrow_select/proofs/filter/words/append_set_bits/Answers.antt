@@ -3,7 +3,7 @@ use Rattle.std.specs.Prelude.{count_ones}
 use Rattle.std.proofs.lemmas.List.{append-nil}
 use Rattle.arrow_memory.specs.Sliced.{sliced}
 use Rattle.arrow_select.specs.Selected.{at_set}
-use Rattle.arrow_select.proofs.SetLemmas.{at_set-from, gathered_bits, kept_below, none_from, some_more}
+use Rattle.arrow_select.proofs.SetLemmas.{at_set-from, gathered_bits, kept_below, none_from, none_in_word, some_more}
 use Rattle.arrow_select.proofs.filter.words.append_set_bits.Goals as goal
 
 pub returns-in_err-push_word-clause-err : goal.returns-in_err-push_word-clause-err
@@ -22,6 +22,11 @@ pub push_word-requires : goal.push_word-requires
 push_word-requires c =
     let place = 64 * c.loop-j.j in
     (gathered_bits c.args.mask.now c.args.bits.now place c.word-word.result c.word.result c.gathered.result c.requires.lengths c.word-word.ensures.word c.word.ensures.word c.gathered.ensures).within
+
+pub loop-j-preserved-then-word-eq0 : goal.loop-j-preserved-then-word-eq0
+loop-j-preserved-then-word-eq0 c =
+    let none = none_in_word c.args.mask.now c.args.bits.now (64 * c.loop-j.j) c.word-word.result (64 * (c.loop-j.j + 1)) c.requires.lengths c.word-word.ensures.word c.if-word-eq0.true (omega arith) in
+    ap (λ ys. c.loop-j.kept ++ ys) (sym none) ∙ c.loop-j.invariant
 
 pub loop-j-preserved : goal.loop-j-preserved
 loop-j-preserved c =

@@ -3,7 +3,7 @@ use Rattle.std.specs.Prelude.{count_ones}
 use Rattle.std.proofs.lemmas.List.{append-nil, length-append}
 use Rattle.arrow_memory.specs.Sliced.{sliced}
 use Rattle.arrow_select.specs.Selected.{at_set}
-use Rattle.arrow_select.proofs.SetLemmas.{at_set-from, gathered_bits, kept_below, none_from, some_more, word_of_part}
+use Rattle.arrow_select.proofs.SetLemmas.{at_set-from, gathered_bits, kept_below, none_from, none_in_word, some_more, word_of_part}
 use Rattle.arrow_select.proofs.filter.words.append_set_both.Goals as goal
 
 pub append_word-requires-clause-below : goal.append_word-requires-clause-below
@@ -38,6 +38,17 @@ returns-in_err-push_word-clause-err g c =
     let below = kept_below c.loop-j.valid (at_set (drop place mask) (drop place bits)) part rest bits (at_set mask bits) mask (at_set-from place 64 mask bits) c.loop-j.invariant.bits refl in
     let room : length c.loop-j.valid + count_ones c.word-word.result < 2 ^ 64 = omega (arith, below, here.many, c.requires.covered, c.len-len.ensures, c.len-len.type_inv) in
     search (rules, room)
+
+pub loop-j-preserved-then-word-eq0 : goal.loop-j-preserved-then-word-eq0
+loop-j-preserved-then-word-eq0 g c =
+    let place = 64 * c.loop-j.j in
+    let none = none_in_word c.args.mask.now c.args.values.now place c.word-word.result (64 * (c.loop-j.j + 1)) c.requires.lengths c.word-word.ensures.word c.if-word-eq0.true (omega arith) in
+    let no_bit = none_in_word c.args.mask.now c.args.bits.now place c.word-word.result (64 * (c.loop-j.j + 1)) c.requires.covered c.word-word.ensures.word c.if-word-eq0.true (omega arith) in
+    record {
+      room = omega (arith, c.loop-j.invariant.room, ap length none);
+      items = ap (λ ys. c.loop-j.kept.items ++ ys) (sym none) ∙ c.loop-j.invariant.items;
+      bits = ap (λ ys. c.loop-j.valid ++ ys) (sym no_bit) ∙ c.loop-j.invariant.bits;
+    }
 
 pub loop-j-preserved : goal.loop-j-preserved
 loop-j-preserved g c =

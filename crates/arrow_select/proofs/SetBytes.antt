@@ -1,0 +1,253 @@
+-- Rows of texts or bytes at which a mask is set: where they end and what bytes they have, a run of rows at a time.
+use Rattle.std.proofs.Common.{arith, ◌≡◌, ◌+◌, ◌-◌, ℕ, zero, suc, pos, ◌<◌, ◌≤◌, ◌^◌, Bool, true, false, Option, Some, None, List, [], ◌∷◌, ◌++◌, length, map, replicate, drop, slice_index, refl, ap, sym, subst, ◌∙◌, append_assoc}
+use Rattle.std.specs.Prelude.{option_map, slice_get, sum}
+use Rattle.std.specs.List.{All, concat, range_with_len}
+use Rattle.std.proofs.lemmas.List.{append-nil, get_or-drop, get_or-take, get_or_default, length-map, map-append}
+use Rattle.std.proofs.lemmas.List.Elements.{All-cons, All-nil}
+use Rattle.std.proofs.lemmas.List.Sums.{sum-map, sum_by-append, sum_by-cons}
+use Rattle.arrow_types.specs.declared.datatypes.physical_type.PhysicalType.{PhysicalType}
+use Rattle.arrow_types.specs.ArrowType.{ArrowType}
+use Rattle.arrow_types.specs.Fits.{Fits, byte_count}
+use Rattle.arrow_types.specs.Greatest.{greatest_offset}
+use Rattle.arrow_types.specs.Physical.{physical_type_of}
+use Rattle.arrow_types.specs.Rows.{masked, select}
+use Rattle.arrow_types.specs.Slot.{Slot}
+use Rattle.arrow_types.proofs.RowsLemmas.{drop_at_read}
+use Rattle.arrow_memory.specs.Offsets.{IsOffsets, counted_on, last_of}
+use Rattle.arrow_memory.specs.Sliced.{sliced}
+use Rattle.arrow_memory.proofs.OffsetLemmas.{at_most_last, offsets_rise}
+use Rattle.arrow_memory.proofs.SlicedLemmas.{length-sliced}
+use Rattle.arrow_flat.specs.Parts.{FitsRows}
+use Rattle.arrow_flat.specs.Pieces.{pieces}
+use Rattle.arrow_flat.proofs.PieceLemmas.{length-pieces, piece_at}
+use Rattle.arrow_flat_growable.specs.ByteLaws.{fits_rows, slots_fit}
+use Rattle.arrow_flat_growable.specs.Bytes.{IsBytesType}
+use Rattle.arrow_flat_growable.specs.GrownRows.{total, valid_values}
+use Rattle.arrow_flat_growable.proofs.GrownRowLemmas.{last_more, part_cut}
+use Rattle.arrow_select.specs.Laws.{places_from}
+use Rattle.arrow_select.specs.Selected.{at_set}
+use Rattle.arrow_select.specs.Taken.{ends_from, row_length}
+use Rattle.arrow_select.proofs.FilterLemmas.{set_fits, set_rows}
+use Rattle.arrow_select.proofs.SetLemmas.{at_set-short}
+use Rattle.arrow_select.proofs.TakenBytes.{concat_length, ends_last, pieces_of_rows}
+
+-- ---- the rows that are left, a run at a time
+
+unset_places : (n i : ℕ) (bits : List Bool) → places_from i (replicate n false ++ bits) ≡ places_from (i + n) bits
+unset_places zero i bits =
+    let at : i ≡ i + 0 = omega arith in
+    ap (λ k. places_from k bits) at
+unset_places (suc n) i bits =
+    let at : i + 1 + n ≡ i + suc n = omega arith in
+    unset_places n (i + 1) bits ∙ ap (λ k. places_from k bits) at
+
+set_places : (n i : ℕ) (bits : List Bool) → places_from i (replicate n true ++ bits) ≡ range_with_len i n ++ places_from (i + n) bits
+set_places zero i bits =
+    let at : i ≡ i + 0 = omega arith in
+    ap (λ k. places_from k bits) at
+set_places (suc n) i bits =
+    let at : i + 1 + n ≡ i + suc n = omega arith in
+    ap (λ ns. i ∷ ns) (set_places n (i + 1) bits ∙ ap (λ k. range_with_len (i + 1) n ++ places_from k bits) at)
+
+-- a run of set bits, and those before it
+pub run_first : (unset count i : ℕ) (old left : List Bool) → old ≡ replicate unset false ++ (replicate count true ++ left) → places_from i old ≡ range_with_len (i + unset) count ++ places_from (i + unset + count) left
+run_first unset count i old left is =
+    ap (places_from i) is ∙ (unset_places unset i (replicate count true ++ left) ∙ set_places count (i + unset) left)
+
+-- ---- where they end
+
+ends_append : (place : ℕ) (xs ys : List ℕ) → ends_from place (xs ++ ys) ≡ ends_from place xs ++ ends_from (place + sum xs) ys
+ends_append place [] ys =
+    let at : place ≡ place + sum [] = omega arith in
+    ap (λ p. ends_from p ys) at
+ends_append place (n ∷ xs) ys =
+    let at : place + n + sum xs ≡ place + sum (n ∷ xs) = omega (arith, sum_by-cons (λ x. x) n xs) in
+    ap (λ es. (place + n) ∷ es) (ends_append (place + n) xs ys ∙ ap (λ p. ends_from (place + n) xs ++ ends_from p ys) at)
+
+last_ends : (os lengths : List ℕ) → 0 < length os → last_of (os ++ ends_from (last_of os) lengths) ≡ last_of os + sum lengths
+last_ends [] lengths some = absurd (omega (arith, some))
+last_ends (n ∷ os) lengths some =
+    last_more n os (ends_from (last_of (n ∷ os)) lengths) ∙ ends_last (last_of (n ∷ os)) lengths
+
+-- the ends so far, with those of the rows that are left, are those of all
+abbrev pub EndsUpTo : List ℕ → List ℕ → List ℕ → List ℕ → Type 0
+EndsUpTo os ends left all = ends ++ ends_from (last_of ends) (map (row_length os) left) ≡ 0 ∷ ends_from 0 (map (row_length os) all)
+
+module _ (os ends left run rest all : List ℕ) (some : 0 < length ends) (is : left ≡ run ++ rest) (so_far : EndsUpTo os ends left all) where
+  split : map (row_length os) left ≡ map (row_length os) run ++ map (row_length os) rest
+  split = ap (map (row_length os)) is ∙ map-append (row_length os) run rest
+
+  -- one run more
+  pub ends_more : (new : List ℕ) → new ≡ ends ++ ends_from (last_of ends) (map (row_length os) run) → EndsUpTo os new rest all
+  ends_more new pushed =
+      let lengths = map (row_length os) run in
+      let others = map (row_length os) rest in
+      let last : last_of new ≡ last_of ends + sum lengths = ap last_of pushed ∙ last_ends ends lengths some in
+      let whole = ap (ends_from (last_of ends)) split ∙ ends_append (last_of ends) lengths others in
+      (λ i. pushed i ++ ends_from (last i) others) ∙ (append_assoc ends (ends_from (last_of ends) lengths) (ends_from (last_of ends + sum lengths) others) ∙ (ap (λ es. ends ++ es) (sym whole) ∙ so_far))
+
+  -- it ends no later than all rows
+  pub ends_below : last_of ends + sum (map (row_length os) run) ≤ sum (map (row_length os) all)
+  ends_below =
+      let whole = sym (last_ends ends (map (row_length os) left) some) ∙ (ap last_of so_far ∙ ends_last 0 (map (row_length os) all)) in
+      let parts = ap sum split ∙ sum_by-append (λ x. x) (map (row_length os) run) (map (row_length os) rest) in
+      omega (arith, whole, parts)
+
+pub ends_all : (os ends : List ℕ) (i : ℕ) (left : List Bool) (all : List ℕ) → length left ≡ 0 → EndsUpTo os ends (places_from i left) all → ends ≡ 0 ∷ ends_from 0 (map (row_length os) all)
+ends_all os ends i [] all none so_far = sym (append-nil ends) ∙ so_far
+ends_all os ends i (b ∷ left) all none so_far = absurd (omega (arith, none))
+
+-- ---- the ends of a run
+
+moved_on : (place begin next : ℕ) (ns : List ℕ) → begin ≤ next → All (λ n. next ≤ n) ns → map (λ n. place + (n - begin)) ns ≡ map (λ n. place + (next - begin) + (n - next)) ns
+moved_on place begin next [] rise above = refl
+moved_on place begin next (n ∷ ns) rise above =
+    let first : place + (n - begin) ≡ place + (next - begin) + (n - next) = omega (arith, rise, above 0 n (omega arith)) in
+    let rest = moved_on place begin next ns rise (λ k d within. above (suc k) d (omega (arith, within))) in
+    λ i. first i ∷ rest i
+
+above_next : (os : List ℕ) (start len : ℕ) → IsOffsets os → start + 1 + len ≤ length os → All (λ n. slice_index os start ≤ n) (sliced os (start + 1) len)
+above_next os start len held part = λ k d within.
+    let long = length-sliced os (start + 1) len (omega (arith, part)) in
+    let inside : k < len = omega (arith, within, long) in
+    let read = get_or-take len (drop (start + 1) os) k d inside ∙ (get_or-drop (start + 1) os k d ∙ get_or_default os (start + 1 + k) d 0 (omega (arith, inside, part))) in
+    subst (λ n. slice_index os start ≤ n) (sym read) (offsets_rise os start (start + 1 + k) held (omega arith) (omega (arith, inside, part)))
+
+pub counted_ends : (os : List ℕ) (start len place : ℕ) → IsOffsets os → start + len < length os → counted_on place os start len ≡ ends_from place (map (row_length os) (range_with_len start len))
+counted_ends os start zero place held part = refl
+counted_ends os start (suc len) place held part =
+    let begin = slice_index os start in
+    let next = slice_index os (start + 1) in
+    let count : suc len ≡ len + 1 = omega arith in
+    let cut : sliced os (start + 1) (suc len) ≡ next ∷ sliced os (start + 1 + 1) len = ap (sliced os (start + 1)) count ∙ part_cut os (start + 1) len (omega (arith, part)) in
+    let rise = offsets_rise os start (start + 1) held (omega arith) (omega (arith, part)) in
+    let moved = moved_on place begin next (sliced os (start + 1 + 1) len) rise (above_next os (start + 1) len held (omega (arith, part))) in
+    ap (map (λ n. place + (n - begin))) cut ∙ ap (λ es. (place + (next - begin)) ∷ es) (moved ∙ counted_ends os (start + 1) len (place + (next - begin)) held (omega (arith, part)))
+
+-- as many items as the rows of a run have
+pub counted_sum : (os : List ℕ) (start len : ℕ) → IsOffsets os → start + len < length os → slice_index os (start + len) - slice_index os start ≡ sum (map (row_length os) (range_with_len start len))
+counted_sum os start zero held part =
+    let same : slice_index os (start + 0) ≡ slice_index os start = ap (slice_index os) (omega arith) in
+    omega (arith, same)
+counted_sum os start (suc len) held part =
+    let at : slice_index os (start + 1 + len) ≡ slice_index os (start + suc len) = ap (slice_index os) (omega arith) in
+    let first = offsets_rise os start (start + 1) held (omega arith) (omega (arith, part)) in
+    let others = offsets_rise os (start + 1) (start + 1 + len) held (omega arith) (omega (arith, part)) in
+    omega (arith, at, first, others, counted_sum os (start + 1) len held (omega (arith, part)), sum_by-cons (λ x. x) (row_length os start) (map (row_length os) (range_with_len (start + 1) len)))
+
+-- those at which a mask is set have no more than all
+pub set_sum : (os : List ℕ) (mask : List Bool) (i : ℕ) → IsOffsets os → i + length mask < length os → sum (map (row_length os) (places_from i mask)) + slice_index os i ≤ slice_index os (i + length mask)
+set_sum os [] i held part =
+    let same : slice_index os (i + 0) ≡ slice_index os i = ap (slice_index os) (omega arith) in
+    omega (arith, same)
+set_sum os (b ∷ mask) i held part =
+    let at : slice_index os (i + 1 + length mask) ≡ slice_index os (i + suc (length mask)) = ap (slice_index os) (omega arith) in
+    let rise = offsets_rise os i (i + 1) held (omega arith) (omega (arith, part)) in
+    let rest = set_sum os mask (i + 1) held (omega (arith, part)) in
+    let first = sum_by-cons (λ x. x) (row_length os i) (map (row_length os) (places_from (i + 1) mask)) in
+    let by : (b : Bool) → sum (map (row_length os) (places_from i (b ∷ mask))) + slice_index os i ≤ slice_index os (i + suc (length mask)) = elim [ true ↦ omega (arith, at, rise, rest, first) | false ↦ omega (arith, at, rise, rest) ] in
+    by b
+
+-- ---- the rows
+
+-- members at which a mask is set, each by its place
+set_by_place : {A : Type 0} (g : ℕ → A) (xs : List A) (mask : List Bool) (i : ℕ) → ((n : ℕ) → n < length xs → slice_get xs n ≡ Some (g n)) → i + length mask ≡ length xs → at_set mask (drop i xs) ≡ map g (places_from i mask)
+set_by_place g xs [] i reads long = refl
+set_by_place g xs (b ∷ mask) i reads long =
+    let here = drop_at_read xs i (g i) (reads i (omega (arith, long))) in
+    let rest = set_by_place g xs mask (i + 1) reads (omega (arith, long)) in
+    let by : (b : Bool) → at_set (b ∷ mask) (g i ∷ drop (i + 1) xs) ≡ map g (places_from i (b ∷ mask)) = elim [ true ↦ ap (λ ys. g i ∷ ys) rest | false ↦ rest ] in
+    ap (at_set (b ∷ mask)) here ∙ by b
+
+-- the bytes of a row
+abbrev row_in : List ℕ → List ℕ → ℕ → List ℕ
+row_in os bytes n = sliced bytes (slice_index os n) (row_length os n)
+
+set_bytes : (os bytes : List ℕ) (mask : List Bool) (i : ℕ) → valid_values mask os bytes i ≡ concat (map (row_in os bytes) (places_from i mask))
+set_bytes os bytes [] i = refl
+set_bytes os bytes (true ∷ mask) i = ap (λ ys. row_in os bytes i ++ ys) (set_bytes os bytes mask (i + 1))
+set_bytes os bytes (false ∷ mask) i = set_bytes os bytes mask (i + 1)
+
+-- a fact of all members holds for those at which a mask is set
+pub all_set : {A : Type 0} (P : A → Type 0) (mask : List Bool) (xs : List A) → All P xs → All P (at_set mask xs)
+all_set P [] xs all = All-nil P
+all_set P (b ∷ mask) [] all = All-nil P
+all_set P (b ∷ mask) (x ∷ xs) all =
+    let rest = all_set P mask xs (λ k d within. all (suc k) d (omega (arith, within))) in
+    let by : (b : Bool) → All P (at_set (b ∷ mask) (x ∷ xs)) = elim [ true ↦ All-cons P x (at_set mask xs) (all 0 x (omega arith)) rest | false ↦ rest ] in
+    by b
+
+-- a validity of the rows that are kept has a bit for each
+pub kept_bits : (os bytes offsets made : List ℕ) (mask : List Bool) (v w : Option (List Bool)) → length mask ≡ length os - 1 → w ≡ option_map (at_set mask) v → pieces offsets made ≡ at_set mask (pieces os bytes) → FitsRows v (length os - 1) → FitsRows w (length offsets - 1)
+kept_bits os bytes offsets made mask v w long is are fits =
+    let count = length-pieces os bytes in
+    let bits = set_fits mask v w (pieces os bytes) (pieces offsets made) is are (omega (arith, long, count)) (subst (FitsRows v) (sym count) fits) in
+    subst (FitsRows w) (length-pieces offsets made) bits
+
+-- the offsets are at most the greatest where the end of all rows is
+pub last_below : (rows os : List ℕ) (len end greatest : ℕ) → rows ≡ os → len ≡ length rows → end ≡ slice_index rows (0 + (len - 1)) → end ≤ greatest → last_of os ≤ greatest
+last_below rows os len end greatest same count is most =
+    let at : 0 + (len - 1) ≡ length os - 1 = omega (arith, count, ap length same) in
+    let last : slice_index rows (0 + (len - 1)) ≡ last_of os = λ i. slice_index (same i) (at i) in
+    omega (arith, most, is, last)
+
+-- rows that lie in bytes
+module _ (os bytes : List ℕ) (sound : IsOffsets os) (within : last_of os ≤ length bytes) (mask : List Bool) (long : length mask ≡ length os - 1) where
+  abbrev kept : List (List ℕ)
+  kept = at_set mask (pieces os bytes)
+
+  some_offset : 0 < length os
+  some_offset = omega (arith, sound.some, length-map os pos)
+
+  by_place : kept ≡ map (row_in os bytes) (places_from 0 mask)
+  by_place =
+      set_by_place (row_in os bytes) (pieces os bytes) mask 0 (λ n has. piece_at os bytes n (omega (arith, has, length-pieces os bytes))) (omega (arith, long, length-pieces os bytes))
+
+  row_long : (n : ℕ) → n + 1 < length os → length (row_in os bytes n) ≡ row_length os n
+  row_long n has =
+      length-sliced bytes (slice_index os n) (row_length os n) (omega (arith, within, offsets_rise os n (n + 1) sound (omega arith) has, at_most_last os (n + 1) sound has))
+
+  rows_long : (bits : List Bool) (i : ℕ) → i + length bits < length os → map length (map (row_in os bytes) (places_from i bits)) ≡ map (row_length os) (places_from i bits)
+  rows_long [] i has = refl
+  rows_long (b ∷ bits) i has =
+      let first = row_long i (omega (arith, has)) in
+      let rest = rows_long bits (i + 1) (omega (arith, has)) in
+      let by : (b : Bool) → map length (map (row_in os bytes) (places_from i (b ∷ bits))) ≡ map (row_length os) (places_from i (b ∷ bits)) = elim [ true ↦ (λ t. first t ∷ rest t) | false ↦ rest ] in
+      by b
+
+  lengths_are : map length kept ≡ map (row_length os) (places_from 0 mask)
+  lengths_are = ap (map length) by_place ∙ rows_long mask 0 (omega (arith, long, some_offset))
+
+  -- offsets and bytes that were made so
+  module _ (offsets made : List ℕ) (ends : offsets ≡ 0 ∷ ends_from 0 (map (row_length os) (places_from 0 mask))) (are : made ≡ valid_values mask os bytes 0) where
+    ends_are : offsets ≡ 0 ∷ ends_from 0 (map length kept)
+    ends_are = ends ∙ ap (λ ls. 0 ∷ ends_from 0 ls) (sym lengths_are)
+
+    bytes_are : made ≡ concat kept
+    bytes_are = are ∙ (set_bytes os bytes mask 0 ∙ ap concat (sym by_place))
+
+    pub kept_pieces : pieces offsets made ≡ at_set mask (pieces os bytes)
+    kept_pieces = (λ i. pieces (ends_are i) (bytes_are i)) ∙ pieces_of_rows kept
+
+    pub kept_end : last_of offsets ≤ length made
+    kept_end =
+        omega (arith, ap last_of ends_are ∙ ends_last 0 (map length kept), concat_length kept, ap length bytes_are)
+
+  -- they have no more bytes than all rows, so they fit the type
+  few : total kept ≤ last_of os
+  few =
+      let at : slice_index os (0 + length mask) ≡ last_of os = ap (slice_index os) (omega (arith, long)) in
+      omega (arith, sum-map length kept, ap sum lengths_are, set_sum os mask 0 sound (omega (arith, long, some_offset)), at)
+
+  fit_under : (slot : List ℕ → Slot) (is_large : Bool) (t : ArrowType) (physical_type : PhysicalType) → IsBytesType is_large physical_type → physical_type_of t ≡ physical_type → (w : Option (List Bool)) → FitsRows w (length kept) → Fits t (map slot kept) → Fits t (masked w (map slot kept))
+  fit_under slot is_large t physical_type lies kind None fits fit = fit
+  fit_under slot is_large t physical_type lies kind (Some bits) fits fit =
+      fits_rows is_large t physical_type lies kind bits (map slot kept) (fits ∙ sym (length-map kept slot)) fit
+
+  pub kept_fit : (slot : List ℕ → Slot) → ((bytes : List ℕ) → byte_count (slot bytes) ≡ length bytes) → (is_large : Bool) (t : ArrowType) (physical_type : PhysicalType) → IsBytesType is_large physical_type → physical_type_of t ≡ physical_type → (v : Option (List Bool)) (greatest : ℕ) → greatest ≡ greatest_offset is_large → FitsRows v (length os - 1) → length mask < 2 ^ 64 → last_of os ≤ greatest → Fits t (select mask (masked v (map slot (pieces os bytes))))
+  kept_fit slot counts is_large t physical_type lies kind v greatest is fits counted most =
+      let count = length-pieces os bytes in
+      let same = set_rows slot mask v (option_map (at_set mask) v) (pieces os bytes) kept refl refl in
+      let bits = set_fits mask v (option_map (at_set mask) v) (pieces os bytes) kept refl refl (omega (arith, long, count)) (subst (FitsRows v) (sym count) fits) in
+      let stored = slots_fit slot counts is_large t physical_type lies kind kept (length kept) greatest refl (omega (arith, counted, long, count, at_set-short mask (pieces os bytes))) (omega (arith, few, most)) is in
+      subst (Fits t) same (fit_under slot is_large t physical_type lies kind (option_map (at_set mask) v) bits stored)

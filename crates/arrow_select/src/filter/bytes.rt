@@ -1,0 +1,161 @@
+//! Texts and bytes at which a mask is set: where the rows end first, and then the bytes, for which there is room.
+
+ghost use Rattle.std.specs.Prelude.{◌≡◌, ◌+◌, ◌-◌, ◌<◌, ◌≤◌, ◌∷◌, ◌++◌, count_by, length, map, slice_index, IfOk, OnOk, IsOkUnless};
+ghost use Rattle.std.specs.List.{range_with_len};
+ghost use Rattle.arrow_types.specs.declared.error.Error.{Error};
+ghost use Rattle.arrow_types.specs.Fits.{Fits};
+ghost use Rattle.arrow_types.specs.Rows.{select};
+ghost use Rattle.arrow_memory.specs.Offsets.{last_of};
+ghost use Rattle.arrow_flat.specs.ByteRows.{byte_slots, row_bytes};
+ghost use Rattle.arrow_flat.specs.Parts.{rows_by};
+ghost use Rattle.arrow_flat.specs.Pieces.{pieces};
+ghost use Rattle.arrow_flat_growable.specs.GrownRows.{valid_values};
+ghost use Rattle.arrow_select.specs.Laws.{places_from};
+ghost use Rattle.arrow_select.specs.Selected.{at_set};
+ghost use Rattle.arrow_select.specs.Taken.{ends_from, row_length};
+
+use crate::filter::words::set_validity;
+use arrow_flat::array::{ByteKind, ByteRows, FlatArray};
+use arrow_flat_growable::growable::GrowableKind;
+use arrow_memory::bitmap::Bitmap;
+use arrow_memory::buffer::Buffer;
+use arrow_memory::offset::{Offsets, OffsetsBuffer};
+use arrow_types::error::Error;
+use arrow_types::types::Offset;
+use std::alloc::Global;
+
+/// The rows at which the mask is set, in an array of the same type. What lies beneath a null comes with it, so no row is
+/// looked at, and all have at most the bytes of the array, which fit. Where all rows are kept the array is shared, and
+/// nothing is copied.
+///
+/// # Requires
+/// The mask has a bit for each row, and `count` of them are set.
+///
+/// # Errors
+/// `OutOfMemory` where memory is refused.
+pub(super) fn filter_bytes<O: Offset, K: GrowableKind>(
+    alloc: Global,
+    array: &FlatArray<ByteRows<O, K>>,
+    mask: &Bitmap,
+    count: usize,
+) -> Result<FlatArray<ByteRows<O, K>>, Error>
+    requires lengths { length mask.now ≡ length (rows_by (byte_slots K.slot) array.now) }
+    requires count { count ≡ count_by (λ is_kept. is_kept) mask.now }
+    ensures array_type { IfOk result (λ kept. kept.arrow_type ≡ array.now.arrow_type) }
+    ensures rows { IfOk result (λ kept. rows_by (byte_slots K.slot) kept ≡ select mask.now (rows_by (byte_slots K.slot) array.now)) }
+    ensures fits { IfOk result (λ kept. Fits kept.arrow_type (rows_by (byte_slots K.slot) kept)) }
+    ensures err { IsOkUnless result Error.OutOfMemory }
+{
+    let (data_type, validity) = (array.data_type(), array.validity());
+    // The rows lie in the values as the offsets say, which are at most the greatest.
+    let (rows, _) = (array.offsets(), array.values());
+    let _ = rows.range(0, rows.len() - 1);
+    if count == array.len() {
+        return Ok(array.clone()?);
+    }
+    let validity = set_validity(alloc, validity, mask, count)?;
+    let (ends, bytes) = kept_parts(alloc, array, mask, count)?;
+    let bytes = Buffer::from_vec(alloc, bytes)?;
+    Ok(FlatArray::<ByteRows<O, K>>::new(data_type.clone()?, ends, bytes, validity))
+}
+
+/// Where the rows end at which the mask is set, of which there are so many, and their bytes.
+///
+/// # Errors
+/// `OutOfMemory` where memory is refused.
+fn kept_parts<O: Offset, K: ByteKind>(
+    alloc: Global,
+    array: &FlatArray<ByteRows<O, K>>,
+    mask: &Bitmap,
+    count: usize,
+) -> Result<(OffsetsBuffer<O>, Vec<u8>), Error>
+    requires lengths { length mask.now ≡ length array.now.values.offsets - 1 }
+    ensures rows { IfOk result (λ parts. pieces parts.0 parts.1.items ≡ at_set mask.now (row_bytes array.now.values)) }
+    ensures within { IfOk result (λ parts. last_of parts.0 ≤ length parts.1.items) }
+    ensures err { IsOkUnless result Error.OutOfMemory }
+{
+    let (rows, values) = (array.offsets(), array.values().as_slice());
+    prove!(0 < rows.len());
+    let ends = kept_ends(alloc, rows, mask, count)?;
+    let total = ends.last().to_usize();
+    let bytes = kept_bytes(alloc, rows, values, mask, total)?;
+    Ok((ends.into_buffer()?, bytes))
+}
+
+/// Where the rows end at which the mask is set, of which there are so many, a run of them at a time.
+///
+/// # Errors
+/// `OutOfMemory` where memory is refused.
+fn kept_ends<O: Offset>(
+    alloc: Global,
+    rows: &OffsetsBuffer<O>,
+    mask: &Bitmap,
+    count: usize,
+) -> Result<Offsets<O>, Error>
+    requires lengths { length rows.now ≡ length mask.now + 1 }
+    ensures ok { IfOk result (λ ends. ends ≡ 0 ∷ ends_from 0 (map (row_length rows.now) (places_from 0 mask.now))) }
+    ensures err { IsOkUnless result Error.OutOfMemory }
+{
+    let mut ends = Offsets::with_capacity(alloc, count)?;
+    let len = mask.len();
+    // All rows end at the greatest offset at most, and so do those that are kept.
+    let _ = rows.range(0, len);
+    let mut left = mask.runs(0, len);
+    let mut row = 0;
+    while row < len {
+        let (unset, count) = left.next_set();
+        row += unset;
+        append_ends(&mut ends, rows, row, count)?;
+        row += count;
+    }
+    Ok(ends)
+}
+
+/// Appends where `len` rows from row `start` on end. These offsets fit.
+///
+/// # Errors
+/// `OutOfMemory` where a growth is refused.
+fn append_ends<O: Offset>(
+    ends: &mut Offsets<O>,
+    rows: &OffsetsBuffer<O>,
+    start: usize,
+    len: usize,
+) -> Result<(), Error>
+    requires part { start + len < length rows.now }
+    requires fits { last_of ends.old + (slice_index rows.now (start + len) - slice_index rows.now start) ≤ O.greatest }
+    ensures ok { OnOk result (ends.new ≡ ends.old ++ ends_from (last_of ends.old) (map (row_length rows.now) (range_with_len start len))) }
+    ensures err { IsOkUnless result Error.OutOfMemory }
+{
+    prove!(start < rows.len());
+    ends.try_extend_from_slice(rows, start, len)
+}
+
+/// The bytes of the rows at which the mask is set, a run of them at a time. There is room for `total` from the first on.
+///
+/// # Errors
+/// `OutOfMemory` where memory is refused.
+fn kept_bytes<O: Offset>(
+    alloc: Global,
+    rows: &OffsetsBuffer<O>,
+    values: &[u8],
+    mask: &Bitmap,
+    total: usize,
+) -> Result<Vec<u8>, Error>
+    requires lengths { length rows.now ≡ length mask.now + 1 }
+    requires within { last_of rows.now ≤ length values.now }
+    ensures ok { IfOk result (λ bytes. bytes.items ≡ valid_values mask.now rows.now values.now 0) }
+    ensures err { IsOkUnless result Error.OutOfMemory }
+{
+    let mut bytes = Vec::with_capacity(alloc, total)?;
+    let len = mask.len();
+    let mut left = mask.runs(0, len);
+    let mut row = 0;
+    while row < len {
+        let (unset, count) = left.next_set();
+        row += unset;
+        let (first, end) = rows.range(row, count);
+        bytes.extend_from_slice(&values[first..end])?;
+        row += count;
+    }
+    Ok(bytes)
+}
