@@ -1,0 +1,7 @@
+pub mod ByteLemmas
+pub mod FinishLemmas
+pub mod NullLemmas
+pub mod RowLemmas
+pub mod SameLemmas
+pub mod TruthLemmas
+pub mod WordLemmas

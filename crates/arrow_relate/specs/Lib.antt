@@ -1,0 +1,6 @@
+pub mod Examples
+pub mod Finished
+pub mod LentRows
+pub mod Related
+pub mod Same
+pub mod Words

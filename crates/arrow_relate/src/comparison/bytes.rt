@@ -1,0 +1,450 @@
+//! Relations of rows of bytes, of texts and of any bytes alike.
+
+ghost use Rattle.std.specs.Prelude.{◌≡◌, ◌+◌, ◌<◌, ◌≤◌, ℕ, List, Some, length, map, refl, slice_get, slice_index, IfOk, IsOkUnless, IsUtf8};
+ghost use Rattle.std.specs.Ordering.{is_eq};
+ghost use Rattle.arrow_types.specs.ArrowType.{boolean, plain};
+ghost use Rattle.arrow_types.specs.declared.error.Error.{Error};
+ghost use Rattle.arrow_types.specs.Relation.{Relation as RowRelation, byte_order, holds, related};
+ghost use Rattle.arrow_types.specs.Slot.{Boolean};
+ghost use Rattle.arrow_flat.specs.ByteRows.{byte_slots, row_bytes};
+ghost use Rattle.arrow_flat.specs.Parts.{boolean_rows, rows_by};
+ghost use Rattle.arrow_logic.specs.RowByRow.{row_by_row};
+ghost use Rattle.arrow_relate.specs.Related.{relation_of};
+ghost use Rattle.arrow_relate.specs.Same.{is_same, differs};
+
+use crate::fixed::{Equal, FixedRelation, Greater, GreaterOrEqual, Less, LessOrEqual, NotEqual};
+use crate::nulls::{
+    differing_rows, differs_from_scalar, null_where_either, same_as_scalar, same_rows,
+};
+use crate::relation::Relation;
+use crate::words::bits_by_rows;
+use arrow_flat::array::{Binary, BooleanArray, ByteKind, ByteRows, FlatArray, Text};
+use arrow_logic::truths::truths;
+use arrow_logic::validity::shared;
+use arrow_memory::bitmap::Bitmap;
+use arrow_types::error::Error;
+use arrow_types::types::{Index, Offset};
+use std::alloc::Global;
+use std::cmp::Ordering;
+use std::marker::{Model, PhantomData};
+
+/// A kind of rows that are compared by their bytes.
+pub(crate) trait ComparedBytes: ByteKind {
+    /// Whether two rows have the same bytes: their lengths are compared first.
+    ///
+    /// # Requires
+    /// Both are rows of the kind.
+    fn are_equal(left: &[u8], right: &[u8]) -> bool
+        requires left { Self.Allows left.now }
+        requires right { Self.Allows right.now }
+        ensures { result ≡ is_eq (byte_order left.now right.now) };
+
+    /// How two rows compare, by the first byte that differs, unsigned; a beginning comes before what goes on.
+    ///
+    /// # Requires
+    /// Both are rows of the kind.
+    fn order(left: &[u8], right: &[u8]) -> Ordering
+        requires left { Self.Allows left.now }
+        requires right { Self.Allows right.now }
+        ensures { result ≡ byte_order left.now right.now };
+
+    ghost related_slots: { (op : RowRelation) (x y : List ℕ) → related op (Self.slot x) (Self.slot y) ≡ Boolean (holds op (byte_order x y)) };
+}
+
+// As texts, which std compares many bytes at a time.
+impl ComparedBytes for Text {
+    fn are_equal(left: &[u8], right: &[u8]) -> bool {
+        left.len() == right.len() && as_text(left) == as_text(right)
+    }
+
+    fn order(left: &[u8], right: &[u8]) -> Ordering {
+        as_text(left).cmp(as_text(right))
+    }
+
+    ghost related_slots = { λ op x y. refl };
+}
+
+/// The text of bytes that are UTF-8.
+fn as_text(bytes: &[u8]) -> &str
+    requires { IsUtf8 bytes.now }
+    ensures { result.now ≡ bytes.now }
+{
+    unsafe { str::from_utf8_unchecked(bytes) }
+}
+
+impl ComparedBytes for Binary {
+    fn are_equal(left: &[u8], right: &[u8]) -> bool {
+        left == right
+    }
+
+    fn order(left: &[u8], right: &[u8]) -> Ordering {
+        left.cmp(right)
+    }
+
+    ghost related_slots = { λ op x y. refl };
+}
+
+/// A relation of two rows of bytes.
+pub(crate) trait ByteTest: FixedRelation {
+    /// Whether it holds of them.
+    ///
+    /// # Requires
+    /// Both are rows of the kind.
+    fn of_bytes<K: ComparedBytes>(left: &[u8], right: &[u8]) -> bool
+        requires left { K.Allows left.now }
+        requires right { K.Allows right.now }
+        ensures { Boolean result ≡ related Self.op (K.slot left.now) (K.slot right.now) }
+    {
+        Self::holds(K::order(left, right))
+    }
+}
+
+// Rows that are not as long differ without a look at their bytes.
+impl ByteTest for Equal {
+    fn of_bytes<K: ComparedBytes>(left: &[u8], right: &[u8]) -> bool {
+        K::are_equal(left, right)
+    }
+}
+
+impl ByteTest for NotEqual {
+    fn of_bytes<K: ComparedBytes>(left: &[u8], right: &[u8]) -> bool {
+        !K::are_equal(left, right)
+    }
+}
+
+impl ByteTest for Less {}
+
+impl ByteTest for LessOrEqual {}
+
+impl ByteTest for Greater {}
+
+impl ByteTest for GreaterOrEqual {}
+
+/// Rows of bytes, lent as the slices that hold them.
+#[derive(Drop)]
+pub(crate) struct LentRows<'a, O: Offset, K: ByteKind> {
+    offsets: &'a [O],
+    bytes: &'a [u8],
+    kind: PhantomData<K>,
+}
+
+impl<'a, O: Offset, K: ByteKind> Model for LentRows<'a, O, K> {
+    ghost use Rattle.arrow_flat.specs.ByteRows.{ByteParts, byte_parts_code};
+    ghost use Rattle.arrow_relate.specs.LentRows.{AreLentRows, lent_parts};
+
+    ghost Value = { ByteParts };
+
+    ghost coded = { byte_parts_code };
+
+    ghost view = { λ a. lent_parts O.number a.offsets.now a.bytes.now };
+
+    ghost invariant = { λ a. AreLentRows O.number K.Allows a.offsets.now a.bytes.now };
+}
+
+impl<'a, O: Offset, K: ByteKind> LentRows<'a, O, K> {
+    /// The rows of an array, null rows too.
+    fn of(array: &'a FlatArray<ByteRows<O, K>>) -> LentRows<'a, O, K>
+        ensures { result ≡ array.now.values }
+    {
+        LentRows {
+            offsets: array.offsets().buffer(),
+            bytes: array.values().as_slice(),
+            kind: PhantomData,
+        }
+    }
+
+    /// How many there are.
+    fn len(&self) -> usize
+        ensures { result ≡ length (row_bytes self.now) }
+    {
+        self.offsets.len() - 1
+    }
+
+    /// The bytes of row `i`.
+    fn row(&self, i: usize) -> &'a [u8]
+        requires { i < length (row_bytes self.now) }
+        ensures row { slice_get (row_bytes self.now) i ≡ Some result.now }
+        ensures kind { K.Allows result.now }
+    {
+        let bytes = self.bytes;
+        let (start, end) = self.start_end(i);
+        &bytes[start..end]
+    }
+
+    /// Where row `i` begins and ends.
+    fn start_end(&self, i: usize) -> (usize, usize)
+        requires { i + 1 < length self.now.offsets }
+        ensures start { result.0 ≡ slice_index self.now.offsets i }
+        ensures end { result.1 ≡ slice_index self.now.offsets (i + 1) }
+        ensures rises { result.0 ≤ result.1 }
+        ensures within { result.1 ≤ length self.now.bytes }
+    {
+        let offsets = self.offsets;
+        (offsets[i].to_usize(), offsets[i + 1].to_usize())
+    }
+}
+
+/// Whether the relation holds of a row of both sides.
+///
+/// # Requires
+/// Both have it.
+fn are_related<'a, R: ByteTest, O: Offset, K: ComparedBytes>(
+    left: &LentRows<'a, O, K>,
+    right: &LentRows<'a, O, K>,
+    row: usize,
+) -> bool
+    requires left { row < length (row_bytes left.now) }
+    requires right { row < length (row_bytes right.now) }
+    ensures { slice_get (row_by_row (related R.op) (byte_slots K.slot left.now) (byte_slots K.slot right.now)) row ≡ Some (Boolean result) }
+{
+    R::of_bytes::<K>(left.row(row), right.row(row))
+}
+
+/// Whether the relation holds of a row and a scalar.
+///
+/// # Requires
+/// There is the row, and the scalar is one of the kind.
+fn is_related<'a, R: ByteTest, O: Offset, K: ComparedBytes>(
+    rows: &LentRows<'a, O, K>,
+    scalar: &[u8],
+    row: usize,
+) -> bool
+    requires row { row < length (row_bytes rows.now) }
+    requires scalar { K.Allows scalar.now }
+    ensures { slice_get (map (λ s. related R.op s (K.slot scalar.now)) (byte_slots K.slot rows.now)) row ≡ Some (Boolean result) }
+{
+    R::of_bytes::<K>(rows.row(row), scalar)
+}
+
+/// Whether the relation holds of each row of both sides, null rows too, a bit each.
+///
+/// # Requires
+/// There are as many on both sides.
+///
+/// # Errors
+/// `OutOfMemory` where memory is refused.
+fn related_bits<R: ByteTest, O: Offset, K: ComparedBytes>(
+    alloc: Global,
+    left: &FlatArray<ByteRows<O, K>>,
+    right: &FlatArray<ByteRows<O, K>>,
+) -> Result<Bitmap, Error>
+    requires { length (rows_by (byte_slots K.slot) left.now) ≡ length (rows_by (byte_slots K.slot) right.now) }
+    ensures ok { IfOk result (λ bits. map Boolean bits ≡ row_by_row (related R.op) (byte_slots K.slot left.now.values) (byte_slots K.slot right.now.values)) }
+    ensures err { IsOkUnless result Error.OutOfMemory }
+{
+    // There are as many values as rows.
+    let _ = (left.len(), right.len());
+    let (left, right) = (LentRows::of(left), LentRows::of(right));
+    bits_by_rows(
+        alloc,
+        left.len(),
+        |row| are_related::<R, O, K>(&left, &right, row),
+    )
+}
+
+/// The same of each row and a scalar.
+///
+/// # Requires
+/// The scalar is a row of the kind.
+///
+/// # Errors
+/// `OutOfMemory` where memory is refused.
+fn related_scalar_bits<R: ByteTest, O: Offset, K: ComparedBytes>(
+    alloc: Global,
+    rows: &FlatArray<ByteRows<O, K>>,
+    scalar: &[u8],
+) -> Result<Bitmap, Error>
+    requires { K.Allows scalar.now }
+    ensures ok { IfOk result (λ bits. map Boolean bits ≡ map (λ s. related R.op s (K.slot scalar.now)) (byte_slots K.slot rows.now.values)) }
+    ensures err { IsOkUnless result Error.OutOfMemory }
+{
+    let rows = LentRows::of(rows);
+    bits_by_rows(
+        alloc,
+        rows.len(),
+        |row| is_related::<R, O, K>(&rows, scalar, row),
+    )
+}
+
+/// Whether a relation holds of each row of both sides, and null where one of the two is.
+///
+/// # Requires
+/// Both have as many rows.
+///
+/// # Errors
+/// `OutOfMemory` where memory is refused.
+pub(super) fn relate_by<R: ByteTest, O: Offset, K: ComparedBytes>(
+    alloc: Global,
+    lhs: &FlatArray<ByteRows<O, K>>,
+    rhs: &FlatArray<ByteRows<O, K>>,
+) -> Result<BooleanArray, Error>
+    requires { length (rows_by (byte_slots K.slot) lhs.now) ≡ length (rows_by (byte_slots K.slot) rhs.now) }
+    ensures array_type { IfOk result (λ array. array.arrow_type ≡ plain boolean) }
+    ensures rows { IfOk result (λ array. boolean_rows array ≡ row_by_row (related R.op) (rows_by (byte_slots K.slot) lhs.now) (rows_by (byte_slots K.slot) rhs.now)) }
+    ensures err { IsOkUnless result Error.OutOfMemory }
+{
+    let bits = related_bits::<R, O, K>(alloc, lhs, rhs)?;
+    null_where_either::<R, _>(alloc, bits, lhs, rhs)
+}
+
+/// Whether a relation holds of each row and a scalar, and null where the row is.
+///
+/// # Requires
+/// The scalar is a row of the kind.
+///
+/// # Errors
+/// `OutOfMemory` where memory is refused.
+pub(super) fn relate_scalar_by<R: ByteTest, O: Offset, K: ComparedBytes>(
+    alloc: Global,
+    lhs: &FlatArray<ByteRows<O, K>>,
+    rhs: &[u8],
+) -> Result<BooleanArray, Error>
+    requires { K.Allows rhs.now }
+    ensures array_type { IfOk result (λ array. array.arrow_type ≡ plain boolean) }
+    ensures rows { IfOk result (λ array. boolean_rows array ≡ map (λ s. related R.op s (K.slot rhs.now)) (rows_by (byte_slots K.slot) lhs.now)) }
+    ensures err { IsOkUnless result Error.OutOfMemory }
+{
+    let validity = shared(lhs.validity())?;
+    let bits = related_scalar_bits::<R, O, K>(alloc, lhs, rhs)?;
+    Ok(truths(bits, validity))
+}
+
+/// [`relate_by`] of a relation that is known when the program runs.
+///
+/// # Requires
+/// Both have as many rows.
+///
+/// # Errors
+/// `OutOfMemory` where memory is refused.
+pub(super) fn relate<O: Offset, K: ComparedBytes>(
+    alloc: Global,
+    by: Relation,
+    lhs: &FlatArray<ByteRows<O, K>>,
+    rhs: &FlatArray<ByteRows<O, K>>,
+) -> Result<BooleanArray, Error>
+    requires { length (rows_by (byte_slots K.slot) lhs.now) ≡ length (rows_by (byte_slots K.slot) rhs.now) }
+    ensures array_type { IfOk result (λ array. array.arrow_type ≡ plain boolean) }
+    ensures rows { IfOk result (λ array. boolean_rows array ≡ row_by_row (related (relation_of by)) (rows_by (byte_slots K.slot) lhs.now) (rows_by (byte_slots K.slot) rhs.now)) }
+    ensures err { IsOkUnless result Error.OutOfMemory }
+{
+    match by {
+        Relation::Eq => relate_by::<Equal, O, K>(alloc, lhs, rhs),
+        Relation::Neq => relate_by::<NotEqual, O, K>(alloc, lhs, rhs),
+        Relation::Lt => relate_by::<Less, O, K>(alloc, lhs, rhs),
+        Relation::LtEq => relate_by::<LessOrEqual, O, K>(alloc, lhs, rhs),
+        Relation::Gt => relate_by::<Greater, O, K>(alloc, lhs, rhs),
+        Relation::GtEq => relate_by::<GreaterOrEqual, O, K>(alloc, lhs, rhs),
+    }
+}
+
+/// [`relate_scalar_by`] of a relation that is known when the program runs.
+///
+/// # Requires
+/// The scalar is a row of the kind.
+///
+/// # Errors
+/// `OutOfMemory` where memory is refused.
+pub(super) fn relate_scalar<O: Offset, K: ComparedBytes>(
+    alloc: Global,
+    by: Relation,
+    lhs: &FlatArray<ByteRows<O, K>>,
+    rhs: &[u8],
+) -> Result<BooleanArray, Error>
+    requires { K.Allows rhs.now }
+    ensures array_type { IfOk result (λ array. array.arrow_type ≡ plain boolean) }
+    ensures rows { IfOk result (λ array. boolean_rows array ≡ map (λ s. related (relation_of by) s (K.slot rhs.now)) (rows_by (byte_slots K.slot) lhs.now)) }
+    ensures err { IsOkUnless result Error.OutOfMemory }
+{
+    match by {
+        Relation::Eq => relate_scalar_by::<Equal, O, K>(alloc, lhs, rhs),
+        Relation::Neq => relate_scalar_by::<NotEqual, O, K>(alloc, lhs, rhs),
+        Relation::Lt => relate_scalar_by::<Less, O, K>(alloc, lhs, rhs),
+        Relation::LtEq => relate_scalar_by::<LessOrEqual, O, K>(alloc, lhs, rhs),
+        Relation::Gt => relate_scalar_by::<Greater, O, K>(alloc, lhs, rhs),
+        Relation::GtEq => relate_scalar_by::<GreaterOrEqual, O, K>(alloc, lhs, rhs),
+    }
+}
+
+/// Whether the rows of both sides are the same: two nulls are, and a null and a value are not. No row is null.
+///
+/// # Requires
+/// Both have as many rows.
+///
+/// # Errors
+/// `OutOfMemory` where memory is refused.
+pub(super) fn eq_and_validity<O: Offset, K: ComparedBytes>(
+    alloc: Global,
+    lhs: &FlatArray<ByteRows<O, K>>,
+    rhs: &FlatArray<ByteRows<O, K>>,
+) -> Result<BooleanArray, Error>
+    requires { length (rows_by (byte_slots K.slot) lhs.now) ≡ length (rows_by (byte_slots K.slot) rhs.now) }
+    ensures array_type { IfOk result (λ array. array.arrow_type ≡ plain boolean) }
+    ensures rows { IfOk result (λ array. boolean_rows array ≡ row_by_row is_same (rows_by (byte_slots K.slot) lhs.now) (rows_by (byte_slots K.slot) rhs.now)) }
+    ensures err { IsOkUnless result Error.OutOfMemory }
+{
+    let bits = related_bits::<Equal, O, K>(alloc, lhs, rhs)?;
+    same_rows(alloc, bits, lhs, rhs)
+}
+
+/// Whether the rows of both sides differ: the rows of [`eq_and_validity`] turned.
+///
+/// # Requires
+/// Both have as many rows.
+///
+/// # Errors
+/// `OutOfMemory` where memory is refused.
+pub(super) fn neq_and_validity<O: Offset, K: ComparedBytes>(
+    alloc: Global,
+    lhs: &FlatArray<ByteRows<O, K>>,
+    rhs: &FlatArray<ByteRows<O, K>>,
+) -> Result<BooleanArray, Error>
+    requires { length (rows_by (byte_slots K.slot) lhs.now) ≡ length (rows_by (byte_slots K.slot) rhs.now) }
+    ensures array_type { IfOk result (λ array. array.arrow_type ≡ plain boolean) }
+    ensures rows { IfOk result (λ array. boolean_rows array ≡ row_by_row differs (rows_by (byte_slots K.slot) lhs.now) (rows_by (byte_slots K.slot) rhs.now)) }
+    ensures err { IsOkUnless result Error.OutOfMemory }
+{
+    let bits = related_bits::<Equal, O, K>(alloc, lhs, rhs)?;
+    differing_rows(alloc, bits, lhs, rhs)
+}
+
+/// Whether each row is the scalar: a null is not. No row is null.
+///
+/// # Requires
+/// The scalar is a row of the kind.
+///
+/// # Errors
+/// `OutOfMemory` where memory is refused.
+pub(super) fn eq_scalar_and_validity<O: Offset, K: ComparedBytes>(
+    alloc: Global,
+    lhs: &FlatArray<ByteRows<O, K>>,
+    rhs: &[u8],
+) -> Result<BooleanArray, Error>
+    requires { K.Allows rhs.now }
+    ensures array_type { IfOk result (λ array. array.arrow_type ≡ plain boolean) }
+    ensures rows { IfOk result (λ array. boolean_rows array ≡ map (λ s. is_same s (K.slot rhs.now)) (rows_by (byte_slots K.slot) lhs.now)) }
+    ensures err { IsOkUnless result Error.OutOfMemory }
+{
+    let bits = related_scalar_bits::<Equal, O, K>(alloc, lhs, rhs)?;
+    same_as_scalar(alloc, bits, lhs)
+}
+
+/// Whether each row differs from the scalar: a null does. No row is null.
+///
+/// # Requires
+/// The scalar is a row of the kind.
+///
+/// # Errors
+/// `OutOfMemory` where memory is refused.
+pub(super) fn neq_scalar_and_validity<O: Offset, K: ComparedBytes>(
+    alloc: Global,
+    lhs: &FlatArray<ByteRows<O, K>>,
+    rhs: &[u8],
+) -> Result<BooleanArray, Error>
+    requires { K.Allows rhs.now }
+    ensures array_type { IfOk result (λ array. array.arrow_type ≡ plain boolean) }
+    ensures rows { IfOk result (λ array. boolean_rows array ≡ map (λ s. differs s (K.slot rhs.now)) (rows_by (byte_slots K.slot) lhs.now)) }
+    ensures err { IsOkUnless result Error.OutOfMemory }
+{
+    let bits = related_scalar_bits::<Equal, O, K>(alloc, lhs, rhs)?;
+    differs_from_scalar(alloc, bits, lhs)
+}

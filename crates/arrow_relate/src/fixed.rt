@@ -1,0 +1,157 @@
+//! Relations that are known when the program is compiled, so that a loop over rows has no test of which one it is.
+
+ghost use Rattle.std.specs.Prelude.{◌≡◌, ◌<◌, ◌==◌, ℕ};
+ghost use Rattle.std.specs.Int.{bit_at};
+ghost use Rattle.arrow_types.specs.Relation.{Relation as RowRelation, related, holds};
+ghost use Rattle.arrow_types.specs.Relation as relation;
+ghost use Rattle.arrow_types.specs.Slot.{Boolean};
+
+use arrow_types::types::{NativeOrd, NativeType};
+use std::cmp::Ordering;
+
+/// One of the six relations, by the order of two values and by the words of two bitmaps.
+pub(crate) trait FixedRelation {
+    // the relation as clauses see it
+    ghost op: { RowRelation };
+
+    /// Whether it holds of two values that compare so.
+    fn holds(order: Ordering) -> bool
+        ensures { result ≡ holds op order };
+
+    /// Whether it holds of each bit of a word and the other's, where false comes before true.
+    fn of_words(left: u64, right: u64) -> u64
+        ensures { (k : ℕ) → k < 64 → Boolean (bit_at result k == 1) ≡ related op (Boolean (bit_at left k == 1)) (Boolean (bit_at right k == 1)) };
+}
+
+/// A relation of values of a native type.
+pub(crate) trait Test<T: NativeType>: FixedRelation {
+    /// Whether it holds of two values.
+    fn of(left: T, right: T) -> bool
+        ensures { Boolean result ≡ related Self.op (T.slot left) (T.slot right) };
+}
+
+/// Both are equal.
+pub(crate) struct Equal;
+
+/// They are not.
+pub(crate) struct NotEqual;
+
+/// The left one comes before the right one.
+pub(crate) struct Less;
+
+/// The left one does not come after the right one.
+pub(crate) struct LessOrEqual;
+
+/// The left one comes after the right one.
+pub(crate) struct Greater;
+
+/// The left one does not come before the right one.
+pub(crate) struct GreaterOrEqual;
+
+impl FixedRelation for Equal {
+    ghost op = { relation.eq };
+
+    fn holds(order: Ordering) -> bool {
+        order == Ordering::Equal
+    }
+
+    fn of_words(left: u64, right: u64) -> u64 {
+        !(left ^ right)
+    }
+}
+
+impl FixedRelation for NotEqual {
+    ghost op = { relation.neq };
+
+    fn holds(order: Ordering) -> bool {
+        order != Ordering::Equal
+    }
+
+    fn of_words(left: u64, right: u64) -> u64 {
+        left ^ right
+    }
+}
+
+impl FixedRelation for Less {
+    ghost op = { relation.lt };
+
+    fn holds(order: Ordering) -> bool {
+        order == Ordering::Less
+    }
+
+    fn of_words(left: u64, right: u64) -> u64 {
+        !left & right
+    }
+}
+
+impl FixedRelation for LessOrEqual {
+    ghost op = { relation.lt_eq };
+
+    fn holds(order: Ordering) -> bool {
+        order != Ordering::Greater
+    }
+
+    fn of_words(left: u64, right: u64) -> u64 {
+        !left | right
+    }
+}
+
+impl FixedRelation for Greater {
+    ghost op = { relation.gt };
+
+    fn holds(order: Ordering) -> bool {
+        order == Ordering::Greater
+    }
+
+    fn of_words(left: u64, right: u64) -> u64 {
+        left & !right
+    }
+}
+
+impl FixedRelation for GreaterOrEqual {
+    ghost op = { relation.gt_eq };
+
+    fn holds(order: Ordering) -> bool {
+        order != Ordering::Less
+    }
+
+    fn of_words(left: u64, right: u64) -> u64 {
+        left | !right
+    }
+}
+
+impl<T: NativeType> Test<T> for Equal {
+    fn of(left: T, right: T) -> bool {
+        left == right
+    }
+}
+
+impl<T: NativeType> Test<T> for NotEqual {
+    fn of(left: T, right: T) -> bool {
+        left != right
+    }
+}
+
+impl<T: NativeOrd> Test<T> for Less {
+    fn of(left: T, right: T) -> bool {
+        left < right
+    }
+}
+
+impl<T: NativeOrd> Test<T> for LessOrEqual {
+    fn of(left: T, right: T) -> bool {
+        left <= right
+    }
+}
+
+impl<T: NativeOrd> Test<T> for Greater {
+    fn of(left: T, right: T) -> bool {
+        left > right
+    }
+}
+
+impl<T: NativeOrd> Test<T> for GreaterOrEqual {
+    fn of(left: T, right: T) -> bool {
+        left >= right
+    }
+}

@@ -1,0 +1,9 @@
+//! Relations of the rows of arrays without children: a contract says the rows of what a kernel answers as an expression of
+//! the rows of its arguments, whatever lies beneath nulls.
+#![tactic(auto)]
+
+pub mod comparison;
+mod fixed;
+mod nulls;
+pub mod relation;
+mod words;
