@@ -1,0 +1,5 @@
+pub mod Can
+pub mod Compared
+pub mod Examples
+pub mod Filled
+pub mod Kinds

@@ -1,0 +1,172 @@
+//! Rows of two arrays of logically one type.
+
+ghost use Rattle.std.specs.Prelude.{◌≡◌, length, map, IfOk, IsOkUnless};
+ghost use Rattle.arrow_types.specs.declared.error.Error.{Error};
+ghost use Rattle.arrow_types.specs.ArrowType.{boolean, logical, plain};
+ghost use Rattle.arrow_types.specs.Physical.{physical_type_of};
+ghost use Rattle.arrow_types.specs.Relation.{related};
+ghost use Rattle.arrow_flat.specs.AnyPrimitive.{any_rows, element_of};
+ghost use Rattle.arrow_flat.specs.Parts.{boolean_rows, rows_by};
+ghost use Rattle.arrow_arrays.specs.Any.{any_array_rows, any_array_type, primitive_kind};
+ghost use Rattle.arrow_logic.specs.RowByRow.{row_by_row};
+ghost use Rattle.arrow_relate.specs.Related.{relation_of};
+ghost use Rattle.arrow_relate.specs.Same.{is_same};
+ghost use Rattle.arrow_compare.specs.Compared.{HasEquality, HasRelation};
+ghost use Rattle.arrow_compare.specs.Kinds.{IsEquality, KindHasRelation};
+
+use crate::kinds::have_one_kind;
+use arrow_arrays::array::AnyArray;
+use arrow_flat::array::{AnyPrimitive, BooleanArray, PrimitiveArray};
+use arrow_relate::comparison::{binary, boolean, primitive, utf8};
+use arrow_relate::relation::Relation;
+use arrow_types::error::Error;
+use arrow_types::types::NativeType;
+use std::alloc::Global;
+
+/// Whether each row is so related to that of the right side, and null where one of the two is.
+pub(super) fn relate(
+    alloc: Global,
+    by: Relation,
+    lhs: &AnyArray,
+    rhs: &AnyArray,
+) -> Result<BooleanArray, Error>
+    requires one_type { logical (any_array_type lhs.now) ≡ logical (any_array_type rhs.now) }
+    requires one_length { length (any_array_rows lhs.now) ≡ length (any_array_rows rhs.now) }
+    requires has_relation { HasRelation (relation_of by) (physical_type_of (any_array_type lhs.now)) }
+    ensures array_type { IfOk result (λ array. array.arrow_type ≡ plain boolean) }
+    ensures rows { IfOk result (λ array. boolean_rows array ≡ row_by_row (related (relation_of by)) (any_array_rows lhs.now) (any_array_rows rhs.now)) }
+    ensures err { IsOkUnless result Error.OutOfMemory }
+{
+    have_one_kind(by, lhs, rhs);
+    match (lhs, rhs) {
+        (AnyArray::Boolean(left), AnyArray::Boolean(right)) => {
+            boolean::relate(alloc, by, left, right)
+        }
+        (AnyArray::Primitive(left), AnyArray::Primitive(right)) => {
+            relate_primitive(alloc, by, left, right)
+        }
+        (AnyArray::Utf8(left), AnyArray::Utf8(right)) => utf8::relate(alloc, by, left, right),
+        (AnyArray::LargeUtf8(left), AnyArray::LargeUtf8(right)) => {
+            utf8::relate(alloc, by, left, right)
+        }
+        (AnyArray::Binary(left), AnyArray::Binary(right)) => {
+            binary::relate(alloc, by, left, right)
+        }
+        (AnyArray::LargeBinary(left), AnyArray::LargeBinary(right)) => {
+            binary::relate(alloc, by, left, right)
+        }
+        _ => unreachable!(),
+    }
+}
+
+/// Whether the rows of both sides are the same: two nulls are, and a null and a value are not. No row is null.
+pub(super) fn same(alloc: Global, lhs: &AnyArray, rhs: &AnyArray) -> Result<BooleanArray, Error>
+    requires one_type { logical (any_array_type lhs.now) ≡ logical (any_array_type rhs.now) }
+    requires one_length { length (any_array_rows lhs.now) ≡ length (any_array_rows rhs.now) }
+    requires has_equality { HasEquality (physical_type_of (any_array_type lhs.now)) }
+    ensures array_type { IfOk result (λ array. array.arrow_type ≡ plain boolean) }
+    ensures rows { IfOk result (λ array. boolean_rows array ≡ row_by_row is_same (any_array_rows lhs.now) (any_array_rows rhs.now)) }
+    ensures err { IsOkUnless result Error.OutOfMemory }
+{
+    have_one_kind(Relation::Eq, lhs, rhs);
+    match (lhs, rhs) {
+        (AnyArray::Boolean(left), AnyArray::Boolean(right)) => {
+            boolean::eq_and_validity(alloc, left, right)
+        }
+        (AnyArray::Primitive(left), AnyArray::Primitive(right)) => {
+            same_primitive(alloc, left, right)
+        }
+        (AnyArray::Utf8(left), AnyArray::Utf8(right)) => utf8::eq_and_validity(alloc, left, right),
+        (AnyArray::LargeUtf8(left), AnyArray::LargeUtf8(right)) => {
+            utf8::eq_and_validity(alloc, left, right)
+        }
+        (AnyArray::Binary(left), AnyArray::Binary(right)) => {
+            binary::eq_and_validity(alloc, left, right)
+        }
+        (AnyArray::LargeBinary(left), AnyArray::LargeBinary(right)) => {
+            binary::eq_and_validity(alloc, left, right)
+        }
+        _ => unreachable!(),
+    }
+}
+
+/// What an expression says of two arrays of one element type: one of numbers, and one of intervals that stand in no order.
+macro_rules! of_both {
+    ($both:expr, ($left:ident, $right:ident) => $numbers:expr, $intervals:expr) => {
+        match $both {
+            (AnyPrimitive::Int8($left), AnyPrimitive::Int8($right)) => $numbers,
+            (AnyPrimitive::Int16($left), AnyPrimitive::Int16($right)) => $numbers,
+            (AnyPrimitive::Int32($left), AnyPrimitive::Int32($right)) => $numbers,
+            (AnyPrimitive::Int64($left), AnyPrimitive::Int64($right)) => $numbers,
+            (AnyPrimitive::Int128($left), AnyPrimitive::Int128($right)) => $numbers,
+            (AnyPrimitive::Int256($left), AnyPrimitive::Int256($right)) => $numbers,
+            (AnyPrimitive::UInt8($left), AnyPrimitive::UInt8($right)) => $numbers,
+            (AnyPrimitive::UInt16($left), AnyPrimitive::UInt16($right)) => $numbers,
+            (AnyPrimitive::UInt32($left), AnyPrimitive::UInt32($right)) => $numbers,
+            (AnyPrimitive::UInt64($left), AnyPrimitive::UInt64($right)) => $numbers,
+            (AnyPrimitive::DaysMs($left), AnyPrimitive::DaysMs($right)) => $intervals,
+            (AnyPrimitive::MonthDayNano($left), AnyPrimitive::MonthDayNano($right)) => $intervals,
+            _ => unreachable!(),
+        }
+    };
+}
+
+/// [`relate`] of two arrays of one element type.
+fn relate_primitive(
+    alloc: Global,
+    by: Relation,
+    lhs: &AnyPrimitive,
+    rhs: &AnyPrimitive,
+) -> Result<BooleanArray, Error>
+    requires one_element { element_of lhs.now ≡ element_of rhs.now }
+    requires one_length { length (any_rows lhs.now) ≡ length (any_rows rhs.now) }
+    requires has_relation { KindHasRelation (relation_of by) (primitive_kind (element_of lhs.now)) }
+    ensures array_type { IfOk result (λ array. array.arrow_type ≡ plain boolean) }
+    ensures rows { IfOk result (λ array. boolean_rows array ≡ row_by_row (related (relation_of by)) (any_rows lhs.now) (any_rows rhs.now)) }
+    ensures err { IsOkUnless result Error.OutOfMemory }
+{
+    of_both!(
+        (lhs, rhs),
+        (left, right) => primitive::relate(alloc, by, left, right),
+        relate_intervals(alloc, by, left, right)
+    )
+}
+
+/// [`relate`] of two arrays of intervals that stand in no order.
+fn relate_intervals<T: NativeType>(
+    alloc: Global,
+    by: Relation,
+    lhs: &PrimitiveArray<T>,
+    rhs: &PrimitiveArray<T>,
+) -> Result<BooleanArray, Error>
+    requires one_length { length (rows_by (map T.slot) lhs.now) ≡ length (rows_by (map T.slot) rhs.now) }
+    requires equality { IsEquality (relation_of by) }
+    ensures array_type { IfOk result (λ array. array.arrow_type ≡ plain boolean) }
+    ensures rows { IfOk result (λ array. boolean_rows array ≡ row_by_row (related (relation_of by)) (rows_by (map T.slot) lhs.now) (rows_by (map T.slot) rhs.now)) }
+    ensures err { IsOkUnless result Error.OutOfMemory }
+{
+    match by {
+        Relation::Eq => primitive::eq(alloc, lhs, rhs),
+        Relation::Neq => primitive::neq(alloc, lhs, rhs),
+        _ => unreachable!(),
+    }
+}
+
+/// [`same`] of two arrays of one element type.
+fn same_primitive(
+    alloc: Global,
+    lhs: &AnyPrimitive,
+    rhs: &AnyPrimitive,
+) -> Result<BooleanArray, Error>
+    requires one_element { element_of lhs.now ≡ element_of rhs.now }
+    requires one_length { length (any_rows lhs.now) ≡ length (any_rows rhs.now) }
+    ensures array_type { IfOk result (λ array. array.arrow_type ≡ plain boolean) }
+    ensures rows { IfOk result (λ array. boolean_rows array ≡ row_by_row is_same (any_rows lhs.now) (any_rows rhs.now)) }
+    ensures err { IsOkUnless result Error.OutOfMemory }
+{
+    of_both!(
+        (lhs, rhs),
+        (left, right) => primitive::eq_and_validity(alloc, left, right),
+        primitive::eq_and_validity(alloc, left, right)
+    )
+}

@@ -1,0 +1,152 @@
+//! Relations of every element type, over words of bits and at unequal offsets, beside a plain loop over letters. A digit
+//! is one of three values that rise, and a small letter from `a` on a null over one of them.
+
+use crate::asked::{ALL, Asked, EQUALITY, relate};
+use arrow_arrays::array::AnyArray;
+use arrow_arrays_fixture::arrays::boxed;
+use arrow_flat::array::{AnyElement, BooleanArray, PrimitiveArray};
+use arrow_flat_fixture::arrays::truths;
+use arrow_memory::bitmap::MutableBitmap;
+use arrow_memory::buffer::Buffer;
+use arrow_types::error::Error;
+use arrow_types::types::{days_ms, i256, months_days_ns};
+use arrow_types_fixture::read::read;
+use arrow_types_fixture::{check, made};
+use std::alloc::Global;
+use std::process::Abort;
+
+/// Letters of the left rows, and of the right ones, over and over.
+const LEFT: &[u8] = b"012a0b1";
+
+const RIGHT: &[u8] = b"0120a2b11";
+
+/// How many rows are tried, about the words of bits.
+const LENGTHS: [usize; 9] = [0, 1, 7, 8, 9, 63, 64, 65, 130];
+
+/// So many rows of these letters over and over, in an array of a type by its words. Rows stand before them that are sliced
+/// off.
+fn rows_of<T: AnyElement>(
+    alloc: Global,
+    words: &str,
+    values: &[T; 3],
+    letters: &[u8],
+    len: usize,
+    before: usize,
+) -> Result<Box<AnyArray>, Error> {
+    let mut stored = Vec::new(alloc);
+    let mut validity = MutableBitmap::new(alloc);
+    for letter in b"2"
+        .iter()
+        .cycle()
+        .take(before)
+        .chain(letters.iter().cycle().take(len))
+    {
+        stored.push(match letter {
+            b'0' | b'a' => values[0],
+            b'1' | b'b' => values[1],
+            _ => values[2],
+        })?;
+        validity.push(letter.is_ascii_digit())?;
+    }
+    let (stored, validity) = (Buffer::from_vec(alloc, stored)?, validity.into_bitmap()?);
+    let array = PrimitiveArray::try_new(read(alloc, words)?, stored, Some(validity))?;
+    let mut array = boxed(alloc, AnyArray::Primitive(T::to_any(&array)?))?;
+    if array.len() < before {
+        return Err(Error::Failed);
+    }
+    let len = array.len() - before;
+    array.slice(before, len);
+    Ok(array)
+}
+
+/// What a relation answers of two letters: whether it holds, and `None` for a null.
+fn answer_of(asked: Asked, left: u8, right: u8) -> Option<bool> {
+    let (is_valid, other_is_valid) = (left.is_ascii_digit(), right.is_ascii_digit());
+    let is_same = (!is_valid && !other_is_valid) || left == right;
+    match asked {
+        Asked::EqAndValidity => Some(is_same),
+        Asked::NeqAndValidity => Some(!is_same),
+        _ if !is_valid || !other_is_valid => None,
+        Asked::Eq => Some(left == right),
+        Asked::Neq => Some(left != right),
+        Asked::Lt => Some(left < right),
+        Asked::LtEq => Some(left <= right),
+        Asked::Gt => Some(left > right),
+        Asked::GtEq => Some(left >= right),
+    }
+}
+
+/// The answers by letters.
+fn answers(alloc: Global, asked: Asked, len: usize) -> Result<BooleanArray, Error> {
+    let mut letters = Vec::new(alloc);
+    for (left, right) in LEFT.iter().cycle().zip(RIGHT.iter().cycle()).take(len) {
+        letters.push(match answer_of(asked, *left, *right) {
+            Some(true) => b't',
+            Some(false) => b'f',
+            None => b'_',
+        })?;
+    }
+    truths(alloc, &letters)
+}
+
+fn check_element<T: AnyElement>(
+    rt: &(impl Abort + Alloc<A = Global>),
+    words: &str,
+    values: &[T; 3],
+    relations: &[Asked],
+) {
+    for len in &LENGTHS {
+        let lhs = made!(rt; rows_of(rt.alloc(), words, values, LEFT, *len, 3));
+        let rhs = made!(rt; rows_of(rt.alloc(), words, values, RIGHT, *len, 70));
+        for asked in relations {
+            let made = made!(rt; relate(rt.alloc(), *asked, &lhs, &rhs));
+            let want = made!(rt; answers(rt.alloc(), *asked, *len));
+            check!(rt; made == want, words);
+        }
+    }
+}
+
+fn check_integers(rt: &(impl Abort + Alloc<A = Global>)) {
+    check_element(rt, "i8", &[i8::MIN, 0, i8::MAX], &ALL);
+    check_element(rt, "i16", &[i16::MIN, -1, i16::MAX], &ALL);
+    check_element(rt, "year_month", &[i32::MIN, 0, i32::MAX], &ALL);
+    check_element(rt, "timestamp:s:UTC", &[i64::MIN, -1, i64::MAX], &ALL);
+    check_element(rt, "u8", &[0, 1, u8::MAX], &ALL);
+    check_element(rt, "u16", &[0, 1, u16::MAX], &ALL);
+    check_element(rt, "u32 extension:a", &[0, 1, u32::MAX], &ALL);
+    check_element(rt, "u64", &[0, 1, u64::MAX], &ALL);
+}
+
+fn check_wide(rt: &(impl Abort + Alloc<A = Global>)) {
+    let across = [
+        i256::new(-1, u128::MAX),
+        i256::new(0, u128::MAX),
+        i256::new(1, 0),
+    ];
+    let ends = [
+        i256::new(i128::MIN, 0),
+        i256::new(0, 0),
+        i256::new(i128::MAX, u128::MAX),
+    ];
+    let days = [
+        days_ms::new(i32::MIN, 0),
+        days_ms::new(0, i32::MIN),
+        days_ms::new(0, i32::MAX),
+    ];
+    let months = [
+        months_days_ns::new(1, -2, i64::MIN),
+        months_days_ns::new(1, 2, i64::MIN),
+        months_days_ns::new(1, -2, i64::MAX),
+    ];
+    check_element(rt, "decimal:38:2", &[i128::MIN, -1, i128::MAX], &ALL);
+    check_element(rt, "decimal256:76:2", &across, &ALL);
+    check_element(rt, "decimal256:76:2", &ends, &ALL);
+    check_element(rt, "day_time", &days, &EQUALITY);
+    check_element(rt, "month_day_nano", &months, &EQUALITY);
+}
+
+#[test]
+fn elements(rt: HostRuntime) {
+    check_integers(&rt);
+    check_wide(&rt);
+}

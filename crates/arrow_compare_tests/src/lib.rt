@@ -1,0 +1,21 @@
+//! Tests of `arrow_relate` and `arrow_compare`, by their public calls alone.
+#![tactic(auto)]
+
+#[cfg(test)]
+mod asked;
+#[cfg(test)]
+mod can;
+#[cfg(test)]
+mod check;
+#[cfg(test)]
+mod dictionaries;
+#[cfg(test)]
+mod elements;
+#[cfg(test)]
+mod finish;
+#[cfg(test)]
+mod flat;
+#[cfg(test)]
+mod numbers;
+#[cfg(test)]
+mod words;

@@ -1,0 +1,197 @@
+//! Relations of texts and bytes by words: one that begins with `_` is null, and the rest of it lies beneath.
+
+use crate::asked::{Asked, relate, relate_scalar};
+use crate::flat::{relate_bytes, relate_row, relate_text, relate_texts};
+use arrow_arrays::array::AnyArray;
+use arrow_arrays_fixture::arrays::boxed;
+use arrow_flat::array::{BinaryArray, BooleanArray, ByteKind, ByteRows, FlatArray, Utf8Array};
+use arrow_flat::scalar::{AnyScalar, BinaryScalar, Utf8Scalar};
+use arrow_flat_fixture::arrays::truths;
+use arrow_memory::bitmap::MutableBitmap;
+use arrow_memory::buffer::Buffer;
+use arrow_memory::offset::Offsets;
+use arrow_types::error::Error;
+use arrow_types::types::Offset;
+use arrow_types_fixture::{check, made};
+use std::alloc::Global;
+use std::process::Abort;
+
+/// Rows by words that are parted by commas. Those before a bar are sliced off.
+fn rows_of<O: Offset, K: ByteKind>(
+    alloc: Global,
+    words: &str,
+) -> Result<FlatArray<ByteRows<O, K>>, Error> {
+    let (mut offsets, mut bytes) = (Offsets::with_capacity(alloc, 0)?, Vec::new(alloc));
+    let mut validity = MutableBitmap::new(alloc);
+    let mut before = 0;
+    for word in words.split(',') {
+        if word == "|" {
+            before = validity.len();
+            continue;
+        }
+        let stored = word.strip_prefix('_').unwrap_or(word);
+        offsets.try_push_usize(stored.len())?;
+        bytes.extend_from_slice(stored.as_bytes())?;
+        validity.push(stored.len() == word.len())?;
+    }
+    let (offsets, bytes) = (offsets.into_buffer()?, Buffer::from_vec(alloc, bytes)?);
+    let (data_type, validity) = (K::data_type(O::IS_LARGE), Some(validity.into_bitmap()?));
+    let mut rows = FlatArray::<ByteRows<O, K>>::try_new(data_type, offsets, bytes, validity)?;
+    if rows.len() < before {
+        return Err(Error::Failed);
+    }
+    let len = rows.len() - before;
+    rows.slice(before, len);
+    Ok(rows)
+}
+
+const ARROWS: &str = "arrow,arrow,arrow,arrow";
+
+const NAMES: &str = "arrow,parquet,datafusion,flight";
+
+const SORTED: &str = "arrow,datafusion,flight,parquet";
+
+/// A relation, rows of both sides, and the answer.
+const PAIRS: [(Asked, &str, &str, &str); 11] = [
+    (Asked::Eq, ARROWS, NAMES, "tfff"),
+    (Asked::Neq, ARROWS, NAMES, "fttt"),
+    (Asked::GtEq, SORTED, "flight,flight,flight,flight", "fftt"),
+    (Asked::Lt, "z,é,€,𝄞,a,", "é,z,𝄞,€,aé,a", "tftftt"),
+    (Asked::LtEq, "z,é,€,𝄞,a,,", "é,z,𝄞,€,aé,a,", "tftfttt"),
+    (Asked::Gt, "z,é,€,𝄞,a,,", "é,z,𝄞,€,aé,a,", "ftftfff"),
+    (Asked::GtEq, "z,é,€,𝄞,a,,", "é,z,𝄞,€,aé,a,", "ftftfft"),
+    (Asked::Eq, "a,b,|,_one,two,_,one", "_one,_two,_,one", "___t"),
+    (
+        Asked::EqAndValidity,
+        "_one,two,_,one",
+        "a,|,_two,_two,_,one",
+        "tftt",
+    ),
+    (
+        Asked::NeqAndValidity,
+        "_one,two,_,one",
+        "a,|,_two,_two,_,one",
+        "ftff",
+    ),
+    (
+        Asked::Lt,
+        "a,|,arrow,_,flight",
+        "b,c,|,arrows,a,flight",
+        "t_f",
+    ),
+];
+
+/// A relation, rows, a text, and the answer.
+const VALUES: [(Asked, &str, &str, &str); 9] = [
+    (Asked::Eq, NAMES, "arrow", "tfff"),
+    (Asked::Neq, NAMES, "arrow", "fttt"),
+    (Asked::GtEq, SORTED, "flight", "fftt"),
+    (Asked::Neq, "compute,_,compare", "compare", "t_f"),
+    (Asked::Lt, "z,é,€,_a,", "é", "tff_t"),
+    (Asked::LtEq, "z,é,€,_a,", "é", "ttf_t"),
+    (Asked::Gt, "z,é,€,_a,", "é", "fft_f"),
+    (Asked::EqAndValidity, "a,_a,b", "a", "tff"),
+    (Asked::NeqAndValidity, "a,_a,b", "a", "ftt"),
+];
+
+fn check_pairs<O: Offset>(rt: &(impl Abort + Alloc<A = Global>)) {
+    for (asked, left, right, want) in &PAIRS {
+        let want = made!(rt; truths(rt.alloc(), want.as_bytes()));
+        let lhs: Utf8Array<O> = made!(rt; rows_of(rt.alloc(), left));
+        let rhs: Utf8Array<O> = made!(rt; rows_of(rt.alloc(), right));
+        let made = made!(rt; relate_texts(rt.alloc(), *asked, &lhs, &rhs));
+        check!(rt; made == want, *left);
+        let lhs: BinaryArray<O> = made!(rt; rows_of(rt.alloc(), left));
+        let rhs: BinaryArray<O> = made!(rt; rows_of(rt.alloc(), right));
+        let made = made!(rt; relate_bytes(rt.alloc(), *asked, &lhs, &rhs));
+        check!(rt; made == want, *left);
+    }
+}
+
+fn check_values<O: Offset>(rt: &(impl Abort + Alloc<A = Global>)) {
+    for (asked, left, text, want) in &VALUES {
+        let want = made!(rt; truths(rt.alloc(), want.as_bytes()));
+        let lhs: Utf8Array<O> = made!(rt; rows_of(rt.alloc(), left));
+        let made = made!(rt; relate_text(rt.alloc(), *asked, &lhs, text));
+        check!(rt; made == want, *left);
+        let lhs: BinaryArray<O> = made!(rt; rows_of(rt.alloc(), left));
+        let made = made!(rt; relate_row(rt.alloc(), *asked, &lhs, text.as_bytes()));
+        check!(rt; made == want, *left);
+    }
+}
+
+/// The forms of texts and of bytes.
+#[derive(Clone, Copy, Debug, PartialEq, Eq)]
+enum Form {
+    Utf8,
+    LargeUtf8,
+    Binary,
+    LargeBinary,
+}
+
+const FORMS: [Form; 4] = [Form::Utf8, Form::LargeUtf8, Form::Binary, Form::LargeBinary];
+
+/// An array of any type, of such a form.
+fn array_of(alloc: Global, form: Form, words: &str) -> Result<Box<AnyArray>, Error> {
+    boxed(alloc, any_of(alloc, form, words)?)
+}
+
+fn any_of(alloc: Global, form: Form, words: &str) -> Result<AnyArray, Error> {
+    match form {
+        Form::Utf8 => Ok(AnyArray::Utf8(rows_of(alloc, words)?)),
+        Form::LargeUtf8 => Ok(AnyArray::LargeUtf8(rows_of(alloc, words)?)),
+        Form::Binary => Ok(AnyArray::Binary(rows_of(alloc, words)?)),
+        Form::LargeBinary => Ok(AnyArray::LargeBinary(rows_of(alloc, words)?)),
+    }
+}
+
+/// A scalar of such a form, or a null where there is no text.
+fn scalar_of(alloc: Global, form: Form, text: &str) -> Result<AnyScalar, Error> {
+    let text = String::from_str(alloc, text)?;
+    match form {
+        Form::Utf8 => Ok(AnyScalar::Utf8(Utf8Scalar::new(Some(text)))),
+        Form::LargeUtf8 => Ok(AnyScalar::LargeUtf8(Utf8Scalar::new(Some(text)))),
+        Form::Binary => Ok(AnyScalar::Binary(BinaryScalar::new(Some(text.into_bytes())))),
+        Form::LargeBinary => {
+            Ok(AnyScalar::LargeBinary(BinaryScalar::new(Some(text.into_bytes()))))
+        }
+    }
+}
+
+fn relate_any_text(
+    alloc: Global,
+    asked: Asked,
+    lhs: &AnyArray,
+    form: Form,
+    text: &str,
+) -> Result<BooleanArray, Error> {
+    let scalar = scalar_of(alloc, form, text)?;
+    relate_scalar(alloc, asked, lhs, &scalar)
+}
+
+fn check_form(rt: &(impl Abort + Alloc<A = Global>), form: Form) {
+    for (asked, left, right, want) in &PAIRS {
+        let lhs = made!(rt; array_of(rt.alloc(), form, left));
+        let rhs = made!(rt; array_of(rt.alloc(), form, right));
+        let want = made!(rt; truths(rt.alloc(), want.as_bytes()));
+        let made = made!(rt; relate(rt.alloc(), *asked, &lhs, &rhs));
+        check!(rt; made == want, *left);
+    }
+    for (asked, left, text, want) in &VALUES {
+        let lhs = made!(rt; array_of(rt.alloc(), form, left));
+        let want = made!(rt; truths(rt.alloc(), want.as_bytes()));
+        let made = made!(rt; relate_any_text(rt.alloc(), *asked, &lhs, form, text));
+        check!(rt; made == want, *left);
+    }
+}
+
+#[test]
+fn texts_and_bytes(rt: HostRuntime) {
+    check_pairs::<i32>(&rt);
+    check_pairs::<i64>(&rt);
+    check_values::<i32>(&rt);
+    check_values::<i64>(&rt);
+    for form in &FORMS {
+        check_form(&rt, *form);
+    }
+}
