@@ -1,6 +1,7 @@
 //! The commands, and the kernel that each calls.
 
 mod logic;
+mod pairs;
 mod selection;
 mod text;
 
@@ -10,6 +11,7 @@ use arrow_arrays::array::AnyArray;
 use arrow_flat::array::BooleanArray;
 use arrow_types::error::Error;
 use logic::{Connective, Quantifier};
+use pairs::Relation;
 use std::alloc::{AllocError, Global};
 
 /// A command that a line may name.
@@ -24,7 +26,9 @@ pub(crate) enum Command {
     IsNull,
     Length,
     Not,
+    Nullif,
     Quantify(Quantifier),
+    Relate(Relation),
     Shift,
     Substring,
     Take,
@@ -38,14 +42,23 @@ impl Command {
             "any" => Some(Command::Quantify(Quantifier::Any)),
             "build_filter" => Some(Command::BuildFilter),
             "concatenate" => Some(Command::Concatenate),
+            "eq" => Some(Command::Relate(Relation::Eq)),
+            "eq_and_validity" => Some(Command::Relate(Relation::EqAndValidity)),
             "filter" => Some(Command::Filter),
+            "gt" => Some(Command::Relate(Relation::Gt)),
+            "gt_eq" => Some(Command::Relate(Relation::GtEq)),
             "if_then_else" => Some(Command::IfThenElse),
             "is_not_null" => Some(Command::IsNotNull),
             "is_null" => Some(Command::IsNull),
             "kleene_and" => Some(Command::Connect(Connective::KleeneAnd)),
             "kleene_or" => Some(Command::Connect(Connective::KleeneOr)),
             "length" => Some(Command::Length),
+            "lt" => Some(Command::Relate(Relation::Lt)),
+            "lt_eq" => Some(Command::Relate(Relation::LtEq)),
+            "neq" => Some(Command::Relate(Relation::Neq)),
+            "neq_and_validity" => Some(Command::Relate(Relation::NeqAndValidity)),
             "not" => Some(Command::Not),
+            "nullif" => Some(Command::Nullif),
             "or" => Some(Command::Connect(Connective::Or)),
             "shift" => Some(Command::Shift),
             "substring" => Some(Command::Substring),
@@ -70,7 +83,9 @@ impl Command {
             Command::IsNull => Ok(logic::is_null(alloc, arguments)),
             Command::Length => Ok(text::length(alloc, arguments)),
             Command::Not => Ok(logic::not(alloc, arguments)),
+            Command::Nullif => Ok(pairs::nullif(alloc, arguments)),
             Command::Quantify(quantifier) => Ok(logic::quantify(quantifier, arguments)),
+            Command::Relate(relation) => Ok(pairs::relate(alloc, relation, arguments)),
             Command::Shift => Ok(selection::shift(alloc, arguments)),
             Command::Substring => Ok(text::substring(alloc, arguments)),
             Command::Take => Ok(selection::take(alloc, arguments)),

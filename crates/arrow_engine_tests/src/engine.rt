@@ -155,7 +155,7 @@ fn check_run(
 }
 
 /// Input by a name, whether a line of it is refused, and the output.
-const LINES: [(&str, &[u8], bool, &[u8]); 63] = [
+const LINES: [(&str, &[u8], bool, &[u8]); 69] = [
     ("nothing", b"", false, b""),
     (
         "filter",
@@ -312,6 +312,42 @@ const LINES: [(&str, &[u8], bool, &[u8]); 63] = [
         b"substring utf8[\"a b\"] -1\nsubstring utf8[\"h\xc3\xa9llo\",_] 1 2\nsubstring utf8[\"a\"] 0 18446744073709551615\nsubstring i32[1] 0\n",
         true,
         b"utf8[\"b\"]\nutf8[\"\xc3\xa9l\",_]\nutf8[\"a\"]\nerror SubstringType\n",
+    ),
+    (
+        "rows that equal others",
+        b"nullif i32[_,_,1,1,1] i32[_,1,_1,1,0]\nnullif i32[0] i32[_0]\nnullif i32[] i32[]\n",
+        false,
+        b"i32[_,_,1,_,1]\ni32[0]\ni32[]\n",
+    ),
+    (
+        "rows of other types and lengths, and other arguments",
+        b"nullif i32[1] i32[1,2]\nnullif i32[1] bool[t]\nnullif bool[t] bool[t]\nnullif utf8[\"a\"] utf8[\"a\"]\nnullif i32[1] 1\nnullif i32[1]\nnullif i32[1] i32[1,]\n",
+        true,
+        b"error Usage\nerror Usage\nerror Usage\nerror Usage\nerror Usage\nerror Usage\nerror Syntax\n",
+    ),
+    (
+        "whether rows are equal",
+        b"eq i32[_,_,1,1] i32[_,1,1,0]\neq_and_validity i32[_7,1,1] i32[_8,_1,1]\nneq utf8[\"a\",\"b\",_] utf8[\"a\",\"c\",\"d\"]\nneq_and_validity bool[_t,t,f] bool[_f,_t,t]\n",
+        false,
+        b"bool[_,_,t,f]\nbool[t,f,t]\nbool[f,t,_]\nbool[f,t,t]\n",
+    ),
+    (
+        "how rows are ordered",
+        b"lt i32[_,1,1,-2] i32[1,_,1,2]\nlt_eq bool[f,t,t] bool[t,t,f]\ngt utf8[\"b\",\"a\",\"\xc3\xa9\"] utf8[\"a\",\"ab\",\"z\"]\ngt_eq i32[] i32[]\n",
+        false,
+        b"bool[_,_,f,t]\nbool[t,t,f]\nbool[t,f,t]\nbool[]\n",
+    ),
+    (
+        "relations of other types and lengths",
+        b"eq i32[1] i32[1,2]\nlt i32[1] bool[t]\nneq utf8[\"a\"] i32[1]\neq_and_validity bool[t] bool[]\n",
+        true,
+        b"error Usage\nerror Usage\nerror Usage\nerror Usage\n",
+    ),
+    (
+        "other arguments of relations",
+        b"gt i32[1] 1\ngt_eq 1 i32[1]\nlt_eq i32[1]\nneq_and_validity i32[1] i32[1] i32[1]\neq i32[1] i32[1\nle i32[1] i32[1]\n",
+        true,
+        b"error Usage\nerror Usage\nerror Usage\nerror Usage\nerror Syntax\nerror Command\n",
     ),
     (
         "other arguments of logic",
