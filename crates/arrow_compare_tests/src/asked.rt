@@ -1,7 +1,10 @@
 //! The eight relations, of arrays and of arrays and scalars of any type.
 
-ghost use Rattle.std.specs.Prelude.{◌↔◌, IsTrue};
+ghost use Rattle.std.specs.Prelude.{◌≡◌, ◌↔◌, IsTrue};
+ghost use Rattle.arrow_types.specs.ArrowType.{logical};
 ghost use Rattle.arrow_types.specs.TypeOf.{type_of};
+ghost use Rattle.arrow_flat.specs.AnyScalar.{meaning_of};
+ghost use Rattle.arrow_arrays.specs.Any.{any_array_type};
 ghost use Rattle.arrow_compare.specs.Compared.{HasEquality, HasEqualityThrough, HasOrder, HasOrderThrough};
 
 use arrow_arrays::array::AnyArray;
@@ -88,6 +91,20 @@ fn has_order_through(data_type: &DataType) -> bool
     }
 }
 
+/// Whether two arrays are of one data type, extensions around each apart.
+fn are_of_one_type(lhs: &AnyArray, rhs: &AnyArray) -> bool
+    ensures { IsTrue result → logical (any_array_type lhs.now) ≡ logical (any_array_type rhs.now) }
+{
+    *lhs.data_type().to_logical_type() == *rhs.data_type().to_logical_type()
+}
+
+/// Whether an array and a scalar are.
+fn is_of_one_type(lhs: &AnyArray, rhs: &AnyScalar) -> bool
+    ensures { IsTrue result → logical (any_array_type lhs.now) ≡ logical (meaning_of rhs.now).0 }
+{
+    *lhs.data_type().to_logical_type() == *rhs.data_type().to_logical_type()
+}
+
 /// What a relation answers of two arrays; `Failed` where it can't be called.
 pub fn relate(
     alloc: Global,
@@ -95,11 +112,10 @@ pub fn relate(
     lhs: &AnyArray,
     rhs: &AnyArray,
 ) -> Result<BooleanArray, Error> {
-    let (left, right) = (lhs.data_type(), rhs.data_type());
-    if lhs.len() != rhs.len() || left.to_logical_type() != right.to_logical_type() {
+    if lhs.len() != rhs.len() || !are_of_one_type(lhs, rhs) {
         return Err(Error::Failed);
     }
-    let layout = left.to_physical_type();
+    let layout = lhs.data_type().to_physical_type();
     if !has_equality(layout) {
         return Err(Error::Failed);
     }
@@ -123,8 +139,8 @@ pub fn relate_scalar(
     lhs: &AnyArray,
     rhs: &AnyScalar,
 ) -> Result<BooleanArray, Error> {
-    let (left, right) = (lhs.data_type(), rhs.data_type());
-    if left.to_logical_type() != right.to_logical_type() || !has_equality_through(left) {
+    let left = lhs.data_type();
+    if !is_of_one_type(lhs, rhs) || !has_equality_through(left) {
         return Err(Error::Failed);
     }
     match asked {

@@ -12,6 +12,7 @@ use arrow_logic::nullif::{
 };
 use arrow_memory::bitmap::MutableBitmap;
 use arrow_memory::buffer::Buffer;
+use arrow_types::datatypes::DataType;
 use arrow_types::error::Error;
 use arrow_types::types::{days_ms, i256, months_days_ns};
 use arrow_types_fixture::read::read;
@@ -61,78 +62,91 @@ fn check_values(rt: &(impl Abort + Alloc<A = Global>)) {
 
 /// An element type of arrays and of scalars.
 trait AnyValue: AnyElement {
-    fn to_any_scalar(scalar: PrimitiveScalar<Self>) -> AnyPrimitiveScalar;
+    /// A scalar of a data type that holds such values.
+    fn any_scalar(data_type: DataType, value: Self) -> Result<AnyPrimitiveScalar, Error>;
 }
 
 impl AnyValue for i8 {
-    fn to_any_scalar(scalar: PrimitiveScalar<i8>) -> AnyPrimitiveScalar {
-        AnyPrimitiveScalar::Int8(scalar)
+    fn any_scalar(data_type: DataType, value: i8) -> Result<AnyPrimitiveScalar, Error> {
+        let scalar = PrimitiveScalar::try_new(data_type, Some(value))?;
+        Ok(AnyPrimitiveScalar::Int8(scalar))
     }
 }
 
 impl AnyValue for i16 {
-    fn to_any_scalar(scalar: PrimitiveScalar<i16>) -> AnyPrimitiveScalar {
-        AnyPrimitiveScalar::Int16(scalar)
+    fn any_scalar(data_type: DataType, value: i16) -> Result<AnyPrimitiveScalar, Error> {
+        let scalar = PrimitiveScalar::try_new(data_type, Some(value))?;
+        Ok(AnyPrimitiveScalar::Int16(scalar))
     }
 }
 
 impl AnyValue for i32 {
-    fn to_any_scalar(scalar: PrimitiveScalar<i32>) -> AnyPrimitiveScalar {
-        AnyPrimitiveScalar::Int32(scalar)
+    fn any_scalar(data_type: DataType, value: i32) -> Result<AnyPrimitiveScalar, Error> {
+        let scalar = PrimitiveScalar::try_new(data_type, Some(value))?;
+        Ok(AnyPrimitiveScalar::Int32(scalar))
     }
 }
 
 impl AnyValue for i64 {
-    fn to_any_scalar(scalar: PrimitiveScalar<i64>) -> AnyPrimitiveScalar {
-        AnyPrimitiveScalar::Int64(scalar)
+    fn any_scalar(data_type: DataType, value: i64) -> Result<AnyPrimitiveScalar, Error> {
+        let scalar = PrimitiveScalar::try_new(data_type, Some(value))?;
+        Ok(AnyPrimitiveScalar::Int64(scalar))
     }
 }
 
 impl AnyValue for i128 {
-    fn to_any_scalar(scalar: PrimitiveScalar<i128>) -> AnyPrimitiveScalar {
-        AnyPrimitiveScalar::Int128(scalar)
+    fn any_scalar(data_type: DataType, value: i128) -> Result<AnyPrimitiveScalar, Error> {
+        let scalar = PrimitiveScalar::try_new(data_type, Some(value))?;
+        Ok(AnyPrimitiveScalar::Int128(scalar))
     }
 }
 
 impl AnyValue for i256 {
-    fn to_any_scalar(scalar: PrimitiveScalar<i256>) -> AnyPrimitiveScalar {
-        AnyPrimitiveScalar::Int256(scalar)
+    fn any_scalar(data_type: DataType, value: i256) -> Result<AnyPrimitiveScalar, Error> {
+        let scalar = PrimitiveScalar::try_new(data_type, Some(value))?;
+        Ok(AnyPrimitiveScalar::Int256(scalar))
     }
 }
 
 impl AnyValue for u8 {
-    fn to_any_scalar(scalar: PrimitiveScalar<u8>) -> AnyPrimitiveScalar {
-        AnyPrimitiveScalar::UInt8(scalar)
+    fn any_scalar(data_type: DataType, value: u8) -> Result<AnyPrimitiveScalar, Error> {
+        let scalar = PrimitiveScalar::try_new(data_type, Some(value))?;
+        Ok(AnyPrimitiveScalar::UInt8(scalar))
     }
 }
 
 impl AnyValue for u16 {
-    fn to_any_scalar(scalar: PrimitiveScalar<u16>) -> AnyPrimitiveScalar {
-        AnyPrimitiveScalar::UInt16(scalar)
+    fn any_scalar(data_type: DataType, value: u16) -> Result<AnyPrimitiveScalar, Error> {
+        let scalar = PrimitiveScalar::try_new(data_type, Some(value))?;
+        Ok(AnyPrimitiveScalar::UInt16(scalar))
     }
 }
 
 impl AnyValue for u32 {
-    fn to_any_scalar(scalar: PrimitiveScalar<u32>) -> AnyPrimitiveScalar {
-        AnyPrimitiveScalar::UInt32(scalar)
+    fn any_scalar(data_type: DataType, value: u32) -> Result<AnyPrimitiveScalar, Error> {
+        let scalar = PrimitiveScalar::try_new(data_type, Some(value))?;
+        Ok(AnyPrimitiveScalar::UInt32(scalar))
     }
 }
 
 impl AnyValue for u64 {
-    fn to_any_scalar(scalar: PrimitiveScalar<u64>) -> AnyPrimitiveScalar {
-        AnyPrimitiveScalar::UInt64(scalar)
+    fn any_scalar(data_type: DataType, value: u64) -> Result<AnyPrimitiveScalar, Error> {
+        let scalar = PrimitiveScalar::try_new(data_type, Some(value))?;
+        Ok(AnyPrimitiveScalar::UInt64(scalar))
     }
 }
 
 impl AnyValue for days_ms {
-    fn to_any_scalar(scalar: PrimitiveScalar<days_ms>) -> AnyPrimitiveScalar {
-        AnyPrimitiveScalar::DaysMs(scalar)
+    fn any_scalar(data_type: DataType, value: days_ms) -> Result<AnyPrimitiveScalar, Error> {
+        let scalar = PrimitiveScalar::try_new(data_type, Some(value))?;
+        Ok(AnyPrimitiveScalar::DaysMs(scalar))
     }
 }
 
 impl AnyValue for months_days_ns {
-    fn to_any_scalar(scalar: PrimitiveScalar<months_days_ns>) -> AnyPrimitiveScalar {
-        AnyPrimitiveScalar::MonthDayNano(scalar)
+    fn any_scalar(data_type: DataType, value: months_days_ns) -> Result<AnyPrimitiveScalar, Error> {
+        let scalar = PrimitiveScalar::try_new(data_type, Some(value))?;
+        Ok(AnyPrimitiveScalar::MonthDayNano(scalar))
     }
 }
 
@@ -213,8 +227,7 @@ fn nullif_value_of<T: AnyValue>(
     words: &str,
     value: T,
 ) -> Result<Box<AnyArray>, Error> {
-    let scalar = PrimitiveScalar::try_new(read(alloc, words)?, Some(value))?;
-    let scalar = AnyScalar::Primitive(T::to_any_scalar(scalar));
+    let scalar = AnyScalar::Primitive(T::any_scalar(read(alloc, words)?, value)?);
     if !scalar.is_valid() || !can_nullif(lhs.data_type(), scalar.data_type()) {
         return Err(Error::Failed);
     }
