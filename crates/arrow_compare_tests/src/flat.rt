@@ -1,11 +1,52 @@
-//! Relations of numbers, texts and bytes, by the calls for arrays of each kind.
+//! Relations of truth values, numbers, texts and bytes, by the calls for arrays of each kind.
 
 use crate::asked::Asked;
 use arrow_flat::array::{BinaryArray, BooleanArray, PrimitiveArray, Utf8Array};
-use arrow_relate::comparison::{binary, primitive, utf8};
+use arrow_relate::comparison::{binary, boolean, primitive, utf8};
 use arrow_types::error::Error;
 use arrow_types::types::{NativeOrd, Offset};
 use std::alloc::Global;
+
+/// What a relation answers of two arrays of truth values; `Failed` where it can't be called.
+pub fn relate_truths(
+    alloc: Global,
+    asked: Asked,
+    lhs: &BooleanArray,
+    rhs: &BooleanArray,
+) -> Result<BooleanArray, Error> {
+    if lhs.len() != rhs.len() {
+        return Err(Error::Failed);
+    }
+    match asked {
+        Asked::Eq => boolean::eq(alloc, lhs, rhs),
+        Asked::EqAndValidity => boolean::eq_and_validity(alloc, lhs, rhs),
+        Asked::Neq => boolean::neq(alloc, lhs, rhs),
+        Asked::NeqAndValidity => boolean::neq_and_validity(alloc, lhs, rhs),
+        Asked::Lt => boolean::lt(alloc, lhs, rhs),
+        Asked::LtEq => boolean::lt_eq(alloc, lhs, rhs),
+        Asked::Gt => boolean::gt(alloc, lhs, rhs),
+        Asked::GtEq => boolean::gt_eq(alloc, lhs, rhs),
+    }
+}
+
+/// What a relation answers of an array of truth values and a truth value.
+pub fn relate_truth(
+    alloc: Global,
+    asked: Asked,
+    lhs: &BooleanArray,
+    rhs: bool,
+) -> Result<BooleanArray, Error> {
+    match asked {
+        Asked::Eq => boolean::eq_scalar(alloc, lhs, rhs),
+        Asked::EqAndValidity => boolean::eq_scalar_and_validity(alloc, lhs, rhs),
+        Asked::Neq => boolean::neq_scalar(alloc, lhs, rhs),
+        Asked::NeqAndValidity => boolean::neq_scalar_and_validity(alloc, lhs, rhs),
+        Asked::Lt => boolean::lt_scalar(alloc, lhs, rhs),
+        Asked::LtEq => boolean::lt_eq_scalar(alloc, lhs, rhs),
+        Asked::Gt => boolean::gt_scalar(alloc, lhs, rhs),
+        Asked::GtEq => boolean::gt_eq_scalar(alloc, lhs, rhs),
+    }
+}
 
 /// What a relation answers of two arrays of numbers; `Failed` where it can't be called.
 pub fn relate_numbers<T: NativeOrd>(

@@ -18,4 +18,6 @@ mod flat;
 #[cfg(test)]
 mod numbers;
 #[cfg(test)]
+mod truth;
+#[cfg(test)]
 mod words;
