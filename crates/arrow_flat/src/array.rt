@@ -202,10 +202,13 @@ impl<V: Values> FlatArray<V> {
     /// # Requires
     /// `i` is below the count of rows.
     pub fn is_valid(&self, i: usize) -> bool
-        requires { i < length (V.slots self.now.values) }
+        requires { i < length (rows_by V.slots self.now) }
+        ensures within { i < length (V.slots self.now.values) }
         ensures bit { result ≡ valid_at self.now.validity i }
         ensures row { result ≡ not (is_null (slice_index_or (rows_by V.slots self.now) i Null)) }
     {
+        // there is a row for each of the values
+        prove!(i < self.len());
         validity::is_valid(&self.validity, i)
     }
 

@@ -18,7 +18,7 @@ use Rattle.arrow_types.specs.declared.error.Error.{Error}
 use Rattle.arrow_types.specs.Slot.{Slot}
 use Rattle.arrow_memory.specs.Bits.{either_bits}
 use Rattle.arrow_memory.specs.Words.{low_bits}
-use Rattle.arrow_logic.proofs.BitLemmas.{bits_of_word, word_more}
+use Rattle.arrow_memory.proofs.BitLemmas.{bits_of_word, word_more}
 use Rattle.arrow_logic.specs.Answers.{AnswersSome, nulls, RefusesFirst, answers_ok}
 use Rattle.arrow_logic.specs.Gathered.{AnswersFrom, AppendsAnswers, RefusesBelow, answers_at, answers_parts, parts_of}
 

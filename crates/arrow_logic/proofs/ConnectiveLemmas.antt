@@ -12,7 +12,8 @@ use Rattle.arrow_logic.specs.RowByRow.{row_by_row}
 use Rattle.arrow_logic.specs.Validities.{combined}
 use Rattle.arrow_logic.specs.declared.connective.Connective.{Connective}
 use Rattle.arrow_logic.specs.declared.connective.Connective.TheVariants.{And, Or}
-use Rattle.arrow_logic.proofs.MaskedLemmas.{bits_of, masked-by_bits, length-bits_of, length-paired, bits_of-combined, fits_combined, bits_of-known_side, fits_known_side}
+use Rattle.arrow_memory.proofs.LogicLemmas.{length-paired}
+use Rattle.arrow_logic.proofs.MaskedLemmas.{bits_of, masked-by_bits, length-bits_of, bits_of-combined, fits_combined, bits_of-known_side, fits_known_side}
 
 -- one row: what is stored, where it is valid
 abbrev row : Bool → Bool → Slot

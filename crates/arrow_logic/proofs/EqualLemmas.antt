@@ -6,7 +6,7 @@ use Rattle.std.proofs.lemmas.List.{append-nil, append_assoc, length-append, leng
 use Rattle.arrow_memory.specs.Words.{low_bits, word_of}
 use Rattle.arrow_memory.proofs.WordLemmas.{length-low_bits}
 use Rattle.arrow_logic.specs.RowByRow.{row_by_row}
-use Rattle.arrow_logic.proofs.BitLemmas.{bits_of_word, word_more}
+use Rattle.arrow_memory.proofs.BitLemmas.{bits_of_word, word_more}
 
 -- the word holds so many bits that stand before those that are left
 pub record Gathered (all rest : List Bool) (word count : ℕ) : Type 0 where

@@ -1,5 +1,4 @@
 pub mod AnswerLemmas
-pub mod BitLemmas
 pub mod ConnectiveLemmas
 pub mod EqualLemmas
 pub mod KeptLemmas

@@ -4,6 +4,7 @@ use Rattle.std.proofs.lemmas.List.{length-map, length-replicate}
 use Rattle.arrow_types.specs.Rows.{mask, masked}
 use Rattle.arrow_types.specs.Slot.{Slot, Null, Boolean}
 use Rattle.arrow_memory.specs.Bits.{both_bits, either_bits, paired}
+use Rattle.arrow_memory.proofs.LogicLemmas.{length-paired}
 use Rattle.arrow_flat.specs.Parts.{FitsRows}
 use Rattle.arrow_logic.specs.Connective.{known_side}
 use Rattle.arrow_logic.specs.Validities.{AreOneLength, combined}
@@ -70,11 +71,6 @@ masked-by_bits (Some bits) xs = refl
 pub length-bits_of : (v : Option (List Bool)) (n : ℕ) → FitsRows v n → length (bits_of v n) ≡ n
 length-bits_of None n fits = length-replicate n true
 length-bits_of (Some bits) n fits = fits
-
-pub length-paired : (give : Bool → Bool → Bool) (xs ys : List Bool) → length xs ≡ length ys → length (paired give xs ys) ≡ length xs
-length-paired give [] ys same = refl
-length-paired give (x ∷ xs) [] same = absurd (omega (arith, same))
-length-paired give (x ∷ xs) (y ∷ ys) same = ap suc (length-paired give xs ys (omega (arith, same)))
 
 -- two of them together
 ones-both : (n : ℕ) → replicate n true ≡ both_bits (replicate n true) (replicate n true)

@@ -21,12 +21,9 @@ use crate::validity::shared;
 use arrow_arrays::array::AnyArray;
 use arrow_flat::array::BooleanArray;
 use arrow_flat::scalar::BooleanScalar;
-use arrow_memory::bitmap::Bitmap;
+use arrow_memory::bitmap::{Bitmap, WORD_BITS};
 use arrow_types::error::Error;
 use std::alloc::Global;
-
-/// The bits of a word.
-const WORD_BITS: usize = 64;
 
 /// Whether both rows are true, and null where one is null.
 ///

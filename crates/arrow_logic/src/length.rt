@@ -21,16 +21,13 @@ ghost use Rattle.arrow_logic.specs.Length.{HasBitsFrom, HasLength, IsLengthRefus
 use crate::validity::shared;
 use arrow_arrays::array::AnyArray;
 use arrow_flat::array::{AnyPrimitive, PrimitiveArray, Utf8Array};
-use arrow_memory::bitmap::Bitmap;
+use arrow_memory::bitmap::{Bitmap, WORD_BITS};
 use arrow_memory::buffer::Buffer;
 use arrow_memory::offset::OffsetsBuffer;
 use arrow_types::datatypes::DataType;
 use arrow_types::error::{ArgumentFault, Error};
 use arrow_types::types::Offset;
 use std::alloc::Global;
-
-/// How many rows a word of a validity has a bit of.
-const WORD_BITS: usize = 64;
 
 /// How many bytes each text has: an array of `Int32` of one of `Utf8`, and of `Int64` of one of `LargeUtf8`, null where
 /// the text is. Beneath a null 0 is stored, whatever lies beneath it there.

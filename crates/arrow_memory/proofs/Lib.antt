@@ -1,4 +1,5 @@
 pub mod AppendLemmas
+pub mod BitLemmas
 pub mod BitmapLemmas
 pub mod LogicLemmas
 pub mod MutableLemmas

@@ -81,7 +81,7 @@ combines_more bits old words others from j left right value before within left_i
 
 -- ---- lists of bits
 
-length-paired : (give : Bool → Bool → Bool) (xs ys : List Bool) → length xs ≡ length ys → length (paired give xs ys) ≡ length xs
+pub length-paired : (give : Bool → Bool → Bool) (xs ys : List Bool) → length xs ≡ length ys → length (paired give xs ys) ≡ length xs
 length-paired give [] ys h = refl
 length-paired give (x ∷ xs) [] h = absurd (omega (arith, h))
 length-paired give (x ∷ xs) (y ∷ ys) h = omega (arith, length-paired give xs ys (omega (arith, h)))

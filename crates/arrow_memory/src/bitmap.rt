@@ -14,7 +14,8 @@ mod bitmap_ops;
 mod mutable;
 mod runs;
 
-use crate::words::{WORD_BITS, append_bits, bits_from, count_ones, pack};
+pub use crate::words::WORD_BITS;
+use crate::words::{append_bits, bits_from, count_ones, pack, word_within};
 use arrow_types::error::Error;
 pub use mutable::MutableBitmap;
 pub use runs::BitRuns;
@@ -122,9 +123,22 @@ impl Bitmap {
 
     /// Bits 64 j to 64 j + 63 as a word: bit k of it is bit 64 j + k, and those past the last bit are zeros. Every
     /// `j` is allowed, and the bits may begin anywhere in their words.
+    #[inline(always)]
     pub fn word(&self, j: usize) -> u64
         ensures each { (k : ℕ) → k < 64 → (bit_at result k == 1) ≡ slice_index_or self.now (64 * j + k) false }
         ensures word { result ≡ word_of (sliced self.now (64 * j) 64) }
+    {
+        if j < self.len / WORD_BITS {
+            word_within(&self.words, self.offset + WORD_BITS * j)
+        } else {
+            self.last_word(j)
+        }
+    }
+
+    /// The same of any `j`, with tests of where the bits end.
+    #[inline(never)]
+    fn last_word(&self, j: usize) -> u64
+        ensures { result ≡ word_of (sliced self.now (64 * j) 64) }
     {
         let len = self.len();
         let start = j.saturating_mul(WORD_BITS).min(len);

@@ -10,7 +10,7 @@ pub(crate) mod logic;
 use logic::{Second, combine};
 
 /// The bits of a word.
-pub(crate) const WORD_BITS: usize = 64;
+pub const WORD_BITS: usize = 64;
 
 /// The word whose bit k is `bits[k]`, with zeros above.
 pub(crate) fn pack(bits: &[bool]) -> u64
@@ -62,6 +62,20 @@ pub(crate) fn word_from(words: &[u64], place: usize) -> u64
         return low;
     }
     low | word_at(words, place / WORD_BITS + 1) << (WORD_BITS - shift)
+}
+
+/// The same of 64 bits that the words hold: it reads no more words than these lie in, and tests for no end.
+#[inline(always)]
+pub(crate) fn word_within(words: &[u64], place: usize) -> u64
+    requires { place + 64 ≤ 64 * length words.now }
+    ensures { result ≡ word_of (bits_in words.now place 64) }
+{
+    let shift = place % WORD_BITS;
+    let low = words[place / WORD_BITS] >> shift;
+    if shift == 0 {
+        return low;
+    }
+    low | words[place / WORD_BITS + 1] << (WORD_BITS - shift)
 }
 
 /// How many of the lowest `count` bits of a word are equal to `bit`, up to the first that is not.
@@ -133,6 +147,18 @@ pub(crate) fn append_word(words: &mut Vec<u64>, place: usize, word: u64, count: 
     if words.len() < (place + count).div_ceil(WORD_BITS) {
         words.push_reserved(word >> ((WORD_BITS - used) % WORD_BITS));
     }
+}
+
+/// The same where the last word has room for the bits.
+#[inline(always)]
+pub(crate) fn append_within(words: &mut Vec<u64>, place: usize, word: u64, count: usize)
+    requires full { length words.old.items ≡ div_ceil place 64 }
+    requires begun { 0 < place % 64 }
+    requires within { place % 64 + count ≤ 64 }
+    ensures full { length words.new.items ≡ div_ceil (place + count) 64 }
+    ensures appended { AppendsWord words.old.items words.new.items place word count }
+{
+    words[place / WORD_BITS] |= word << (place % WORD_BITS);
 }
 
 /// Puts `count` words of the bits from place `from` of others behind those that are there, with zeros past the

@@ -19,7 +19,7 @@ use Rattle.arrow_memory.specs.Words.{low_bits, word_of}
 use Rattle.arrow_memory.proofs.BitmapLemmas.{bit_of-word_of}
 use Rattle.arrow_memory.proofs.SlicedLemmas.{length-sliced}
 use Rattle.arrow_memory.proofs.WordLemmas.{length-low_bits, word_of-append}
-use Rattle.arrow_logic.proofs.BitLemmas.{word_more}
+use Rattle.arrow_memory.proofs.BitLemmas.{word_more}
 use Rattle.arrow_relate.specs.Words.{GathersBits, GivesRows, GivesWords, IsWordOf, AnswersRows, AnswersWords}
 
 -- ---- the bits of one word

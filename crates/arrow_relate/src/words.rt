@@ -4,12 +4,9 @@ ghost use Rattle.std.specs.Prelude.{◌≡◌, ◌+◌, ◌-◌, ◌*◌, ◌^�
 ghost use Rattle.arrow_types.specs.declared.error.Error.{Error};
 ghost use Rattle.arrow_relate.specs.Words.{AnswersRows, AnswersWords, GathersBits};
 
-use arrow_memory::bitmap::{Bitmap, MutableBitmap};
+use arrow_memory::bitmap::{Bitmap, MutableBitmap, WORD_BITS};
 use arrow_types::error::Error;
 use std::alloc::Global;
-
-/// The bits of a word.
-const WORD_BITS: usize = 64;
 
 /// Half as many.
 const HALF_BITS: usize = 32;

@@ -1,5 +1,4 @@
 pub mod ArrayLemmas
-pub mod BitLemmas
 pub mod ChoiceLemmas
 pub mod ChunkLemmas
 pub mod FilterLemmas

@@ -7,12 +7,9 @@ ghost use Rattle.arrow_types.specs.declared.error.Error.{Error};
 ghost use Rattle.arrow_logic.specs.Answers.{answers_ok};
 ghost use Rattle.arrow_logic.specs.Gathered.{AnswersFrom, AppendsAnswers, RefusesBelow};
 
-use arrow_memory::bitmap::{Bitmap, MutableBitmap};
+use arrow_memory::bitmap::{Bitmap, MutableBitmap, WORD_BITS};
 use arrow_types::error::Error;
 use std::alloc::Global;
-
-/// The bits of a word.
-const WORD_BITS: usize = 64;
 
 /// What the closure answers to each row below `len`.
 ///

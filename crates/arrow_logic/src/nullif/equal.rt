@@ -5,13 +5,10 @@ ghost use Rattle.arrow_types.specs.declared.error.Error.{Error};
 ghost use Rattle.arrow_memory.specs.Words.{word_of};
 ghost use Rattle.arrow_logic.specs.RowByRow.{row_by_row};
 
-use arrow_memory::bitmap::{Bitmap, MutableBitmap};
+use arrow_memory::bitmap::{Bitmap, MutableBitmap, WORD_BITS};
 use arrow_types::error::Error;
 use arrow_types::types::NativeType;
 use std::alloc::Global;
-
-/// The bits of a word.
-const WORD_BITS: usize = 64;
 
 /// Whether each value equals the other one at its place.
 ///

@@ -9,7 +9,7 @@ ghost use Rattle.arrow_memory.specs.Sliced.{sliced};
 ghost use Rattle.arrow_memory.specs.Words.{low_bits};
 
 use crate::bitmap::Bitmap;
-use crate::words::{WORD_BITS, append_equal, append_word, low_word};
+use crate::words::{WORD_BITS, append_equal, append_within, append_word, low_word};
 use arrow_types::error::Error;
 use std::alloc::Global;
 use std::marker::Model;
@@ -137,7 +137,26 @@ impl MutableBitmap {
     ///
     /// # Errors
     /// As of [`MutableBitmap::push`], `Overflow` where there are to be more than 2^64 - 1 bits.
+    #[inline(always)]
     pub fn push_word(&mut self, word: u64, len: usize) -> Result<(), Error>
+        requires { len ≤ 64 }
+        ensures ok { OnOk result (self.new ≡ self.old ++ low_bits word len) }
+        ensures overflow { (result ≡ Err Error.Overflow) ↔ (2 ^ 64 ≤ length self.old + len) }
+        ensures others { IfErr result IsGrowthError }
+        ensures err { OnErr result (self.new ≡ self.old) }
+    {
+        let used = self.len % WORD_BITS;
+        if used == 0 || used + len >= WORD_BITS {
+            return self.push_across(word, len);
+        }
+        append_within(&mut self.words, self.len, low_word(word, len), len);
+        self.len += len;
+        Ok(())
+    }
+
+    /// The same of any bits: those that the last word has no room for begin another.
+    #[inline(never)]
+    fn push_across(&mut self, word: u64, len: usize) -> Result<(), Error>
         requires { len ≤ 64 }
         ensures ok { OnOk result (self.new ≡ self.old ++ low_bits word len) }
         ensures overflow { (result ≡ Err Error.Overflow) ↔ (2 ^ 64 ≤ length self.old + len) }

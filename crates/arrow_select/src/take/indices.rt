@@ -12,13 +12,10 @@ ghost use Rattle.arrow_arrays.specs.KeyedParts.{AreKeys, IsKeyIn, key_in};
 ghost use Rattle.arrow_select.specs.Taken.{MarksTaken, named_bit, picked, valid_index};
 
 use arrow_flat::array::PrimitiveArray;
-use arrow_memory::bitmap::{Bitmap, MutableBitmap};
+use arrow_memory::bitmap::{Bitmap, MutableBitmap, WORD_BITS};
 use arrow_types::error::Error;
 use arrow_types::types::{Index, NativeType};
 use std::alloc::Global;
-
-/// The bits of a word.
-const WORD_BITS: usize = 64;
 
 /// Whether row `row` is valid.
 pub(super) fn is_valid(validity: Option<&Bitmap>, row: usize) -> bool

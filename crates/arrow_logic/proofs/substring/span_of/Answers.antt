@@ -1,13 +1,19 @@
 use Rattle.std.proofs.Common.{◌≡◌, ◌-◌, ◌∙◌, [], ap, arith, subst, sym, rules, SFits, w64, to_z, of_z}
 use Rattle.std.proofs.lemmas.Int.{to_z-of_z}
 use Rattle.arrow_memory.specs.Sliced.{sliced}
+use Rattle.arrow_flat.specs.ByteRows.{byte_slots}
+use Rattle.arrow_flat.specs.Parts.{FitsRows}
+use Rattle.arrow_flat.proofs.PartsLemmas.{length-masked}
 use Rattle.arrow_flat.proofs.PieceLemmas.{length-byte_slots, length-pieces}
 use Rattle.arrow_logic.proofs.PartLemmas.{part_moved, part_of_null, part_of_row, row_read}
 use Rattle.arrow_logic.proofs.substring.span_of.Goals as goal
 
 pub is_valid-requires : goal.is_valid-requires
 is_valid-requires g c =
-    omega (arith, length-byte_slots g.K.ByteKind.slot c.args.rows.now.values, c.requires.within)
+    let slots = byte_slots g.K.ByteKind.slot c.args.rows.now.values in
+    let long = length-byte_slots g.K.ByteKind.slot c.args.rows.now.values in
+    let fits = subst (FitsRows c.args.rows.now.validity) (sym long) c.requires.fits in
+    omega (arith, length-masked c.args.rows.now.validity slots fits, long, c.requires.within)
 
 pub returns-then-not-is_valid-clause-part : goal.returns-then-not-is_valid-clause-part
 returns-then-not-is_valid-clause-part g c =

@@ -1,11 +1,22 @@
-use Rattle.std.proofs.Common.{◌*◌}
-use Rattle.arrow_memory.proofs.BitmapLemmas.{bit_of-word, word_clamped}
+use Rattle.std.proofs.Common.{◌≡◌, ◌+◌, ◌*◌, ◌/◌, ◌≤◌, ap, sym, ◌∙◌, arith}
+use Rattle.arrow_memory.specs.Sliced.{sliced}
+use Rattle.arrow_memory.specs.Words.{word_of}
+use Rattle.arrow_memory.proofs.BitmapLemmas.{bit_of-word}
+use Rattle.arrow_memory.proofs.WordLemmas.{sliced-bits_in}
 use Rattle.arrow_memory.proofs.bitmap.Bitmap.word.Goals as goal
 
-pub returns-clause-word : goal.returns-clause-word
-returns-clause-word c =
-    word_clamped c.args.self.now c.args.j c.len-len.result c.saturating_mul.result c.min-start.result c.min.result c.bits_from.result c.len-len.ensures c.len-len.type_inv c.saturating_mul.ensures c.min-start.ensures c.min.ensures c.bits_from.ensures
+pub returns-then-j-self-clause-word : goal.returns-then-j-self-clause-word
+returns-then-j-self-clause-word c =
+    let map = c.self.inside in
+    let place = 64 * c.args.j in
+    let read = rw (c.deref-then-j-self.ensures.value ∙ ap (λ v. v.items) c.deref.ensures) at c.word_within.ensures in
+    let within : place + 64 ≤ map.len = omega (arith, c.if-j-self.true) in
+    read ∙ ap word_of (sym (sliced-bits_in map.words.value.items map.offset map.len place 64 within) ∙ ap (λ bits. sliced bits place 64) c.self.view_is)
 
-pub returns-clause-each : goal.returns-clause-each
-returns-clause-each c k within =
-    bit_of-word c.args.self.now (64 * c.args.j) c.bits_from.result k within (returns-clause-word c)
+pub returns-then-j-self-clause-each : goal.returns-then-j-self-clause-each
+returns-then-j-self-clause-each c k within =
+    bit_of-word c.args.self.now (64 * c.args.j) c.word_within.result k within (returns-then-j-self-clause-word c)
+
+pub returns-else-j-self-clause-each : goal.returns-else-j-self-clause-each
+returns-else-j-self-clause-each c k within =
+    bit_of-word c.args.self.now (64 * c.args.j) c.last_word.result k within c.last_word.ensures

@@ -7,7 +7,7 @@ use Rattle.arrow_memory.specs.Sliced.{sliced}
 use Rattle.arrow_memory.specs.Words.{word_of}
 use Rattle.arrow_memory.proofs.SlicedLemmas.{length-sliced}
 use Rattle.arrow_select.specs.Taken.{named_bit}
-use Rattle.arrow_select.proofs.BitLemmas.{bits_of_word, word_more}
+use Rattle.arrow_memory.proofs.BitLemmas.{bits_of_word, word_more}
 use Rattle.arrow_select.proofs.IndexLemmas.{gives_next, length-masked_slots}
 use Rattle.arrow_select.proofs.take.indices.bits_at.Goals as goal
 

@@ -1,10 +1,6 @@
 use Rattle.std.proofs.Common.{rules}
-use Rattle.arrow_arrays.proofs.KeyLemmas.{stored_within, key_within, null_row, number_row, key_in_range}
+use Rattle.arrow_arrays.proofs.KeyLemmas.{key_within, null_row, number_row, key_in_range}
 use Rattle.arrow_arrays.proofs.array.dictionary.keys.is_within.Goals as goal
-
-pub is_valid-requires : goal.is_valid-requires
-is_valid-requires g c =
-    stored_within c.args.indices.now.validity _ c.args.i c.validity.ensures.fits c.requires
 
 pub value-requires : goal.value-requires
 value-requires g c =

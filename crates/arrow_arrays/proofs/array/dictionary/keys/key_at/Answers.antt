@@ -1,12 +1,8 @@
 use Rattle.std.proofs.Common.{ap, sym, ◌∙◌}
 use Rattle.arrow_types.specs.Slot.{Number}
 use Rattle.arrow_arrays.specs.KeyedParts.{key_in}
-use Rattle.arrow_arrays.proofs.KeyLemmas.{stored_within, key_within, null_row, number_row, not_negative}
+use Rattle.arrow_arrays.proofs.KeyLemmas.{key_within, null_row, number_row, not_negative}
 use Rattle.arrow_arrays.proofs.array.dictionary.keys.key_at.Goals as goal
-
-pub is_valid-requires : goal.is_valid-requires
-is_valid-requires g c =
-    stored_within c.args.keys.now.validity _ c.args.i c.validity.ensures.fits c.requires.within
 
 pub value-requires : goal.value-requires
 value-requires g c =
