@@ -9,13 +9,15 @@ use Rattle.std.proofs.lemmas.List.{append-nil, length-append, drop-drop, drop_al
 use Rattle.std.proofs.lemmas.List.FromFn.{get_or-map-range_with_len}
 use Rattle.std.proofs.lemmas.Option.{slice_get-get_or}
 use Rattle.std.proofs.lemmas.List.Sums.{sum_by-cons}
+use Rattle.std.proofs.lemmas.Nat.{ones_le_self}
 use Rattle.std.proofs.lemmas.Nat.Bits.{bit_at_and, bit_at_lowest, bit_at-suc, bit_at_above, bit_at-trailing_zeros, bit_at-zero, bit_at-lt, bit_at_ones}
 use Rattle.std.proofs.lemmas.Simd.{mask_l-lt}
 use Rattle.arrow_memory.specs.Sliced.{sliced}
 use Rattle.arrow_memory.specs.Words.{low_bits, set_count, word_of}
+use Rattle.arrow_memory.proofs.AppendLemmas.{bit_at-shr}
 use Rattle.arrow_memory.proofs.WordLemmas.{count_ones-word_of, length-low_bits, word_of-low_bits}
-use Rattle.arrow_select.specs.Selected.{at_set, set_in_word, word_bits}
-use Rattle.arrow_select.proofs.BitLemmas.{bits_of_word}
+use Rattle.arrow_select.specs.Selected.{at_set, set_in_word, word_bits, IsRunOf}
+use Rattle.arrow_memory.proofs.BitLemmas.{bits_of_word}
 
 -- how many members are set
 pub length-at_set : {A : Type 0} (mask : List Bool) (xs : List A) → length mask ≡ length xs → length (at_set mask xs) ≡ set_count mask
@@ -316,6 +318,67 @@ none_in_word mask xs place word next lengths read is at =
     let here = word_of_part mask xs place word n n lengths refl refl read in
     let none : at_set (sliced mask place 64) (sliced xs place 64) ≡ [] = sym here.same ∙ (ap (λ w. set_in_word w part) is ∙ set_in_zero part) in
     at_set-from place 64 mask xs ∙ (ap (λ ys. ys ++ at_set (drop (place + 64) mask) (drop (place + 64) xs)) none ∙ ap (λ n. at_set (drop n mask) (drop n xs)) (sym at))
+
+-- ---- a word whose set bits are one run
+
+-- the first are set, and no others
+first_run : {A : Type 0} (f : ℕ → Bool) (a m n : ℕ) (xs : List A) → length xs ≡ n → m ≤ n → ((i : ℕ) → a ≤ i → i < a + m → f i ≡ true) → ((i : ℕ) → a + m ≤ i → f i ≡ false) → at_set (map f (range_with_len a n)) xs ≡ take m xs
+first_run f a zero n xs long within ones above = none_at f a n xs (λ i from. above i (omega (arith, from)))
+first_run f a (suc m) zero xs long within ones above = absurd (omega (arith, within))
+first_run f a (suc m) (suc n) [] long within ones above = absurd (omega (arith, long))
+first_run f a (suc m) (suc n) (x ∷ xs) long within ones above =
+    let rest = at_set (map f (range_with_len (a + 1) n)) xs in
+    ap (λ b. if b then x ∷ rest else rest) (ones a (omega arith) (omega arith)) ∙ ap (λ ys. x ∷ ys) (first_run f (a + 1) m n xs (omega (arith, long)) (omega (arith, within)) (λ i from to. ones i (omega (arith, from)) (omega (arith, to))) (λ i from. above i (omega (arith, from))))
+
+-- so many from a place on are set, and no others
+run_at : {A : Type 0} (f : ℕ → Bool) (a k m n : ℕ) (xs : List A) → length xs ≡ n → k + m ≤ n → ((i : ℕ) → i < a + k → f i ≡ false) → ((i : ℕ) → a + k ≤ i → i < a + k + m → f i ≡ true) → ((i : ℕ) → a + k + m ≤ i → f i ≡ false) → at_set (map f (range_with_len a n)) xs ≡ take m (drop k xs)
+run_at f a zero m n xs long within below ones above =
+    first_run f a m n xs long (omega (arith, within)) (λ i from to. ones i (omega (arith, from)) (omega (arith, to))) (λ i from. above i (omega (arith, from)))
+run_at f a (suc k) m zero xs long within below ones above = absurd (omega (arith, within))
+run_at f a (suc k) m (suc n) [] long within below ones above = absurd (omega (arith, long))
+run_at f a (suc k) m (suc n) (x ∷ xs) long within below ones above =
+    let rest = at_set (map f (range_with_len (a + 1) n)) xs in
+    ap (λ b. if b then x ∷ rest else rest) (below a (omega arith)) ∙ run_at f (a + 1) k m n xs (omega (arith, long)) (omega (arith, within)) (λ i to. below i (omega (arith, to))) (λ i from to. ones i (omega (arith, from)) (omega (arith, to))) (λ i from. above i (omega (arith, from)))
+
+-- it ends within so many bits where the word does
+pub run_within : (w first count n : ℕ) → IsRunOf w first count → w < 2 ^ n → first + count ≤ n
+run_within w first count n run below =
+    let last : bit_at w (first + (count - 1)) ≡ 1 = run.ones (count - 1) (omega (arith, run.some)) in
+    elim (cases_lt (first + (count - 1)) n) as (λ _. first + count ≤ n) [
+      | inl before ↦ omega (arith, before, run.some)
+      | inr after ↦ absurd (one_or_none (bit_at w (first + (count - 1))) last (bit_at_above w n (first + (count - 1)) below after))
+    ]
+
+-- the values at which the bits of such a word are set, as a part of a slice is read
+pub set_in_run : {A : Type 0} (w first count : ℕ) (xs : List A) → IsRunOf w first count → w < 2 ^ length xs → take (first + count - first) (drop first xs) ≡ set_in_word w xs
+set_in_run w first count xs run below =
+    let many : first + count - first ≡ count = omega arith in
+    ap (λ n. take n (drop first xs)) many ∙ sym (run_at (λ i. bit_at w i == 1) 0 first count (length xs) xs refl (run_within w first count (length xs) run below) (λ i to. is_one (bit_at w i) 0 (run.below i (omega (arith, to)))) (λ i from to.
+    let at : first + (i - first) ≡ i = omega (arith, from) in
+    is_one (bit_at w i) 1 (ap (bit_at w) (sym at) ∙ run.ones (i - first) (omega (arith, from, to)))) (λ i from. is_one (bit_at w i) 0 (run.above i (omega (arith, from)))))
+
+-- no word has more ones than bits
+ones_few : (w : ℕ) → w < 2 ^ 64 → count_ones w ≤ 64
+ones_few w small =
+    let bits = word_bits 0 in
+    let below = subst (λ n. w < 2 ^ n) (sym (length-word_bits 0)) small in
+    omega (arith, ones_in_word w bits below, at_set-short (low_bits w (length bits)) bits, length-word_bits 0)
+
+-- from its lowest set bit on it is a word of as many ones as it has
+pub run_of_ones : (w : ℕ) → 0 < count_ones w → w < 2 ^ 64 → w / 2 ^ trailing_zeros w64 w ≡ (2 ^ 64 - 1) / 2 ^ (64 - count_ones w) → IsRunOf w (trailing_zeros w64 w) (count_ones w)
+run_of_ones w some small same =
+    let first = trailing_zeros w64 w in
+    let ones = count_ones w in
+    let few = ones_few w small in
+    let shifted : (k : ℕ) → bit_at w (first + k) ≡ bit_at (2 ^ 64 - 1) (64 - ones + k) = λ k. sym (bit_at-shr w first k) ∙ (ap (λ v. bit_at v k) same ∙ bit_at-shr (2 ^ 64 - 1) (64 - ones) k) in
+    record {
+      some = some;
+      below = (drops_lowest w (omega (arith, some, ones_le_self w)) small).below;
+      ones = λ k within. shifted k ∙ bit_at_ones 64 (64 - ones + k) (omega (arith, within, few));
+      above = λ k from.
+          let at : first + (k - first) ≡ k = omega (arith, from) in
+          ap (bit_at w) (sym at) ∙ (shifted (k - first) ∙ bit_at_above (2 ^ 64 - 1) 64 (64 - ones + (k - first)) (omega arith) (omega (arith, from, few)));
+    }
 
 -- ---- one step of a loop
 

@@ -1,5 +1,6 @@
 -- Rows of columns that a mask keeps, and values and bits at which a mask is set.
-use Rattle.std.specs.Prelude.{◌≡◌, ℕ, Bool, List, [], ◌∷◌, Some, length, slice_get, take, if◌then◌else◌}
+use Rattle.std.specs.Prelude.{◌≡◌, ◌+◌, ◌<◌, ◌≤◌, ℕ, Bool, List, [], ◌∷◌, Some, length, slice_get, take, if◌then◌else◌}
+use Rattle.std.specs.Int.{bit_at}
 use Rattle.std.specs.List.{All}
 use Rattle.arrow_types.specs.Fits.{Fits}
 use Rattle.arrow_types.specs.Rows.{select}
@@ -28,3 +29,10 @@ set_in_word word xs = at_set (low_bits word (length xs)) xs
 -- the bits of a word, from the least significant one on
 unfoldable pub word_bits : ℕ → List Bool
 word_bits word = low_bits word 64
+
+-- the set bits of a word, of which there is one at least, are so many from a place on, one behind the other
+pub record IsRunOf (word first count : ℕ) : Type 0 where
+  pub some : 0 < count
+  pub below : (k : ℕ) → k < first → bit_at word k ≡ 0
+  pub ones : (k : ℕ) → k < count → bit_at word (first + k) ≡ 1
+  pub above : (k : ℕ) → first + count ≤ k → bit_at word k ≡ 0

@@ -6,7 +6,7 @@ use Rattle.std.proofs.lemmas.Nat.{and_le_r}
 use Rattle.std.proofs.lemmas.Nat.Bits.{shr_and_one}
 use Rattle.arrow_memory.specs.Words.{word_of}
 use Rattle.arrow_select.specs.Selected.{set_in_word, word_bits}
-use Rattle.arrow_select.proofs.BitLemmas.{word_more}
+use Rattle.arrow_memory.proofs.BitLemmas.{word_more}
 use Rattle.arrow_select.proofs.SetLemmas.{lowest_bit, room_for_bit, set_in_full_word, set_in_zero, some_left, some_more}
 use Rattle.arrow_select.proofs.filter.words.gathered.Goals as goal
 
