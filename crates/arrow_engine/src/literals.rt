@@ -1,15 +1,13 @@
 //! Arrays and numbers as lines write them: `i32[..]`, `bool[..]`, `utf8[..]` and `-7`.
 
 ghost use Rattle.std.specs.Prelude.{◌≡◌, ◌<◌, length};
-ghost use Rattle.arrow_types.specs.Rows.{valid_at};
-ghost use Rattle.arrow_flat.specs.Parts.{rows_by};
 ghost use Rattle.arrow_arrays.specs.Any.{any_array_type, layout_of};
 ghost use Rattle.arrow_arrays.specs.Layout.{rows, type_of_layout};
 ghost use Rattle.arrow_engine.specs.Written.{IsWritten};
 
 use crate::text::split_outside_quotes;
 use arrow_arrays::array::AnyArray;
-use arrow_flat::array::{AnyPrimitive, BooleanArray, FlatArray, PrimitiveArray, Utf8Array, Values};
+use arrow_flat::array::{AnyPrimitive, BooleanArray, PrimitiveArray, Utf8Array};
 use arrow_memory::bitmap::Bitmap;
 use arrow_memory::buffer::Buffer;
 use arrow_memory::offset::Offsets;
@@ -306,24 +304,14 @@ impl WrittenArray {
         requires { i < length (rows self.now) }
     {
         match self.as_array() {
-            AnyArray::Primitive(AnyPrimitive::Int32(array)) if is_valid(array, i) => {
+            AnyArray::Primitive(AnyPrimitive::Int32(array)) if array.is_valid(i) => {
                 Row::Number(array.value(i))
             }
-            AnyArray::Boolean(array) if is_valid(array, i) => Row::Truth(array.value(i)),
-            AnyArray::Utf8(array) if is_valid(array, i) => Row::Text(array.value(i)),
+            AnyArray::Boolean(array) if array.is_valid(i) => Row::Truth(array.value(i)),
+            AnyArray::Utf8(array) if array.is_valid(i) => Row::Text(array.value(i)),
             _ => Row::Null,
         }
     }
-}
-
-/// Whether row `i` is valid.
-fn is_valid<V: Values>(array: &FlatArray<V>, i: usize) -> bool
-    requires { i < length (rows_by V.slots array.now) }
-    ensures value { result ≡ valid_at array.now.validity i }
-    ensures within { i < length (V.slots array.now.values) }
-{
-    prove!(i < array.len());
-    array.is_valid(i)
 }
 
 /// Prints an array as it is read, with `_` for each null.
