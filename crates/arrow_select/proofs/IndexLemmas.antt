@@ -1,17 +1,21 @@
 -- Rows by index: what is stored by index, under the validity by index.
-use Rattle.std.proofs.Common.{arith, ◌≡◌, ℕ, suc, ◌<◌, ℤ, pos, negsuc, Bool, true, false, not, Option, Some, None, List, [], ◌∷◌, ◌++◌, ◌+◌, ◌≤◌, ◌&&◌, length, map, take, get_or, replicate, if◌then◌else◌, refl, ap, sym, subst, ◌∙◌, append_assoc}
-use Rattle.std.specs.Prelude.{slice_get, slice_index_or, option_map, unwrap_or}
+use Rattle.std.proofs.Common.{arith, ◌≡◌, ◌/◌, ◌^◌, ◌==◌, ℕ, suc, ◌<◌, ℤ, pos, negsuc, Bool, true, false, not, Option, Some, None, List, [], ◌∷◌, ◌++◌, ◌+◌, ◌≤◌, ◌&&◌, length, map, take, take-add, get_or, nat_eq, bit_and, replicate, if◌then◌else◌, refl, ap, sym, subst, ◌∙◌, append_assoc}
+use Rattle.std.specs.Prelude.{IfSome, slice_get, slice_index_or, option_map, unwrap_or}
+use Rattle.std.specs.Int.{bit_at}
 use Rattle.std.specs.List.{All}
 use Rattle.std.proofs.lemmas.List.{get_or-replicate, get_or_default, length-map, length-replicate, map-append, take_all}
 use Rattle.std.proofs.lemmas.Simd.{map-map}
+use Rattle.std.proofs.lemmas.Nat.Bits.{shr_and_one}
 use Rattle.std.proofs.lemmas.Option.{get_or_from_slice_get, slice_get-get_or, slice_get-map, slice_get_read, slice_get_within}
 use Rattle.arrow_types.specs.ArrowType.{ArrowType}
 use Rattle.arrow_types.specs.Relation.{is_null}
 use Rattle.arrow_types.specs.Rows.{gather, gathered, mask, masked, valid_at}
 use Rattle.arrow_types.specs.Slot.{Slot, Null, Boolean, Number, DayTime, MonthDayNano, Bytes, Text, Items, Parts as fields, Dict, Variant, null_slot}
 use Rattle.arrow_types.proofs.RowsLemmas.{slice_get-mask, take_at_read}
+use Rattle.arrow_memory.specs.Sliced.{sliced}
 use Rattle.arrow_flat.specs.Parts.{FitsRows, IsValue}
-use Rattle.arrow_flat.proofs.PartsLemmas.{length-masked}
+use Rattle.arrow_flat.proofs.PartsLemmas.{bit_within, length-masked, row_at}
+use Rattle.arrow_flat.proofs.PieceLemmas.{slot_of_row}
 use Rattle.arrow_arrays.specs.KeyedParts.{AreKeys, IsKey, key_in}
 use Rattle.arrow_arrays.proofs.KeyLemmas.{null_row, number_row}
 use Rattle.arrow_select.specs.Taken.{MarksTaken, is_taken_valid, named_bit, picked, place_in, valid_index}
@@ -180,6 +184,13 @@ module _ {I : Type 0} (slot : I → Slot) (number : I → ℤ) (is : (x : I) →
   pub row_within : i < length (masked v (map slot keys))
   row_within = omega (arith, within, length-map keys slot, length-masked v (map slot keys) slots_fit)
 
+  -- by its bit in a word of the validity
+  pub row_by_bit : (x : I) (word k : ℕ) → (IfSome v (λ bits. i < length bits) → (bit_at word k == 1) ≡ valid_at v i) → x ≡ get_or keys i x → (if nat_eq (bit_and (word / 2 ^ k) 1) 1 then slot x else Null) ≡ get_or (masked v (map slot keys)) i Null
+  row_by_bit x word k marks read =
+      let bit = ap (λ b. nat_eq b 1) (shr_and_one word k) ∙ marks (bit_within v (length keys) i fits within) in
+      let stored = slot_of_row slot keys i x (slice_get_read keys (length keys) i x refl within read) in
+      (λ t. if bit t then sym stored t else Null) ∙ sym (row_at v (map slot keys) i slots_fit (omega (arith, within, length-map keys slot)))
+
   pub number_at : (x : I) → true ≡ valid_at v i → x ≡ get_or keys i x → get_or (masked v (map slot keys)) i Null ≡ Number (number x)
   number_at x valid read =
       number_row slot number is v keys i x slots_fit row_within valid (slice_get_read keys (length keys) i x refl within read)
@@ -192,6 +203,12 @@ pub gives_next : {A : Type 0} (f : Slot → A) (old done : List A) (indices : Li
 gives_next f old done indices i x within is so_far =
     let next = take_at_read indices i _ (slice_get-get_or indices i Null within) in
     (λ j. so_far j ++ is j ∷ []) ∙ (append_assoc old (map f (take i indices)) (f (get_or indices i Null) ∷ []) ∙ ap (λ ys. old ++ ys) (sym (map-append f (take i indices) (get_or indices i Null ∷ [])) ∙ ap (map f) (sym next)))
+
+-- and so many more
+pub gives_more : {A : Type 0} (f : Slot → A) (old done new : List A) (indices : List Slot) (i place count : ℕ) → place ≡ i → new ≡ done ++ map f (sliced indices place count) → done ≡ old ++ map f (take i indices) → new ≡ old ++ map f (take (i + count) indices)
+gives_more f old done new indices i place count here more so_far =
+    let next = ap (λ p. map f (sliced indices p count)) here in
+    more ∙ ((λ j. so_far j ++ next j) ∙ (append_assoc old (map f (take i indices)) (map f (sliced indices i count)) ∙ ap (λ ys. old ++ ys) (sym (map-append f (take i indices) (sliced indices i count)) ∙ ap (map f) (sym (take-add i count indices)))))
 
 -- and of all
 pub gives_all : {A : Type 0} (f : Slot → A) (old done : List A) (indices : List Slot) (i : ℕ) → length indices ≤ i → done ≡ old ++ map f (take i indices) → done ≡ old ++ map f indices

@@ -1,6 +1,7 @@
 //! Indices of rows, and what they name of what stores the rows.
 
-ghost use Rattle.std.specs.Prelude.{◌≡◌, ◌+◌, ◌<◌, ◌≤◌, [], ◌++◌, false, length, map, replicate, slice_index_or, option_copied, IfOk, IfSome, IsOkUnless, OnOk};
+ghost use Rattle.std.specs.Prelude.{◌≡◌, ◌+◌, ◌*◌, ◌<◌, ◌≤◌, ◌==◌, ℕ, [], ◌++◌, false, length, map, replicate, slice_index_or, option_copied, if◌then◌else◌, IfOk, IfSome, IsOkUnless, OnOk};
+ghost use Rattle.std.specs.Int.{bit_at};
 ghost use Rattle.std.specs.Vec.{vec_len, vec_capacity};
 ghost use Rattle.arrow_types.specs.declared.error.Error.{Error};
 ghost use Rattle.arrow_types.specs.Rows.{masked, valid_at};
@@ -8,7 +9,7 @@ ghost use Rattle.arrow_types.specs.Slot.{Null};
 ghost use Rattle.arrow_flat.specs.Parts.{FitsRows, MarksNulls, rows_by};
 ghost use Rattle.arrow_memory.specs.Sliced.{sliced};
 ghost use Rattle.arrow_memory.specs.Words.{low_bits};
-ghost use Rattle.arrow_arrays.specs.KeyedParts.{AreKeys, IsKeyIn, key_in};
+ghost use Rattle.arrow_arrays.specs.KeyedParts.{AreKeys, IsKey, IsKeyIn, key_in};
 ghost use Rattle.arrow_select.specs.Taken.{MarksTaken, named_bit, picked, valid_index};
 
 use arrow_flat::array::PrimitiveArray;
@@ -80,7 +81,7 @@ fn zeros<T: NativeType>(alloc: Global, count: usize) -> Result<Vec<T>, Error>
     Ok(values)
 }
 
-/// Appends the values that the indices name. There is room for them.
+/// Appends the values that the indices name, 64 at a time. There is room for them.
 fn append_values<T: NativeType, I: Index>(
     taken: &mut Vec<T>,
     values: &[T],
@@ -93,9 +94,60 @@ fn append_values<T: NativeType, I: Index>(
     requires inside { AreKeys (length values.now) (masked (option_copied validity) (map I.slot stored.now)) }
     ensures { taken.new.items ≡ taken.old.items ++ map (picked values.now T.zero) (masked (option_copied validity.entry) (map I.slot stored.now)) }
 {
-    for row in 0..stored.len() {
-        taken.push_reserved(values[index_at(stored, validity, row).unwrap_or(0)]);
+    let mut row = 0;
+    while row < stored.len() {
+        let count = WORD_BITS.min(stored.len() - row);
+        append_word(taken, values, stored, validity, row / WORD_BITS, count);
+        row += count;
     }
+}
+
+/// Appends the values that `count` indices from index `64 * j` on name. There is room for them, and no branch depends on a
+/// bit.
+fn append_word<T: NativeType, I: Index>(
+    taken: &mut Vec<T>,
+    values: &[T],
+    stored: &[I],
+    validity: Option<&Bitmap>,
+    j: usize,
+    count: usize,
+)
+    requires some { 0 < length values.now }
+    requires room { vec_len taken.old + count ≤ vec_capacity taken.old }
+    requires fits { FitsRows (option_copied validity) (length stored.now) }
+    requires within { 64 * j + count ≤ length stored.now }
+    requires in_word { count ≤ 64 }
+    requires inside { AreKeys (length values.now) (masked (option_copied validity) (map I.slot stored.now)) }
+    ensures items { taken.new.items ≡ taken.old.items ++ map (picked values.now T.zero) (sliced (masked (option_copied validity.entry) (map I.slot stored.now)) (64 * j) count) }
+    ensures len { vec_len taken.new ≡ vec_len taken.old + count }
+    ensures capacity { vec_capacity taken.new ≡ vec_capacity taken.old }
+{
+    let word = valid_word(validity, j);
+    let start = WORD_BITS * j;
+    for k in 0..count {
+        taken.push_reserved(value_at(values, stored[start + k], word >> k & 1 == 1));
+    }
+}
+
+/// Which of the 64 rows from row `64 * j` on are valid, a bit each.
+fn valid_word(validity: Option<&Bitmap>, j: usize) -> u64
+    ensures { (k : ℕ) → k < 64 → IfSome (option_copied validity.entry) (λ bits. 64 * j + k < length bits) → (bit_at result k == 1) ≡ valid_at (option_copied validity.entry) (64 * j + k) }
+{
+    match validity {
+        Some(bits) => bits.word(j),
+        None => u64::MAX,
+    }
+}
+
+/// The value that an index names, and the first one where it is null. What is stored beneath a null does not count: the
+/// index is chosen before it is turned into a place, so that the test is a choice of values and no branch.
+fn value_at<T: NativeType, I: Index>(values: &[T], index: I, is_valid: bool) -> T
+    requires some { 0 < length values.now }
+    requires inside { IsKey (length values.now) (if is_valid then I.slot index else Null) }
+    ensures { result ≡ picked values.now T.zero (if is_valid then I.slot index else Null) }
+{
+    let index = if is_valid { index } else { I::default() };
+    values[index.to_usize()]
 }
 
 /// The bits that the indices name; for a null index one that is not set.
