@@ -7,11 +7,19 @@ mod utils;
 mod words;
 
 #[test]
-fn logic(rt: HostRuntime) {
+fn truth_tables(rt: HostRuntime) {
     tables::check_tables(&rt);
     tables::check_scalars(&rt);
     tables::check_not(&rt);
+}
+
+#[test]
+fn rows_in_words(rt: HostRuntime) {
     words::check_words(&rt);
+}
+
+#[test]
+fn each_row_and_nulls(rt: HostRuntime) {
     each::check_any_and_all(&rt);
     nulls::check_nulls(&rt);
     utils::check_validities(&rt);

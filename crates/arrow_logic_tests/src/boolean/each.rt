@@ -5,7 +5,7 @@ use arrow_flat::array::BooleanArray;
 use arrow_flat_fixture::arrays::truths;
 use arrow_logic::{boolean, boolean_kleene};
 use arrow_types::error::Error;
-use arrow_types_fixture::{check, made};
+use arrow_types_fixture::check;
 use std::alloc::Global;
 use std::process::Abort;
 
@@ -56,34 +56,66 @@ fn check_both(rt: &impl Abort, array: &BooleanArray, any: bool, all: bool, case:
     check!(rt; boolean_kleene::all(array) == all, case);
 }
 
+/// Rows by their letters, from one on, and what is said of them.
+fn try_letters(
+    rt: &(impl Abort + Alloc<A = Global>),
+    letters: &[u8],
+    skipped: usize,
+    len: usize,
+    wants: [bool; 2],
+) -> Result<(), Error> {
+    let array = from_row(rt, truths(rt.alloc(), letters)?, skipped, len);
+    let [some, each] = wants;
+    check_both(rt, &array, some, each, skipped);
+    Ok(())
+}
+
 /// One letter among others, and what is said of them.
-fn check_one(
+fn try_one(
     rt: &(impl Abort + Alloc<A = Global>),
     skipped: usize,
     place: usize,
     letters: [u8; 2],
     wants: [bool; 2],
-) {
+) -> Result<(), Error> {
     let [letter, other] = letters;
-    let all = made!(rt; one_among(rt.alloc(), skipped, place, letter, other));
-    let array = from_row(rt, made!(rt; truths(rt.alloc(), &all)), skipped, LEN);
-    let [some, each] = wants;
-    check_both(rt, &array, some, each, place);
+    let all = one_among(rt.alloc(), skipped, place, letter, other)?;
+    try_letters(rt, &all, skipped, LEN, wants)
+}
+
+/// Each pair of letters, at a place.
+fn try_place(
+    rt: &(impl Abort + Alloc<A = Global>),
+    skipped: usize,
+    place: usize,
+) -> Result<(), Error> {
+    try_one(rt, skipped, place, [b't', b'f'], [true, false])?;
+    try_one(rt, skipped, place, [b't', b'T'], [true, false])?;
+    try_one(rt, skipped, place, [b'T', b'f'], [false, false])?;
+    try_one(rt, skipped, place, [b'f', b't'], [true, false])?;
+    try_one(rt, skipped, place, [b'T', b't'], [true, false])?;
+    try_one(rt, skipped, place, [b't', b't'], [true, true])
+}
+
+/// All places, behind so many rows.
+fn try_places(rt: &(impl Abort + Alloc<A = Global>), skipped: usize) -> Result<(), Error> {
+    for place in &PLACES {
+        try_place(rt, skipped, *place)?;
+    }
+    Ok(())
+}
+
+/// Few rows.
+fn try_cases(rt: &(impl Abort + Alloc<A = Global>)) -> Result<(), Error> {
+    for (letters, any, all) in &CASES {
+        try_letters(rt, letters, 0, letters.len(), [*any, *all])?;
+    }
+    Ok(())
 }
 
 pub fn check_any_and_all(rt: &(impl Abort + Alloc<A = Global>)) {
-    for (letters, any, all) in &CASES {
-        let array = made!(rt; truths(rt.alloc(), letters));
-        check_both(rt, &array, *any, *all, letters.len());
-    }
+    tried!(rt; try_cases(rt));
     for skipped in [0, 1, 7, 63] {
-        for place in &PLACES {
-            check_one(rt, skipped, *place, [b't', b'f'], [true, false]);
-            check_one(rt, skipped, *place, [b't', b'T'], [true, false]);
-            check_one(rt, skipped, *place, [b'T', b'f'], [false, false]);
-            check_one(rt, skipped, *place, [b'f', b't'], [true, false]);
-            check_one(rt, skipped, *place, [b'T', b't'], [true, false]);
-            check_one(rt, skipped, *place, [b't', b't'], [true, true]);
-        }
+        tried!(rt; try_places(rt, skipped), skipped);
     }
 }

@@ -31,13 +31,13 @@ pub const TABLES: [(Kernel, &[u8]); 4] = [
     (Kernel::KleeneOr, b"ttttf_t__"),
 ];
 
-/// Both sides of these pairs.
-const LEFT: &[u8] = b"tttfff___";
-
-const RIGHT: &[u8] = b"tf_tf_tf_";
-
-/// Rows of both sides, and what the four kernels answer in the order of the tables.
-const CASES: [(&[u8], &[u8], [&[u8]; 4]); 3] = [
+/// Rows of both sides, and what the four kernels answer in the order of the tables. The first have each pair of them.
+const CASES: [(&[u8], &[u8], [&[u8]; 4]); 4] = [
+    (
+        b"tttfff___",
+        b"tf_tf_tf_",
+        [b"tf_ff____", b"tt_tf____", b"tf_fff_f_", b"ttttf_t__"],
+    ),
     (b"ft_", b"ttf", [b"ft_", b"tt_", b"ftf", b"tt_"]),
     (b"tf_", b"___", [b"___", b"___", b"_f_", b"t__"]),
     (b"", b"", [b"", b"", b"", b""]),
@@ -129,90 +129,128 @@ fn rows_over(
     )
 }
 
-/// A kernel answers these rows, of type Boolean.
-pub fn check_answer(
+/// The kernels answer these rows, of type Boolean.
+fn try_kernels(
     rt: &(impl Abort + Alloc<A = Global>),
-    kernel: Kernel,
     lhs: &BooleanArray,
     rhs: &BooleanArray,
-    want: &[u8],
-) {
-    let answer = made!(rt; call(rt, kernel, lhs, rhs));
-    check!(rt; answer == made!(rt; truths(rt.alloc(), want)), kernel);
+    wants: &[&[u8]],
+) -> Result<(), Error> {
+    for ((kernel, _), want) in TABLES.iter().zip(wants) {
+        let want = truths(rt.alloc(), want)?;
+        check!(rt; call(rt, *kernel, lhs, rhs)? == want, *kernel);
+    }
+    Ok(())
+}
+
+/// Rows over such nulls, or of an extension of the type.
+fn try_rows(
+    rt: &(impl Abort + Alloc<A = Global>),
+    sides: (&[u8], &[u8]),
+    wants: &[&[u8]],
+    nulls: (u8, u8),
+    is_named: bool,
+) -> Result<(), Error> {
+    let lhs = rows_over(rt.alloc(), sides.0, nulls.0, is_named)?;
+    let rhs = rows_over(rt.alloc(), sides.1, nulls.1, is_named)?;
+    try_kernels(rt, &lhs, &rhs, wants)
 }
 
 /// Rows over each kind of null, and of an extension of the type.
-fn check_rows(
+fn try_case(
     rt: &(impl Abort + Alloc<A = Global>),
-    kernel: Kernel,
-    left: &[u8],
-    right: &[u8],
-    want: &[u8],
-) {
-    for (null, other_null) in [(b'T', b'T'), (b'T', b'F'), (b'F', b'T'), (b'F', b'F')] {
-        for is_named in [false, true] {
-            let lhs = made!(rt; rows_over(rt.alloc(), left, null, is_named));
-            let rhs = made!(rt; rows_over(rt.alloc(), right, other_null, is_named));
-            check_answer(rt, kernel, &lhs, &rhs, want);
-        }
+    sides: (&[u8], &[u8]),
+    wants: &[&[u8]],
+) -> Result<(), Error> {
+    for nulls in [(b'T', b'T'), (b'T', b'F'), (b'F', b'T'), (b'F', b'F')] {
+        try_rows(rt, sides, wants, nulls, false)?;
+        try_rows(rt, sides, wants, nulls, true)?;
     }
+    Ok(())
 }
 
 pub fn check_tables(rt: &(impl Abort + Alloc<A = Global>)) {
-    for (kernel, table) in &TABLES {
-        check_rows(rt, *kernel, LEFT, RIGHT, table);
-    }
     for (left, right, wants) in &CASES {
-        for ((kernel, _), want) in TABLES.iter().zip(wants) {
-            check_rows(rt, *kernel, left, right, want);
-        }
+        let sides = (*left, *right);
+        tried!(rt; try_case(rt, sides, wants), *left);
     }
 }
 
 /// Each row of an array with a scalar of this letter.
-fn check_scalar(
+fn try_scalar(
     rt: &(impl Abort + Alloc<A = Global>),
     kernel: Kernel,
     array: &BooleanArray,
     scalar: u8,
     want: &[u8],
-) {
+) -> Result<(), Error> {
+    let want = truths(rt.alloc(), want)?;
     let scalar = BooleanScalar::new(row_of(scalar));
-    let answer = made!(rt; call_scalar(rt.alloc(), kernel, array, &scalar));
-    check!(rt; answer == made!(rt; truths(rt.alloc(), want)), kernel);
+    check!(rt; call_scalar(rt.alloc(), kernel, array, &scalar)? == want, kernel);
+    Ok(())
+}
+
+/// The same of rows by their letters.
+fn try_letters(
+    rt: &(impl Abort + Alloc<A = Global>),
+    kernel: Kernel,
+    letters: &[u8],
+    scalar: u8,
+    want: &[u8],
+) -> Result<(), Error> {
+    let array = truths(rt.alloc(), letters)?;
+    try_scalar(rt, kernel, &array, scalar, want)
+}
+
+/// The same of rows over such nulls, or of an extension of the type.
+fn try_over(
+    rt: &(impl Abort + Alloc<A = Global>),
+    kernel: Kernel,
+    null: u8,
+    is_named: bool,
+    scalar: u8,
+    want: &[u8],
+) -> Result<(), Error> {
+    let array = rows_over(rt.alloc(), b"tf_", null, is_named)?;
+    try_scalar(rt, kernel, &array, scalar, want)
 }
 
 /// The rows t, f and _ with a scalar, as the table says.
-fn check_column(rt: &(impl Abort + Alloc<A = Global>), kernel: Kernel, table: &[u8], scalar: u8) {
+fn try_column(
+    rt: &(impl Abort + Alloc<A = Global>),
+    kernel: Kernel,
+    table: &[u8],
+    scalar: u8,
+) -> Result<(), Error> {
     let want = [
         looked_up(table, b't', scalar),
         looked_up(table, b'f', scalar),
         looked_up(table, b'_', scalar),
     ];
     for null in [b'T', b'F'] {
-        for is_named in [false, true] {
-            let array = made!(rt; rows_over(rt.alloc(), b"tf_", null, is_named));
-            check_scalar(rt, kernel, &array, scalar, &want);
-        }
+        try_over(rt, kernel, null, false, scalar, &want)?;
+        try_over(rt, kernel, null, true, scalar, &want)?;
     }
     // without a validity, and without the first row
-    let array = made!(rt; truths(rt.alloc(), b"tf"));
-    check_scalar(rt, kernel, &array, scalar, &want[..2]);
-    let array = from_row(rt, array, 1, 1);
-    check_scalar(rt, kernel, &array, scalar, &want[1..2]);
+    try_letters(rt, kernel, b"tf", scalar, &want[..2])?;
+    let array = from_row(rt, truths(rt.alloc(), b"tf")?, 1, 1);
+    try_scalar(rt, kernel, &array, scalar, &want[1..2])
+}
+
+/// All rows of all tables.
+fn try_columns(rt: &(impl Abort + Alloc<A = Global>)) -> Result<(), Error> {
+    for (kernel, table) in &TABLES {
+        for scalar in b"tf_" {
+            try_column(rt, *kernel, table, *scalar)?;
+        }
+    }
+    try_letters(rt, Kernel::Or, b"fftt", b't', b"tttt")?;
+    try_letters(rt, Kernel::KleeneOr, b"tf_", b'f', b"tf_")?;
+    try_letters(rt, Kernel::KleeneAnd, b"tf_", b'_', b"_f_")
 }
 
 pub fn check_scalars(rt: &(impl Abort + Alloc<A = Global>)) {
-    for (kernel, table) in &TABLES {
-        for scalar in b"tf_" {
-            check_column(rt, *kernel, table, *scalar);
-        }
-    }
-    let array = made!(rt; truths(rt.alloc(), b"fftt"));
-    check_scalar(rt, Kernel::Or, &array, b't', b"tttt");
-    let array = made!(rt; truths(rt.alloc(), b"tf_"));
-    check_scalar(rt, Kernel::KleeneOr, &array, b'f', b"tf_");
-    check_scalar(rt, Kernel::KleeneAnd, &array, b'_', b"_f_");
+    tried!(rt; try_columns(rt));
 }
 
 pub fn check_not(rt: &(impl Abort + Alloc<A = Global>)) {

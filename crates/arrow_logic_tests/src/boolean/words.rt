@@ -1,11 +1,12 @@
-//! Rows that begin anywhere in a word, and go on past it.
+//! Rows that begin anywhere in a word, and go on past it. All are parts of two arrays that are made once.
 
-use crate::boolean::tables::{TABLES, check_answer, looked_up};
+use crate::boolean::tables::{TABLES, call, looked_up};
 use arrow_flat::array::BooleanArray;
 use arrow_flat_fixture::arrays::truths;
 use arrow_logic::boolean;
+use arrow_types::datatypes::DataType;
 use arrow_types::error::Error;
-use arrow_types_fixture::{check, made};
+use arrow_types_fixture::check;
 use std::alloc::Global;
 use std::process::Abort;
 
@@ -16,6 +17,12 @@ const LENGTHS: [usize; 6] = [0, 1, 63, 64, 65, 130];
 const STARTS: usize = 9;
 
 const OTHER_STARTS: [usize; 3] = [0, 3, 8];
+
+/// What is turned of each letter; the other pairs do not come.
+const TURNED: &[u8] = b"f---t---_";
+
+/// How many rows there are of which each part is taken.
+const ALL: usize = 140;
 
 /// Letters of either side, over and over, with nulls and without: the lengths of the runs have no common factor.
 const SIDES: [(&[u8], &[u8]); 4] = [
@@ -33,87 +40,140 @@ pub fn from_row(rt: &impl Abort, array: BooleanArray, start: usize, len: usize) 
     array.sliced(start, len)
 }
 
-/// So many letters that come over and over.
-fn letters_of(alloc: Global, letters: &[u8], len: usize) -> Result<Vec<u8>, Error> {
-    let mut all = Vec::with_capacity(alloc, len)?;
-    for letter in letters.iter().cycle().take(len) {
-        all.push(*letter)?;
-    }
-    Ok(all)
-}
-
-/// Rows of such letters, from one on.
-fn rows_of(
-    rt: &(impl Abort + Alloc<A = Global>),
-    letters: &[u8],
+/// The same of a clone.
+fn part_of(
+    rt: &impl Abort,
+    array: &BooleanArray,
     start: usize,
     len: usize,
-) -> BooleanArray {
-    let all = made!(rt; letters_of(rt.alloc(), letters, 140));
-    from_row(rt, made!(rt; truths(rt.alloc(), &all)), start, len)
+) -> Result<BooleanArray, Error> {
+    Ok(from_row(rt, array.clone()?, start, len))
 }
 
-/// What a table says of each pair of letters.
-fn want_of(
-    alloc: Global,
+/// All rows of such letters.
+fn rows_of(alloc: Global, letters: &[u8]) -> Result<BooleanArray, Error> {
+    let mut all = Vec::with_capacity(alloc, ALL)?;
+    for letter in letters.iter().cycle().take(ALL) {
+        all.push(*letter)?;
+    }
+    truths(alloc, &all)
+}
+
+/// The letter of a row.
+fn letter_at(array: &BooleanArray, row: usize) -> u8 {
+    if row >= array.len() {
+        b'-'
+    } else if !array.is_valid(row) {
+        b'_'
+    } else if array.value(row) {
+        b't'
+    } else {
+        b'f'
+    }
+}
+
+/// An answer is of type Boolean, and has what a table says of each pair of letters.
+fn check_rows(
+    rt: &impl Abort,
+    answer: &BooleanArray,
     table: &[u8],
     sides: (&[u8], &[u8]),
     starts: (usize, usize),
     len: usize,
-) -> Result<Vec<u8>, Error> {
-    let mut want = Vec::with_capacity(alloc, len)?;
+) {
+    check!(rt; *answer.data_type() == DataType::Boolean);
+    check!(rt; answer.len() == len, starts);
     let left = sides.0.iter().cycle().skip(starts.0);
     let right = sides.1.iter().cycle().skip(starts.1);
+    let mut row = 0usize;
     for (left, right) in left.zip(right).take(len) {
-        want.push(looked_up(table, *left, *right))?;
+        check!(rt; letter_at(answer, row) == looked_up(table, *left, *right), starts);
+        row = row.saturating_add(1);
     }
-    Ok(want)
+}
+
+/// All kernels of these rows.
+fn try_tables(
+    rt: &(impl Abort + Alloc<A = Global>),
+    lhs: &BooleanArray,
+    rhs: &BooleanArray,
+    sides: (&[u8], &[u8]),
+    starts: (usize, usize),
+) -> Result<(), Error> {
+    for (kernel, table) in &TABLES {
+        let answer = call(rt, *kernel, lhs, rhs)?;
+        check_rows(rt, &answer, table, sides, starts, lhs.len());
+    }
+    Ok(())
 }
 
 /// All kernels of rows that begin in different places.
-fn check_sides(
+fn try_parts(
     rt: &(impl Abort + Alloc<A = Global>),
+    lhs: &BooleanArray,
+    rhs: &BooleanArray,
     sides: (&[u8], &[u8]),
     starts: (usize, usize),
     len: usize,
-) {
-    let lhs = rows_of(rt, sides.0, starts.0, len);
-    let rhs = rows_of(rt, sides.1, starts.1, len);
-    for (kernel, table) in &TABLES {
-        let want = made!(rt; want_of(rt.alloc(), table, sides, starts, len));
-        check_answer(rt, *kernel, &lhs, &rhs, &want);
-    }
+) -> Result<(), Error> {
+    let lhs = part_of(rt, lhs, starts.0, len)?;
+    let rhs = part_of(rt, rhs, starts.1, len)?;
+    try_tables(rt, &lhs, &rhs, sides, starts)
 }
 
-/// Such rows turned.
-fn turned_of(alloc: Global, letters: &[u8], start: usize, len: usize) -> Result<Vec<u8>, Error> {
-    let mut turned = Vec::with_capacity(alloc, len)?;
-    for letter in letters.iter().cycle().skip(start).take(len) {
-        turned.push(match letter {
-            b't' => b'f',
-            b'f' => b't',
-            _ => b'_',
-        })?;
-    }
-    Ok(turned)
+/// Rows are turned: nulls stay.
+fn try_turned(
+    rt: &(impl Abort + Alloc<A = Global>),
+    array: &BooleanArray,
+    letters: &[u8],
+    start: usize,
+    len: usize,
+) -> Result<(), Error> {
+    let array = part_of(rt, array, start, len)?;
+    let answer = boolean::not(rt.alloc(), &array)?;
+    check_rows(rt, &answer, TURNED, (letters, letters), (start, start), len);
+    Ok(())
 }
 
-fn check_turned(rt: &(impl Abort + Alloc<A = Global>), letters: &[u8], start: usize, len: usize) {
-    let array = rows_of(rt, letters, start, len);
-    let answer = made!(rt; boolean::not(rt.alloc(), &array));
-    let want = made!(rt; turned_of(rt.alloc(), letters, start, len));
-    check!(rt; answer == made!(rt; truths(rt.alloc(), &want)), start);
+/// Rows that begin in each place.
+fn try_starts(
+    rt: &(impl Abort + Alloc<A = Global>),
+    lhs: &BooleanArray,
+    rhs: &BooleanArray,
+    sides: (&[u8], &[u8]),
+    len: usize,
+) -> Result<(), Error> {
+    for start in 0..STARTS {
+        try_turned(rt, lhs, sides.0, start, len)?;
+        for other_start in &OTHER_STARTS {
+            try_parts(rt, lhs, rhs, sides, (start, *other_start), len)?;
+        }
+    }
+    Ok(())
+}
+
+/// Rows of each length.
+fn try_lengths(
+    rt: &(impl Abort + Alloc<A = Global>),
+    lhs: &BooleanArray,
+    rhs: &BooleanArray,
+    sides: (&[u8], &[u8]),
+) -> Result<(), Error> {
+    for len in &LENGTHS {
+        try_starts(rt, lhs, rhs, sides, *len)?;
+    }
+    Ok(())
+}
+
+/// Rows of such letters.
+fn try_sides(rt: &(impl Abort + Alloc<A = Global>), sides: (&[u8], &[u8])) -> Result<(), Error> {
+    let lhs = rows_of(rt.alloc(), sides.0)?;
+    let rhs = rows_of(rt.alloc(), sides.1)?;
+    try_lengths(rt, &lhs, &rhs, sides)
 }
 
 pub fn check_words(rt: &(impl Abort + Alloc<A = Global>)) {
     for sides in &SIDES {
-        for len in &LENGTHS {
-            for start in 0..STARTS {
-                check_turned(rt, sides.0, start, *len);
-                for other_start in &OTHER_STARTS {
-                    check_sides(rt, *sides, (start, *other_start), *len);
-                }
-            }
-        }
+        tried!(rt; try_sides(rt, *sides), *sides);
     }
 }

@@ -286,7 +286,7 @@ fn check_word(
 
 /// Words behind others, of which the bits above are left out.
 pub fn check_words(rt: &(impl Abort + Alloc<A = Global>)) {
-    for before in [0, 1, 59, 60, 63, 64, 65] {
+    for before in [0, 1, 58, 59, 60, 63, 64, 65] {
         check_word(rt, before, u64::MAX, 0, &[]);
         check_word(
             rt,

@@ -3,7 +3,7 @@
 use crate::lent::from_row;
 use crate::select::filter::from_bit;
 use crate::select::keyed::hundred;
-use crate::select::{answered, check_answer};
+use crate::select::{refusal_of, try_letters};
 use arrow_arrays::array::AnyArray;
 use arrow_arrays_fixture::arrays::{FLATS, NESTED, Shape, array_of, boxed};
 use arrow_flat::array::BooleanArray;
@@ -52,18 +52,32 @@ fn choose(
     boxed(alloc, if_then_else(alloc, predicate, lhs, rhs)?)
 }
 
+/// The rows that are chosen of two arrays of letters, each of a shape of its own.
+fn try_case(
+    rt: &(impl Abort + Alloc<A = Global>),
+    shapes: [Shape; 2],
+    case: Case,
+    want: Result<&[u8], Error>,
+) -> Result<(), Error> {
+    let (first, letters, start, left, right, _) = case;
+    let predicate = from_bit(rt, truths(rt.alloc(), letters)?, first);
+    let lhs = from_row(rt, array_of(rt.alloc(), shapes[0], left)?, start);
+    let rhs = from_row(rt, array_of(rt.alloc(), shapes[1], right)?, start);
+    try_letters(
+        rt,
+        choose(rt.alloc(), &predicate, &lhs, &rhs),
+        shapes[0],
+        want,
+    )
+}
+
 fn check_case(
     rt: &(impl Abort + Alloc<A = Global>),
     shapes: [Shape; 2],
     case: Case,
     want: Result<&[u8], Error>,
 ) {
-    let (first, letters, start, left, right, _) = case;
-    let predicate = from_bit(rt, made!(rt; truths(rt.alloc(), letters)), first);
-    let lhs = from_row(rt, made!(rt; array_of(rt.alloc(), shapes[0], left)), start);
-    let rhs = from_row(rt, made!(rt; array_of(rt.alloc(), shapes[1], right)), start);
-    let answer = made!(rt; answered(choose(rt.alloc(), &predicate, &lhs, &rhs)));
-    check_answer(rt, answer, shapes[0], want);
+    tried!(rt; try_case(rt, shapes, case, want), shapes);
 }
 
 /// Behind a hundred values key 27 is the greatest that fits, and one that is not chosen may be greater.
@@ -76,8 +90,8 @@ fn check_crowded(
     let lhs = made!(rt; hundred(rt.alloc(), 99, "-"));
     let rhs = made!(rt; hundred(rt.alloc(), key, "-"));
     let predicate = made!(rt; truths(rt.alloc(), letters));
-    let answer = made!(rt; answered(choose(rt.alloc(), &predicate, &lhs, &rhs)));
-    check!(rt; answer.err() == refusal);
+    let answer = made!(rt; refusal_of(choose(rt.alloc(), &predicate, &lhs, &rhs)));
+    check!(rt; answer == refusal);
 }
 
 /// A letter for each row of the long predicate, by what it is.

@@ -1,7 +1,7 @@
 //! The rows of two arrays, one array behind the other.
 
 use crate::lent::from_row;
-use crate::select::{answered, check_answer};
+use crate::select::try_letters;
 use arrow_arrays::array::AnyArray;
 use arrow_arrays_fixture::arrays::{
     FLATS, ListKind, NESTED, Shape, array_of, boxed, lists_of, make_lists, make_structs, nulls,
@@ -54,6 +54,7 @@ pub fn join_two(alloc: Global, left: &AnyArray, right: &AnyArray) -> Result<Box<
     boxed(alloc, concatenate(alloc, &[left, right])?)
 }
 
+/// The rows of two arrays are these, or are refused for this reason.
 fn check_two(
     rt: &(impl Abort + Alloc<A = Global>),
     left: &AnyArray,
@@ -61,11 +62,23 @@ fn check_two(
     shape: Shape,
     want: Result<&[u8], Error>,
 ) {
-    let answer = made!(rt; answered(join_two(rt.alloc(), left, right)));
-    check_answer(rt, answer, shape, want);
+    tried!(rt; try_letters(rt, join_two(rt.alloc(), left, right), shape, want), shape);
 }
 
 /// Two arrays of rows, of each shape one.
+fn try_rows(
+    rt: &(impl Abort + Alloc<A = Global>),
+    shapes: [Shape; 2],
+    letters: [&[u8]; 2],
+    start: usize,
+    want: Result<&[u8], Error>,
+) -> Result<(), Error> {
+    let ([shape, other], [left, right]) = (shapes, letters);
+    let left = from_row(rt, array_of(rt.alloc(), shape, left)?, start);
+    let right = from_row(rt, array_of(rt.alloc(), other, right)?, start);
+    try_letters(rt, join_two(rt.alloc(), &left, &right), shape, want)
+}
+
 fn check_rows(
     rt: &(impl Abort + Alloc<A = Global>),
     shapes: [Shape; 2],
@@ -73,10 +86,13 @@ fn check_rows(
     start: usize,
     want: Result<&[u8], Error>,
 ) {
-    let ([shape, other], [left, right]) = (shapes, letters);
-    let left = from_row(rt, made!(rt; array_of(rt.alloc(), shape, left)), start);
-    let right = from_row(rt, made!(rt; array_of(rt.alloc(), other, right)), start);
-    check_two(rt, &left, &right, shape, want);
+    tried!(rt; try_rows(rt, shapes, letters, start, want), shapes);
+}
+
+/// The rows of no array are refused.
+fn check_none(rt: &(impl Abort + Alloc<A = Global>)) {
+    let want = Err(Error::InvalidArgumentError(ArgumentFault::ConcatenateEmpty));
+    tried!(rt; try_letters(rt, join_none(rt.alloc()), Shape::Null, want));
 }
 
 /// As many items as lists can have.
@@ -190,9 +206,7 @@ pub fn check_concatenate(rt: &(impl Abort + Alloc<A = Global>)) {
         let want = Error::InvalidArgumentError(ArgumentFault::ConcatenateTypes);
         check_rows(rt, *shapes, [b"1", b"a"], 0, Err(want));
     }
-    let answer = made!(rt; answered(join_none(rt.alloc())));
-    let want = Error::InvalidArgumentError(ArgumentFault::ConcatenateEmpty);
-    check_answer(rt, answer, Shape::Null, Err(want));
+    check_none(rt);
     // A part before the whole.
     let whole = made!(rt; array_of(rt.alloc(), Shape::Pairs(None), b"1_"));
     let part = made!(rt; array_of(rt.alloc(), Shape::Pairs(None), b"1_"));

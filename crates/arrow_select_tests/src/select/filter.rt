@@ -1,15 +1,13 @@
 //! The rows at which a predicate is true.
 
 use crate::lent::from_row;
-use crate::select::indices::check_taken;
-use crate::select::{answered, check_answer};
+use crate::select::masks::{ROWS, SOME};
+use crate::select::try_array;
 use arrow_arrays::array::AnyArray;
-use arrow_arrays_fixture::arrays::{FLATS, ListKind, NESTED, Shape, array_of, boxed};
-use arrow_flat::array::{BooleanArray, PrimitiveArray};
+use arrow_arrays_fixture::arrays::{FLATS, NESTED, Shape, array_of, boxed};
+use arrow_flat::array::BooleanArray;
 use arrow_flat_fixture::arrays::truths;
-use arrow_memory::buffer::Buffer;
 use arrow_select::filter::{Filter, build_filter, extend_from_word, filter};
-use arrow_types::datatypes::DataType;
 use arrow_types::error::Error;
 use arrow_types_fixture::{check, made};
 use std::alloc::Global;
@@ -27,26 +25,6 @@ const CASES: [Case<'static>; 6] = [
     (0, b"", 0, b"", b""),
 ];
 
-/// How many rows there are under a predicate: about none, a word and two.
-const LENGTHS: [usize; 7] = [0, 1, 63, 64, 65, 128, 130];
-
-/// Where a predicate begins within a word.
-const STARTS: usize = 9;
-
-/// The letters of a predicate, over and over: runs of some bits and of one, and nulls over true and over false.
-const MIXED: &[u8] = b"ttfTtftttFftTTfttttttfffTt";
-
-/// The letters of rows, over and over, some of them null.
-const ROWS: &[u8] = b"abCdefGhijkLmnopQr";
-
-/// Shapes of rows that are kept by words, by runs, and by runs of rows with children.
-const SOME: [Shape; 4] = [
-    Shape::Boolean,
-    Shape::Number,
-    Shape::Utf8,
-    Shape::Lists(ListKind::Small),
-];
-
 /// Values, a mask, and what stands behind a 7 then.
 const WORDS: [(&[i32], u64, &[i32]); 5] = [
     (&[10, 11, 12, 13], 0b1010, &[7, 11, 13]),
@@ -56,23 +34,6 @@ const WORDS: [(&[i32], u64, &[i32]); 5] = [
     (&[], u64::MAX, &[7]),
 ];
 
-/// Rows kept by a prepared filter, and by `filter` itself.
-fn check_rows(
-    rt: &(impl Abort + Alloc<A = Global>),
-    shape: Shape,
-    prepared: &Filter,
-    predicate: &BooleanArray,
-    start: usize,
-    rows: &[u8],
-    want: &[u8],
-) {
-    let array = from_row(rt, made!(rt; array_of(rt.alloc(), shape, rows)), start);
-    let answer = made!(rt; answered(filter_rows(rt, &array, predicate)));
-    check_answer(rt, answer, shape, Ok(want));
-    let answer = made!(rt; answered(apply_to(rt, &array, prepared)));
-    check_answer(rt, answer, shape, Ok(want));
-}
-
 /// The bits from one on.
 pub fn from_bit(rt: &impl Abort, predicate: BooleanArray, start: usize) -> BooleanArray {
     let len = predicate.len();
@@ -81,7 +42,7 @@ pub fn from_bit(rt: &impl Abort, predicate: BooleanArray, start: usize) -> Boole
 }
 
 /// The rows that a predicate keeps.
-fn filter_rows(
+pub fn filter_rows(
     rt: &(impl Abort + Alloc<A = Global>),
     array: &AnyArray,
     predicate: &BooleanArray,
@@ -91,7 +52,7 @@ fn filter_rows(
 }
 
 /// The rows that a prepared filter keeps.
-fn apply_to(
+pub fn apply_to(
     rt: &(impl Abort + Alloc<A = Global>),
     array: &AnyArray,
     prepared: &Filter,
@@ -100,26 +61,81 @@ fn apply_to(
     boxed(rt.alloc(), prepared.apply(rt.alloc(), array)?)
 }
 
+/// These rows are kept by `filter`, and by a prepared filter.
+fn try_kept(
+    rt: &(impl Abort + Alloc<A = Global>),
+    shape: Shape,
+    array: &AnyArray,
+    prepared: &Filter,
+    predicate: &BooleanArray,
+    want: &AnyArray,
+) -> Result<(), Error> {
+    try_array(rt, filter_rows(rt, array, predicate), Ok(want), shape)?;
+    try_array(rt, apply_to(rt, array, prepared), Ok(want), shape)
+}
+
+/// The same of rows from one on, by their letters.
+fn try_rows(
+    rt: &(impl Abort + Alloc<A = Global>),
+    shape: Shape,
+    prepared: &Filter,
+    predicate: &BooleanArray,
+    rows: (usize, &[u8]),
+    want: &[u8],
+) -> Result<(), Error> {
+    let (start, rows) = rows;
+    let array = from_row(rt, array_of(rt.alloc(), shape, rows)?, start);
+    let want = array_of(rt.alloc(), shape, want)?;
+    try_kept(rt, shape, &array, prepared, predicate, &want)
+}
+
 /// One filter for arrays of these shapes.
-fn check_shapes(
+fn try_shapes(
     rt: &(impl Abort + Alloc<A = Global>),
     shapes: &[Shape],
+    prepared: &Filter,
     predicate: &BooleanArray,
-    start: usize,
-    rows: &[u8],
+    rows: (usize, &[u8]),
     want: &[u8],
-) {
-    let prepared = made!(rt; build_filter(rt.alloc(), predicate));
+) -> Result<(), Error> {
     check!(rt; prepared.mask_len() == predicate.len(), want);
     check!(rt; prepared.count() == want.len(), want);
     for shape in shapes {
-        check_rows(rt, *shape, &prepared, predicate, start, rows, want);
+        try_rows(rt, *shape, prepared, predicate, rows, want)?;
     }
+    Ok(())
+}
+
+/// The same of a predicate that is prepared for them.
+fn try_predicate(
+    rt: &(impl Abort + Alloc<A = Global>),
+    shapes: &[Shape],
+    predicate: &BooleanArray,
+    rows: (usize, &[u8]),
+    want: &[u8],
+) -> Result<(), Error> {
+    let prepared = build_filter(rt.alloc(), predicate)?;
+    try_shapes(rt, shapes, &prepared, predicate, rows, want)
+}
+
+/// The same of a predicate by its letters, from one on.
+fn try_case(
+    rt: &(impl Abort + Alloc<A = Global>),
+    shapes: &[Shape],
+    case: Case,
+) -> Result<(), Error> {
+    let (start, rows, first, letters, want) = case;
+    let predicate = from_bit(rt, truths(rt.alloc(), letters)?, first);
+    try_predicate(rt, shapes, &predicate, (start, rows), want)
+}
+
+fn check_case(rt: &(impl Abort + Alloc<A = Global>), shapes: &[Shape], case: Case) {
+    tried!(rt; try_case(rt, shapes, case), case);
 }
 
 /// The letters of numbers that differ.
-fn long_rows(alloc: Global, len: usize) -> Result<Vec<u8>, Error> {
-    let mut rows = Vec::new(alloc);
+pub fn long_rows(alloc: Global, len: usize) -> Result<Vec<u8>, Error> {
+    let mut rows = Vec::with_capacity(alloc, len)?;
     for row in 0..130u8 {
         if usize::from(row) < len {
             rows.push(b'`' + row)?;
@@ -129,67 +145,23 @@ fn long_rows(alloc: Global, len: usize) -> Result<Vec<u8>, Error> {
 }
 
 /// So many letters, some over and over.
-fn repeated(alloc: Global, letters: &[u8], len: usize) -> Result<Vec<u8>, Error> {
-    let mut all = Vec::new(alloc);
-    for _ in 0..len {
-        if all.len() < len {
-            all.extend_from_slice(letters)?;
-        }
+pub fn repeated(alloc: Global, letters: &[u8], len: usize) -> Result<Vec<u8>, Error> {
+    let mut all = Vec::with_capacity(alloc, len)?;
+    for letter in letters.iter().cycle().take(len) {
+        all.push(*letter)?;
     }
-    all.truncate(len);
     Ok(all)
 }
 
-/// Those of the rows at which it is true, from one of its letters on.
-fn long_want(alloc: Global, rows: &[u8], letters: &[u8], start: usize) -> Result<Vec<u8>, Error> {
+/// Those of the rows at which a letter is t.
+fn long_want(alloc: Global, rows: &[u8], letters: &[u8]) -> Result<Vec<u8>, Error> {
     let mut want = Vec::new(alloc);
-    for (row, letter) in rows.iter().zip(letters.iter().skip(start)) {
+    for (row, letter) in rows.iter().zip(letters) {
         if *letter == b't' {
             want.push(*row)?;
         }
     }
     Ok(want)
-}
-
-/// The rows at which a predicate of these letters is true, as indices.
-fn true_places(alloc: Global, letters: &[u8]) -> Result<PrimitiveArray<u32>, Error> {
-    let mut places = Vec::new(alloc);
-    for (row, letter) in letters.iter().enumerate() {
-        if *letter == b't' {
-            places.push(u32::try_from(row).unwrap_or(u32::MAX))?;
-        }
-    }
-    PrimitiveArray::try_new(DataType::UInt32, Buffer::from_vec(alloc, places)?, None)
-}
-
-/// The rows that are kept are those that `take` gives by the places of what is true.
-fn check_as_taken(
-    rt: &(impl Abort + Alloc<A = Global>),
-    rows: &[u8],
-    predicate: &BooleanArray,
-    places: &PrimitiveArray<u32>,
-) {
-    for shape in SOME {
-        let array = made!(rt; array_of(rt.alloc(), shape, rows));
-        let kept = made!(rt; filter_rows(rt, &array, predicate));
-        check_taken(rt, &array, places, Ok(&kept), shape);
-    }
-}
-
-/// A predicate of some letters, over and over, whose bits begin within a word, over numbers that differ and over rows some
-/// of which are null.
-fn check_long(rt: &(impl Abort + Alloc<A = Global>), letters: &[u8], start: usize, len: usize) {
-    let letters = made!(rt; repeated(rt.alloc(), letters, start.saturating_add(len)));
-    let predicate = from_bit(rt, made!(rt; truths(rt.alloc(), &letters)), start);
-    let rows = made!(rt; long_rows(rt.alloc(), len));
-    let want = made!(rt; long_want(rt.alloc(), &rows, &letters, start));
-    check_shapes(rt, &[Shape::Number], &predicate, 0, &rows, &want);
-    let rows = made!(rt; repeated(rt.alloc(), ROWS, len));
-    let want = made!(rt; long_want(rt.alloc(), &rows, &letters, start));
-    check_shapes(rt, &SOME, &predicate, 0, &rows, &want);
-    assert!(rt; start <= letters.len());
-    let places = made!(rt; true_places(rt.alloc(), &letters[start..]));
-    check_as_taken(rt, &rows, &predicate, &places);
 }
 
 /// The letters of a predicate that is true at rows 63, 64 and 129, from its third letter on.
@@ -206,13 +178,12 @@ fn three_letters(alloc: Global) -> Result<Vec<u8>, Error> {
 /// are null, in arrays that begin at their third row.
 fn check_three(rt: &(impl Abort + Alloc<A = Global>)) {
     let letters = made!(rt; three_letters(rt.alloc()));
-    let predicate = from_bit(rt, made!(rt; truths(rt.alloc(), &letters)), 3);
     let rows = made!(rt; long_rows(rt.alloc(), 130));
     let want = [b'`' + 63, b'`' + 64, b'`' + 129];
-    check_shapes(rt, &[Shape::Number], &predicate, 0, &rows, &want);
+    check_case(rt, &[Shape::Number], (0, &rows, 3, &letters, &want));
     let rows = made!(rt; repeated(rt.alloc(), ROWS, 133));
-    let want = made!(rt; long_want(rt.alloc(), &rows, &letters, 0));
-    check_shapes(rt, &SOME, &predicate, 3, &rows, &want);
+    let want = made!(rt; long_want(rt.alloc(), &rows, &letters));
+    check_case(rt, &SOME, (3, &rows, 3, &letters, &want));
 }
 
 /// What there is with the values that a mask keeps behind it. Where memory is refused, that alone.
@@ -245,20 +216,9 @@ fn check_words(rt: &(impl Abort + Alloc<A = Global>)) {
 }
 
 pub fn check_filter(rt: &(impl Abort + Alloc<A = Global>)) {
-    for (start, rows, first, letters, want) in &CASES {
-        let predicate = from_bit(rt, made!(rt; truths(rt.alloc(), letters)), *first);
-        check_shapes(rt, &FLATS, &predicate, *start, rows, want);
-        check_shapes(rt, &NESTED, &predicate, *start, rows, want);
-    }
-    for start in 0..STARTS {
-        for len in &LENGTHS {
-            check_long(rt, MIXED, start, *len);
-        }
-    }
-    for letters in [&b"f"[..], &b"t"[..], &b"tf"[..]] {
-        for len in &LENGTHS {
-            check_long(rt, letters, 3, *len);
-        }
+    for case in &CASES {
+        check_case(rt, &FLATS, *case);
+        check_case(rt, &NESTED, *case);
     }
     check_three(rt);
     check_words(rt);

@@ -5,7 +5,7 @@ ghost use Rattle.arrow_flat.specs.Parts.{rows_by};
 ghost use Rattle.arrow_arrays.specs.Any.{any_array_rows};
 ghost use Rattle.arrow_arrays.specs.KeyedParts.{AreKeys};
 
-use crate::select::answered;
+use crate::select::try_array;
 use arrow_arrays::array::{AnyArray, are_within};
 use arrow_arrays_fixture::arrays::boxed;
 use arrow_flat::array::{AnyPrimitive, PrimitiveArray};
@@ -17,7 +17,6 @@ use arrow_select::take::{
 use arrow_types::datatypes::DataType;
 use arrow_types::error::Error;
 use arrow_types::types::Index;
-use arrow_types_fixture::{check, made};
 use std::alloc::Global;
 use std::fmt::Debug;
 use std::process::Abort;
@@ -118,38 +117,32 @@ fn take_typed_rows<I: Index>(
     boxed(rt.alloc(), take_typed(rt.alloc(), array, indices)?)
 }
 
-/// A kernel answered this array, or refused for this reason.
-fn check_array(
-    rt: &impl Abort,
-    answer: Result<Box<AnyArray>, Error>,
-    want: Result<&AnyArray, Error>,
-    case: impl Copy + Debug,
-) {
-    match answer {
-        Ok(array) => {
-            let want = want.expect(rt, "rows are wanted where rows are answered");
-            check!(rt; *array == *want, case);
-        }
-        Err(refusal) => check!(rt; Some(refusal) == want.err(), case),
-    }
-}
-
 /// The indices name these rows, or are refused for this reason, by the kernel for arrays of any type and by the one for
 /// arrays of this type.
-pub fn check_taken<I: Index>(
+pub fn try_taken<I: Index>(
     rt: &(impl Abort + Alloc<A = Global>),
     array: &AnyArray,
     indices: &PrimitiveArray<I>,
     want: Result<&AnyArray, Error>,
     case: impl Copy + Debug,
-) {
-    let answer = made!(rt; answered(take_rows(rt, array, indices)));
-    check_array(rt, answer, want, case);
-    let answer = made!(rt; answered(take_typed_rows(rt, array, indices)));
-    check_array(rt, answer, want, case);
+) -> Result<(), Error> {
+    try_array(rt, take_rows(rt, array, indices), want, case)?;
+    try_array(rt, take_typed_rows(rt, array, indices), want, case)
 }
 
 /// The same of indices of 32 bits by their letters.
+fn try_letters(
+    rt: &(impl Abort + Alloc<A = Global>),
+    array: &AnyArray,
+    letters: &[u8],
+    want: Result<&AnyArray, Error>,
+    case: impl Copy + Debug,
+) -> Result<(), Error> {
+    let indices = indices_of::<i32>(rt.alloc(), &DataType::Int32, letters)?;
+    try_taken(rt, array, &indices, want, case)
+}
+
+/// It holds.
 pub fn check_letters(
     rt: &(impl Abort + Alloc<A = Global>),
     array: &AnyArray,
@@ -157,6 +150,5 @@ pub fn check_letters(
     want: Result<&AnyArray, Error>,
     case: impl Copy + Debug,
 ) {
-    let indices = made!(rt; indices_of::<i32>(rt.alloc(), &DataType::Int32, letters));
-    check_taken(rt, array, &indices, want, case);
+    tried!(rt; try_letters(rt, array, letters, want, case), case);
 }

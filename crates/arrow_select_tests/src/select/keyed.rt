@@ -1,8 +1,8 @@
 //! The rows of two dictionaries, one array behind the other.
 
 use crate::lent::from_row;
-use crate::select::answered;
 use crate::select::concatenate::join_two;
+use crate::select::refusal_of;
 use arrow_arrays::array::{AnyArray, AnyKeys, DictionaryArray};
 use arrow_arrays_fixture::arrays::{Shape, array_of, boxed};
 use arrow_flat::array::PrimitiveArray;
@@ -98,14 +98,21 @@ fn keyed(
     boxed(alloc, AnyArray::Dictionary(array))
 }
 
-fn check_case(rt: &(impl Abort + Alloc<A = Global>), shape: Shape, case: Case) {
-    let left = made!(rt; keyed(rt.alloc(), shape, case.left, case.left_marks, case.left_letters));
+fn try_case(rt: &(impl Abort + Alloc<A = Global>), shape: Shape, case: Case) -> Result<(), Error> {
+    let alloc = rt.alloc();
+    let left = keyed(alloc, shape, case.left, case.left_marks, case.left_letters)?;
     let left = from_row(rt, left, case.from);
-    let right =
-        made!(rt; keyed(rt.alloc(), shape, case.right, case.right_marks, case.right_letters));
-    let both = made!(rt; join_two(rt.alloc(), &left, &right));
-    let want = made!(rt; keyed(rt.alloc(), shape, case.want, case.want_marks, case.want_letters));
+    let right = keyed(
+        alloc,
+        shape,
+        case.right,
+        case.right_marks,
+        case.right_letters,
+    )?;
+    let both = join_two(alloc, &left, &right)?;
+    let want = keyed(alloc, shape, case.want, case.want_marks, case.want_letters)?;
     check!(rt; *both == *want, case);
+    Ok(())
 }
 
 /// A hundred values, and one key.
@@ -122,14 +129,14 @@ fn check_crowded(
 ) {
     let left = made!(rt; hundred(rt.alloc(), 99, "-"));
     let right = made!(rt; hundred(rt.alloc(), key, marks));
-    let answer = made!(rt; answered(join_two(rt.alloc(), &left, &right)));
-    check!(rt; answer.err() == refusal);
+    let answer = made!(rt; refusal_of(join_two(rt.alloc(), &left, &right)));
+    check!(rt; answer == refusal);
 }
 
 pub fn check_dictionaries(rt: &(impl Abort + Alloc<A = Global>)) {
     for shape in &SHAPES {
         for case in &CASES {
-            check_case(rt, *shape, *case);
+            tried!(rt; try_case(rt, *shape, *case), *shape);
         }
     }
     check_crowded(rt, 27, "-", None);

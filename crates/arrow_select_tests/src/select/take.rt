@@ -1,15 +1,15 @@
 //! Rows by index, of arrays of each type, and which types have them.
 
 use crate::lent::from_row;
-use crate::select::indices::{check_taken, from_index, indices_of};
+use crate::select::indices::{from_index, indices_of, try_taken};
 use arrow_arrays::array::AnyArray;
 use arrow_arrays_fixture::arrays::{FLATS, ListKind, NESTED, Shape, array_of};
 use arrow_select::take::can_take;
 use arrow_types::datatypes::DataType;
 use arrow_types::error::{Error, Unsupported};
 use arrow_types::types::Index;
+use arrow_types_fixture::check;
 use arrow_types_fixture::read::read;
-use arrow_types_fixture::{check, made};
 use std::alloc::Global;
 use std::process::Abort;
 
@@ -66,36 +66,52 @@ fn wanted(shape: Shape, rows: &AnyArray) -> Result<&AnyArray, Error> {
     }
 }
 
-fn check_rows<I: Index>(
+/// Indices from one on name these rows.
+fn try_indices<I: Index>(
     rt: &(impl Abort + Alloc<A = Global>),
     data_type: &DataType,
     shape: Shape,
-    case: Case,
-) {
+    array: &AnyArray,
+    places: (usize, &[u8]),
+    want: &AnyArray,
+) -> Result<(), Error> {
+    let (first, letters) = places;
+    let indices = from_index(rt, indices_of::<I>(rt.alloc(), data_type, letters)?, first);
+    try_taken(rt, array, &indices, wanted(shape, want), shape)
+}
+
+/// Indices of 32 bits.
+fn try_case(rt: &(impl Abort + Alloc<A = Global>), shape: Shape, case: Case) -> Result<(), Error> {
     let (start, rows, first, letters, want) = case;
-    let array = from_row(rt, made!(rt; array_of(rt.alloc(), shape, rows)), start);
-    let indices = made!(rt; indices_of::<I>(rt.alloc(), data_type, letters));
-    let indices = from_index(rt, indices, first);
-    let want = made!(rt; array_of(rt.alloc(), shape, want));
-    check_taken(rt, &array, &indices, wanted(shape, &want), shape);
+    let array = from_row(rt, array_of(rt.alloc(), shape, rows)?, start);
+    let want = array_of(rt.alloc(), shape, want)?;
+    try_indices::<i32>(rt, &DataType::Int32, shape, &array, (first, letters), &want)
 }
 
-/// Indices of one type.
-fn check_kind<I: Index>(rt: &(impl Abort + Alloc<A = Global>), data_type: &DataType) {
-    for shape in &SOME {
-        check_rows::<I>(rt, data_type, *shape, MIXED);
-    }
+/// Indices of each type.
+fn try_kinds(
+    rt: &(impl Abort + Alloc<A = Global>),
+    shape: Shape,
+    array: &AnyArray,
+    indices: (usize, &[u8]),
+    want: &AnyArray,
+) -> Result<(), Error> {
+    try_indices::<i8>(rt, &DataType::Int8, shape, array, indices, want)?;
+    try_indices::<i16>(rt, &DataType::Int16, shape, array, indices, want)?;
+    try_indices::<i32>(rt, &DataType::Int32, shape, array, indices, want)?;
+    try_indices::<i64>(rt, &DataType::Int64, shape, array, indices, want)?;
+    try_indices::<u8>(rt, &DataType::UInt8, shape, array, indices, want)?;
+    try_indices::<u16>(rt, &DataType::UInt16, shape, array, indices, want)?;
+    try_indices::<u32>(rt, &DataType::UInt32, shape, array, indices, want)?;
+    try_indices::<u64>(rt, &DataType::UInt64, shape, array, indices, want)
 }
 
-fn check_kinds(rt: &(impl Abort + Alloc<A = Global>)) {
-    check_kind::<i8>(rt, &DataType::Int8);
-    check_kind::<i16>(rt, &DataType::Int16);
-    check_kind::<i32>(rt, &DataType::Int32);
-    check_kind::<i64>(rt, &DataType::Int64);
-    check_kind::<u8>(rt, &DataType::UInt8);
-    check_kind::<u16>(rt, &DataType::UInt16);
-    check_kind::<u32>(rt, &DataType::UInt32);
-    check_kind::<u64>(rt, &DataType::UInt64);
+/// The same of one array, and what they name of it.
+fn try_shape(rt: &(impl Abort + Alloc<A = Global>), shape: Shape) -> Result<(), Error> {
+    let (start, rows, first, letters, want) = MIXED;
+    let array = from_row(rt, array_of(rt.alloc(), shape, rows)?, start);
+    let want = array_of(rt.alloc(), shape, want)?;
+    try_kinds(rt, shape, &array, (first, letters), &want)
 }
 
 /// Types, and whether rows of them can be asked for by index.
@@ -162,19 +178,23 @@ const TYPES: [(&str, bool); 60] = [
     ("struct list", false),
 ];
 
-fn check_types(rt: &(impl Abort + Alloc<A = Global>)) {
+/// Which types have rows by index.
+fn try_types(rt: &(impl Abort + Alloc<A = Global>)) -> Result<(), Error> {
     for (text, want) in &TYPES {
-        let data_type = made!(rt; read(rt.alloc(), text));
+        let data_type = read(rt.alloc(), text)?;
         check!(rt; can_take(&data_type) == *want, *text);
     }
+    Ok(())
 }
 
 pub fn check_take(rt: &(impl Abort + Alloc<A = Global>)) {
     for shape in FLATS.iter().chain(&NESTED) {
         for case in &CASES {
-            check_rows::<i32>(rt, &DataType::Int32, *shape, *case);
+            tried!(rt; try_case(rt, *shape, *case), *shape);
         }
     }
-    check_kinds(rt);
-    check_types(rt);
+    for shape in &SOME {
+        tried!(rt; try_shape(rt, *shape), *shape);
+    }
+    tried!(rt; try_types(rt));
 }
