@@ -12,7 +12,7 @@ use Rattle.std.proofs.lemmas.Bool.Decides.{Decides-and, Decides-int_eq, Decides-
 use Rattle.std.proofs.lemmas.Cmp.{int_cmp_total, nat_list_cmp_total}
 use Rattle.std.proofs.lemmas.Map.Lookups.{exact_bytes, exact_signed}
 use Rattle.arrow_types.specs.Logic.{negated}
-use Rattle.arrow_types.specs.Relation.{Relation, eq, neq, lt, lt_eq, gt, gt_eq, holds, bool_order, byte_order, related, same, is_null, nulled}
+use Rattle.arrow_types.specs.Relation.{Relation, eq, lt, lt_eq, gt, gt_eq, holds, bool_order, byte_order, related, same, is_null, nulled}
 use Rattle.arrow_types.specs.SameTree.{same_by-decides, same_by-equivalence}
 use Rattle.arrow_types.specs.Slot.{Slot, Null, Boolean, Number, DayTime, MonthDayNano, Bytes, Text}
 use Rattle.arrow_types.specs.StoredSlot.{slot_code}
@@ -61,11 +61,6 @@ gt_eq_holds Less = refl
 gt_eq_holds Equal = refl
 gt_eq_holds Greater = refl
 
-neq_holds : (o : Ordering) → holds neq o ≡ not (holds eq o)
-neq_holds Less = refl
-neq_holds Equal = refl
-neq_holds Greater = refl
-
 pub lt_eq_turned : (s r : Slot) → related lt_eq s r ≡ negated (related gt s r)
 lt_eq_turned (Number m) (Number n) = ap Boolean (lt_eq_holds (int_cmp m n))
 lt_eq_turned (Boolean a) (Boolean b) = ap Boolean (lt_eq_holds (bool_order a b))
@@ -83,15 +78,6 @@ gt_eq_turned (Bytes a) (Bytes b) = ap Boolean (gt_eq_holds (byte_order a b))
 gt_eq_turned (DayTime d m) (DayTime other_d other_m) = refl
 gt_eq_turned (MonthDayNano m d n) (MonthDayNano other_m other_d other_n) = refl
 gt_eq_turned s r = refl
-
-pub neq_turned : (s r : Slot) → related neq s r ≡ negated (related eq s r)
-neq_turned (Number m) (Number n) = ap Boolean (neq_holds (int_cmp m n))
-neq_turned (Boolean a) (Boolean b) = ap Boolean (neq_holds (bool_order a b))
-neq_turned (Text a) (Text b) = ap Boolean (neq_holds (byte_order a b))
-neq_turned (Bytes a) (Bytes b) = ap Boolean (neq_holds (byte_order a b))
-neq_turned (DayTime d m) (DayTime other_d other_m) = refl
-neq_turned (MonthDayNano m d n) (MonthDayNano other_m other_d other_n) = refl
-neq_turned s r = refl
 
 -- ---- rows that are one
 

@@ -1,13 +1,16 @@
 //! Relations of every element type, over words of bits and at unequal offsets, beside a plain loop over letters. A digit
-//! is one of three values that rise, and a small letter from `a` on a null over one of them.
+//! is one of three values that rise, and a small letter from `a` on a null over one of them. The right side is an array, or a
+//! scalar of one letter.
 
-use crate::asked::{ALL, Asked, EQUALITY, relate};
+use crate::asked::{ALL, Asked, EQUALITY, relate, relate_scalar};
 use arrow_arrays::array::AnyArray;
 use arrow_arrays_fixture::arrays::boxed;
 use arrow_flat::array::{AnyElement, BooleanArray, PrimitiveArray};
+use arrow_flat::scalar::{AnyPrimitiveScalar, AnyScalar, PrimitiveScalar};
 use arrow_flat_fixture::arrays::truths;
 use arrow_memory::bitmap::MutableBitmap;
 use arrow_memory::buffer::Buffer;
+use arrow_types::datatypes::DataType;
 use arrow_types::error::Error;
 use arrow_types::types::{days_ms, i256, months_days_ns};
 use arrow_types_fixture::read::read;
@@ -20,8 +23,20 @@ const LEFT: &[u8] = b"012a0b1";
 
 const RIGHT: &[u8] = b"0120a2b11";
 
+/// Letters of scalars.
+const SCALARS: [u8; 4] = *b"012a";
+
 /// How many rows are tried, about the words of bits.
 const LENGTHS: [usize; 9] = [0, 1, 7, 8, 9, 63, 64, 65, 130];
+
+/// The value that a letter stands for, or lies over.
+fn value_of<T: AnyElement>(values: &[T; 3], letter: u8) -> T {
+    match letter {
+        b'0' | b'a' => values[0],
+        b'1' | b'b' => values[1],
+        _ => values[2],
+    }
+}
 
 /// So many rows of these letters over and over, in an array of a type by its words. Rows stand before them that are sliced
 /// off.
@@ -41,11 +56,7 @@ fn rows_of<T: AnyElement>(
         .take(before)
         .chain(letters.iter().cycle().take(len))
     {
-        stored.push(match letter {
-            b'0' | b'a' => values[0],
-            b'1' | b'b' => values[1],
-            _ => values[2],
-        })?;
+        stored.push(value_of(values, *letter))?;
         validity.push(letter.is_ascii_digit())?;
     }
     let (stored, validity) = (Buffer::from_vec(alloc, stored)?, validity.into_bitmap()?);
@@ -76,10 +87,10 @@ fn answer_of(asked: Asked, left: u8, right: u8) -> Option<bool> {
     }
 }
 
-/// The answers by letters.
-fn answers(alloc: Global, asked: Asked, len: usize) -> Result<BooleanArray, Error> {
+/// The answers by letters: by those of the right side, over and over.
+fn answers(alloc: Global, asked: Asked, rights: &[u8], len: usize) -> Result<BooleanArray, Error> {
     let mut letters = Vec::new(alloc);
-    for (left, right) in LEFT.iter().cycle().zip(RIGHT.iter().cycle()).take(len) {
+    for (left, right) in LEFT.iter().cycle().zip(rights.iter().cycle()).take(len) {
         letters.push(match answer_of(asked, *left, *right) {
             Some(true) => b't',
             Some(false) => b'f',
@@ -89,7 +100,74 @@ fn answers(alloc: Global, asked: Asked, len: usize) -> Result<BooleanArray, Erro
     truths(alloc, &letters)
 }
 
-fn check_element<T: AnyElement>(
+/// An element type of scalars of any element type.
+trait AnyScalarElement: AnyElement {
+    /// A scalar of a data type and a value, or a null one.
+    fn scalar(data_type: DataType, value: Option<Self>) -> Result<AnyPrimitiveScalar, Error>;
+}
+
+macro_rules! elements_of_scalars {
+    ($($element:ident => $variant:ident),* $(,)?) => {
+        $(
+            impl AnyScalarElement for $element {
+                fn scalar(
+                    data_type: DataType,
+                    value: Option<$element>,
+                ) -> Result<AnyPrimitiveScalar, Error> {
+                    Ok(AnyPrimitiveScalar::$variant(PrimitiveScalar::try_new(data_type, value)?))
+                }
+            }
+        )*
+    };
+}
+
+elements_of_scalars! {
+    i8 => Int8,
+    i16 => Int16,
+    i32 => Int32,
+    i64 => Int64,
+    i128 => Int128,
+    i256 => Int256,
+    u8 => UInt8,
+    u16 => UInt16,
+    u32 => UInt32,
+    u64 => UInt64,
+    days_ms => DaysMs,
+    months_days_ns => MonthDayNano,
+}
+
+/// What a relation answers of an array and a scalar of its type.
+fn relate_value<T: AnyScalarElement>(
+    alloc: Global,
+    asked: Asked,
+    lhs: &AnyArray,
+    value: Option<T>,
+) -> Result<BooleanArray, Error> {
+    let scalar = T::scalar(lhs.data_type().clone()?, value)?;
+    relate_scalar(alloc, asked, lhs, &AnyScalar::Primitive(scalar))
+}
+
+/// Relations of so many left rows and the scalar of a letter.
+fn check_scalar<T: AnyScalarElement>(
+    rt: &(impl Abort + Alloc<A = Global>),
+    lhs: &AnyArray,
+    values: &[T; 3],
+    letter: u8,
+    relations: &[Asked],
+) {
+    let value = if letter.is_ascii_digit() {
+        Some(value_of(values, letter))
+    } else {
+        None
+    };
+    for asked in relations {
+        let made = made!(rt; relate_value(rt.alloc(), *asked, lhs, value));
+        let want = made!(rt; answers(rt.alloc(), *asked, &[letter], lhs.len()));
+        check!(rt; made == want, *asked);
+    }
+}
+
+fn check_element<T: AnyScalarElement>(
     rt: &(impl Abort + Alloc<A = Global>),
     words: &str,
     values: &[T; 3],
@@ -100,8 +178,11 @@ fn check_element<T: AnyElement>(
         let rhs = made!(rt; rows_of(rt.alloc(), words, values, RIGHT, *len, 70));
         for asked in relations {
             let made = made!(rt; relate(rt.alloc(), *asked, &lhs, &rhs));
-            let want = made!(rt; answers(rt.alloc(), *asked, *len));
+            let want = made!(rt; answers(rt.alloc(), *asked, RIGHT, *len));
             check!(rt; made == want, words);
+        }
+        for letter in &SCALARS {
+            check_scalar(rt, &lhs, values, *letter, relations);
         }
     }
 }

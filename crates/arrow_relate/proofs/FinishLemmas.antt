@@ -9,7 +9,7 @@ use Rattle.std.proofs.lemmas.Option.{slice_get-get_or}
 use Rattle.std.proofs.lemmas.List.FromFn.{get_or-map-range_with_len, length-map-range_with_len}
 use Rattle.arrow_types.specs.ArrowType.{ArrowType}
 use Rattle.arrow_types.specs.Logic.{finished_eq, finished_neq}
-use Rattle.arrow_types.specs.Relation.{related, eq, neq}
+use Rattle.arrow_types.specs.Relation.{Relation, related, neq}
 use Rattle.arrow_types.specs.Rows.{masked, valid_at}
 use Rattle.arrow_types.specs.Slot.{Slot, Null, Boolean}
 use Rattle.arrow_flat.specs.Parts.{FitsRows, Parts, boolean_rows}
@@ -17,9 +17,7 @@ use Rattle.arrow_flat.proofs.PartsLemmas.{length-masked, row_at}
 use Rattle.arrow_logic.specs.RowByRow.{row_by_row}
 use Rattle.arrow_memory.proofs.LogicLemmas.{and_each, not_each, or_each}
 use Rattle.arrow_relate.specs.Finished.{finished}
-use Rattle.arrow_relate.specs.Same.{is_same}
 use Rattle.arrow_relate.proofs.RowLemmas.{get_or-row_by_row, length-row_by_row, row_by_row-replicate}
-use Rattle.arrow_relate.proofs.SameLemmas.{finished_row}
 use Rattle.arrow_relate.proofs.TruthLemmas.{is_one, not_equal_word, relates}
 
 -- ---- one row at a time
@@ -57,24 +55,32 @@ finished_masked give none u v w rows fits =
     let right = get_or-finished give (masked u rows) v w i d (omega (arith, below, all)) ∙ ap (λ s. give s (valid_at v i) (valid_at w i)) (row_at u rows i fits below) in
     left ∙ (null_stays give none (valid_at u i) (valid_at v i) (valid_at w i) (get_or rows i Null) ∙ sym right))
 
--- equality of what is stored, finished, says which rows are the same
-pub finished_same : (v w : Option (List Bool)) (xs ys : List Slot) (bits : List Bool) → FitsRows v (length xs) → FitsRows w (length ys) → length xs ≡ length ys → map Boolean bits ≡ row_by_row (related eq) xs ys → finished finished_eq (map Boolean bits) v w ≡ row_by_row is_same (masked v xs) (masked w ys)
-finished_same v w xs ys bits fits other same stored =
-    let size : length (map Boolean bits) ≡ length xs = ap length stored ∙ length-row_by_row (related eq) xs ys same in
-    let lefts = length-masked v xs fits in
-    let rights = length-masked w ys other in
-    let both : length (masked v xs) ≡ length (masked w ys) = omega (arith, lefts, rights, same) in
-    let long = length-finished finished_eq (map Boolean bits) v w in
-    same_lists _ _ (long ∙ (size ∙ (sym lefts ∙ sym (length-row_by_row is_same (masked v xs) (masked w ys) both)))) (λ i d within.
-    let below : i < length xs = omega (arith, within, long, size) in
-    let x = get_or xs i Null in
-    let y = get_or ys i Null in
-    let b = get_or bits i false in
-    let bit : get_or (map Boolean bits) i Null ≡ Boolean b = get_or-map Boolean bits i false Null (omega (arith, below, size, length-map bits Boolean)) in
-    let equal : related eq x y ≡ Boolean b = sym (get_or-row_by_row (related eq) xs ys i Null Null Null below same) ∙ (ap (λ rows. get_or rows i Null) (sym stored) ∙ bit) in
-    let left = get_or-finished finished_eq (map Boolean bits) v w i d (omega (arith, below, size)) ∙ ap (λ s. finished_eq s (valid_at v i) (valid_at w i)) bit in
-    let right = get_or-row_by_row is_same (masked v xs) (masked w ys) i Null Null d (omega (arith, below, lefts)) both in
-    left ∙ (finished_row (valid_at v i) (valid_at w i) x y b equal ∙ ((λ t. is_same (sym (row_at v xs i fits below) t) (sym (row_at w ys i other (omega (arith, below, same))) t)) ∙ sym right)))
+-- a relation of what is stored, finished, and what it tells of rows that are valid or not
+module _ (op : Relation) (give : Slot → Bool → Bool → Slot) (tells : Slot → Slot → Slot) (of_row : (p q : Bool) (s r : Slot) (b : Bool) → related op s r ≡ Boolean b → give (Boolean b) p q ≡ tells (if p then s else Null) (if q then r else Null)) where
+  pub finished_rows : (v w : Option (List Bool)) (xs ys : List Slot) (bits : List Bool) → FitsRows v (length xs) → FitsRows w (length ys) → length xs ≡ length ys → map Boolean bits ≡ row_by_row (related op) xs ys → finished give (map Boolean bits) v w ≡ row_by_row tells (masked v xs) (masked w ys)
+  finished_rows v w xs ys bits fits other same stored =
+      let size : length (map Boolean bits) ≡ length xs = ap length stored ∙ length-row_by_row (related op) xs ys same in
+      let lefts = length-masked v xs fits in
+      let rights = length-masked w ys other in
+      let both : length (masked v xs) ≡ length (masked w ys) = omega (arith, lefts, rights, same) in
+      let long = length-finished give (map Boolean bits) v w in
+      same_lists _ _ (long ∙ (size ∙ (sym lefts ∙ sym (length-row_by_row tells (masked v xs) (masked w ys) both)))) (λ i d within.
+      let below : i < length xs = omega (arith, within, long, size) in
+      let x = get_or xs i Null in
+      let y = get_or ys i Null in
+      let b = get_or bits i false in
+      let bit : get_or (map Boolean bits) i Null ≡ Boolean b = get_or-map Boolean bits i false Null (omega (arith, below, size, length-map bits Boolean)) in
+      let holds : related op x y ≡ Boolean b = sym (get_or-row_by_row (related op) xs ys i Null Null Null below same) ∙ (ap (λ rows. get_or rows i Null) (sym stored) ∙ bit) in
+      let left = get_or-finished give (map Boolean bits) v w i d (omega (arith, below, size)) ∙ ap (λ s. give s (valid_at v i) (valid_at w i)) bit in
+      let right = get_or-row_by_row tells (masked v xs) (masked w ys) i Null Null d (omega (arith, below, lefts)) both in
+      left ∙ (of_row (valid_at v i) (valid_at w i) x y b holds ∙ ((λ t. tells (sym (row_at v xs i fits below) t) (sym (row_at w ys i other (omega (arith, below, same))) t)) ∙ sym right)))
+
+  -- of an array and a value
+  pub finished_scalar : (v : Option (List Bool)) (xs : List Slot) (r : Slot) (bits : List Bool) → FitsRows v (length xs) → map Boolean bits ≡ map (λ s. related op s r) xs → finished give (map Boolean bits) v None ≡ map (λ s. tells s r) (masked v xs)
+  finished_scalar v xs r bits fits stored =
+      let values = replicate (length xs) r in
+      finished_rows v None xs values bits fits tt (sym (length-replicate (length xs) r)) (stored ∙ sym (row_by_row-replicate (related op) xs r))
+      ∙ (ap (λ n. row_by_row tells (masked v xs) (replicate n r)) (sym (length-masked v xs fits)) ∙ row_by_row-replicate tells (masked v xs) r)
 
 -- ---- each bit of words
 
@@ -125,10 +131,3 @@ rows_finished give none u v w values bits fits stored =
 
 pub stored_long : (t : ArrowType) (bits : List Bool) (out : Parts (List Bool)) (n : ℕ) → out ≡ record { arrow_type = t; values = bits; validity = None } → length bits ≡ n → length (boolean_rows out) ≡ n
 stored_long t bits out n is long = ap (λ p. length (boolean_rows p)) is ∙ (length-map bits Boolean ∙ long)
-
--- of an array and a value
-pub finished_scalar : (v : Option (List Bool)) (xs : List Slot) (r : Slot) (bits : List Bool) → FitsRows v (length xs) → map Boolean bits ≡ map (λ s. related eq s r) xs → finished finished_eq (map Boolean bits) v None ≡ map (λ s. is_same s r) (masked v xs)
-finished_scalar v xs r bits fits stored =
-    let values = replicate (length xs) r in
-    finished_same v None xs values bits fits tt (sym (length-replicate (length xs) r)) (stored ∙ sym (row_by_row-replicate (related eq) xs r))
-    ∙ (ap (λ n. row_by_row is_same (masked v xs) (replicate n r)) (sym (length-masked v xs fits)) ∙ row_by_row-replicate is_same (masked v xs) r)

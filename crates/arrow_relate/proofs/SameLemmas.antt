@@ -1,21 +1,21 @@
 -- When two rows are the same, and what equality tells of it.
-use Rattle.std.proofs.Common.{◌≡◌, ◌∙◌, ℕ, Bool, true, false, ◌&&◌, List, if◌then◌else◌, ap, sym, subst, refl}
+use Rattle.std.proofs.Common.{◌≡◌, ◌∙◌, ℕ, Bool, true, false, not, ◌&&◌, List, if◌then◌else◌, ap, sym, subst, refl}
 use Rattle.std.specs.Bool.{Decides}
-use Rattle.std.specs.Ordering.{int_eq, is_eq}
+use Rattle.std.specs.Ordering.{int_cmp, int_eq, is_eq}
 use Rattle.std.specs.declared.cmp.Ordering.{Ordering}
 use Rattle.std.specs.declared.cmp.Ordering.TheVariants.{Less, Equal, Greater}
 use Rattle.std.proofs.lemmas.Bool.Decides.{Decides-and, Decides-int_eq, Decides-like, same_from_decides}
 use Rattle.std.specs.Str.{bytes_eq}
 use Rattle.std.proofs.lemmas.Map.Text.{is_eq-slice_cmp}
 use Rattle.std.proofs.lemmas.Slice.Eq.{bytes_eq-Decides}
-use Rattle.arrow_types.specs.Logic.{finished_eq}
+use Rattle.arrow_types.specs.Logic.{finished_eq, finished_neq, negated}
 use Rattle.arrow_types.specs.NumberSlots.{equal_ints}
-use Rattle.arrow_types.specs.Relation.{related, eq, holds, byte_order, same}
+use Rattle.arrow_types.specs.Relation.{related, eq, neq, holds, bool_order, byte_order, same}
 use Rattle.arrow_types.specs.SameTree.{same_by-decides}
 use Rattle.arrow_types.specs.Slot.{Slot, Null, Boolean, Number, DayTime, MonthDayNano, Bytes, Text}
 use Rattle.arrow_types.specs.StoredSlot.{slot_code}
 use Rattle.arrow_flat.proofs.StoredLemmas.{truth_values_same}
-use Rattle.arrow_relate.specs.Same.{is_same}
+use Rattle.arrow_relate.specs.Same.{differs, is_same}
 use Rattle.arrow_relate.proofs.NullLemmas.{null_right}
 
 holds_eq : (o : Ordering) → holds eq o ≡ is_eq o
@@ -71,3 +71,38 @@ finished_row true true s r b is = ap Boolean (sym (same_is s r b (equality_decid
 finished_row true false s r b is = ap Boolean (sym (same_is s Null false (λ e. cc, λ e. absurd (left_value s r b is e))))
 finished_row false true s r b is = ap Boolean (sym (same_is Null r false (λ e. cc, λ e. absurd (right_value s r b is (sym e)))))
 finished_row false false s r b is = ap Boolean (sym (same_is Null Null true (λ e. refl, λ e. refl)))
+
+-- ---- the same of whether they are not
+
+neq_holds : (o : Ordering) → holds neq o ≡ not (holds eq o)
+neq_holds Less = refl
+neq_holds Equal = refl
+neq_holds Greater = refl
+
+pub neq_turned : (s r : Slot) → related neq s r ≡ negated (related eq s r)
+neq_turned (Number m) (Number n) = ap Boolean (neq_holds (int_cmp m n))
+neq_turned (Boolean a) (Boolean b) = ap Boolean (neq_holds (bool_order a b))
+neq_turned (Text a) (Text b) = ap Boolean (neq_holds (byte_order a b))
+neq_turned (Bytes a) (Bytes b) = ap Boolean (neq_holds (byte_order a b))
+neq_turned (DayTime d m) (DayTime other_d other_m) = refl
+neq_turned (MonthDayNano m d n) (MonthDayNano other_m other_d other_n) = refl
+neq_turned s r = refl
+
+-- what is turned to a truth value is the other one
+turned_back : (x : Slot) (b : Bool) → negated x ≡ Boolean b → x ≡ Boolean (not b)
+turned_back (Boolean true) true is = cc
+turned_back (Boolean true) false is = refl
+turned_back (Boolean false) true is = refl
+turned_back (Boolean false) false is = cc
+turned_back x b is = cc
+
+finished_turned : (b p q : Bool) → finished_neq (Boolean b) p q ≡ negated (finished_eq (Boolean (not b)) p q)
+finished_turned true true true = refl
+finished_turned false true true = refl
+finished_turned b true false = refl
+finished_turned b false true = refl
+finished_turned b false false = refl
+
+pub finished_other : (p q : Bool) (s r : Slot) (b : Bool) → related neq s r ≡ Boolean b → finished_neq (Boolean b) p q ≡ differs (if p then s else Null) (if q then r else Null)
+finished_other p q s r b is =
+    finished_turned b p q ∙ ap negated (finished_row p q s r (not b) (turned_back (related eq s r) b (sym (neq_turned s r) ∙ is)))

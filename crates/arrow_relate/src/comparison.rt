@@ -12,12 +12,27 @@ ghost use Rattle.arrow_flat.specs.Parts.{FitsRows, boolean_rows};
 ghost use Rattle.arrow_relate.specs.Finished.{finished};
 ghost use Rattle.arrow_relate.specs.Words.{IsWordOf};
 
+/// A call at a relation that is known when the program runs: its first type parameter, `_`, is that relation.
+macro_rules! by_relation {
+    ($by:expr, $call:ident::<_ $(, $kind:ty)*>($($argument:expr),*)) => {
+        match $by {
+            Relation::Eq => $call::<Equal $(, $kind)*>($($argument),*),
+            Relation::Neq => $call::<NotEqual $(, $kind)*>($($argument),*),
+            Relation::Lt => $call::<Less $(, $kind)*>($($argument),*),
+            Relation::LtEq => $call::<LessOrEqual $(, $kind)*>($($argument),*),
+            Relation::Gt => $call::<Greater $(, $kind)*>($($argument),*),
+            Relation::GtEq => $call::<GreaterOrEqual $(, $kind)*>($($argument),*),
+        }
+    };
+}
+
 pub mod binary;
 pub mod boolean;
 mod bytes;
 pub mod primitive;
 pub mod utf8;
 
+use crate::fixed::{Equal, NotEqual, Sameness};
 use crate::words::bits_by_words;
 use arrow_flat::array::BooleanArray;
 use arrow_logic::truths::truths;
@@ -48,8 +63,7 @@ pub fn finish_eq_validities(
     ensures rows { IfOk result (λ array. boolean_rows array ≡ finished finished_eq (boolean_rows out) lhs rhs) }
     ensures err { IsOkUnless result Error.OutOfMemory }
 {
-    let bits = bits_by_words(alloc, out.len(), |j| same_word(out.values(), &lhs, &rhs, j))?;
-    Ok(truths(bits, shared(out.validity())?))
+    finish::<Equal>(alloc, out, lhs, rhs)
 }
 
 /// Whether rows differ, from whether what is stored of them does, in the same way: two nulls do not, and a null and a
@@ -74,38 +88,52 @@ pub fn finish_neq_validities(
     ensures rows { IfOk result (λ array. boolean_rows array ≡ finished finished_neq (boolean_rows out) lhs rhs) }
     ensures err { IsOkUnless result Error.OutOfMemory }
 {
+    finish::<NotEqual>(alloc, out, lhs, rhs)
+}
+
+/// Answers to rows, from those to what is stored of them and from the validity of both sides. A null of `out` stays.
+///
+/// # Requires
+/// Each validity has a bit for each row.
+///
+/// # Errors
+/// `OutOfMemory` where memory is refused.
+pub(crate) fn finish<E: Sameness>(
+    alloc: Global,
+    out: BooleanArray,
+    lhs: Option<Bitmap>,
+    rhs: Option<Bitmap>,
+) -> Result<BooleanArray, Error>
+    requires left { FitsRows lhs (length (boolean_rows out)) }
+    requires right { FitsRows rhs (length (boolean_rows out)) }
+    ensures array_type { IfOk result (λ array. array.arrow_type ≡ plain boolean) }
+    ensures rows { IfOk result (λ array. boolean_rows array ≡ finished E.finishes (boolean_rows out) lhs rhs) }
+    ensures err { IsOkUnless result Error.OutOfMemory }
+{
+    let stored = out.values();
     let bits = bits_by_words(
         alloc,
         out.len(),
-        |j| differing_word(out.values(), &lhs, &rhs, j),
+        |j| finished_word::<E>(stored, &lhs, &rhs, j),
     )?;
     Ok(truths(bits, shared(out.validity())?))
 }
 
-/// Which of the 64 rows from row `64 * j` on are the same, where `equal` says of which what is stored is equal.
+/// The answers to the 64 rows from row `64 * j` on, where `stored` has those to what is stored.
 ///
 /// # Requires
 /// Each validity has a bit for each row.
-fn same_word(equal: &Bitmap, lhs: &Option<Bitmap>, rhs: &Option<Bitmap>, j: usize) -> u64
-    requires left { FitsRows lhs.now (length equal.now) }
-    requires right { FitsRows rhs.now (length equal.now) }
-    ensures { IsWordOf (finished finished_eq (map Boolean equal.now) lhs.now rhs.now) j result }
+fn finished_word<E: Sameness>(
+    stored: &Bitmap,
+    lhs: &Option<Bitmap>,
+    rhs: &Option<Bitmap>,
+    j: usize,
+) -> u64
+    requires left { FitsRows lhs.now (length stored.now) }
+    requires right { FitsRows rhs.now (length stored.now) }
+    ensures { IsWordOf (finished E.finishes (map Boolean stored.now) lhs.now rhs.now) j result }
 {
-    let (left, right) = (valid_word(lhs, j), valid_word(rhs, j));
-    equal.word(j) & left & right | !(left | right)
-}
-
-/// Which of them differ, where `unequal` says of which what is stored does.
-///
-/// # Requires
-/// Each validity has a bit for each row.
-fn differing_word(unequal: &Bitmap, lhs: &Option<Bitmap>, rhs: &Option<Bitmap>, j: usize) -> u64
-    requires left { FitsRows lhs.now (length unequal.now) }
-    requires right { FitsRows rhs.now (length unequal.now) }
-    ensures { IsWordOf (finished finished_neq (map Boolean unequal.now) lhs.now rhs.now) j result }
-{
-    let (left, right) = (valid_word(lhs, j), valid_word(rhs, j));
-    unequal.word(j) & left & right | left ^ right
+    E::finished_word(stored.word(j), valid_word(lhs, j), valid_word(rhs, j))
 }
 
 /// Which of the 64 rows from row `64 * j` on are valid, a bit each.

@@ -1,10 +1,12 @@
 //! Relations that are known when the program is compiled, so that a loop over rows has no test of which one it is.
 
-ghost use Rattle.std.specs.Prelude.{◌≡◌, ◌<◌, ◌==◌, ℕ};
+ghost use Rattle.std.specs.Prelude.{◌≡◌, ◌<◌, ◌==◌, ℕ, Bool, if◌then◌else◌, refl};
 ghost use Rattle.std.specs.Int.{bit_at};
+ghost use Rattle.arrow_types.specs.Logic.{finished_eq, finished_neq};
 ghost use Rattle.arrow_types.specs.Relation.{Relation as RowRelation, related, holds};
 ghost use Rattle.arrow_types.specs.Relation as relation;
-ghost use Rattle.arrow_types.specs.Slot.{Boolean};
+ghost use Rattle.arrow_types.specs.Slot.{Slot, Boolean, Null};
+ghost use Rattle.arrow_relate.specs.Same.{differs, is_same};
 
 use arrow_types::types::{NativeOrd, NativeType};
 use std::cmp::Ordering;
@@ -21,6 +23,26 @@ pub(crate) trait FixedRelation {
     /// Whether it holds of each bit of a word and the other's, where false comes before true.
     fn of_words(left: u64, right: u64) -> u64
         ensures { (k : ℕ) → k < 64 → Boolean (bit_at result k == 1) ≡ related op (Boolean (bit_at left k == 1)) (Boolean (bit_at right k == 1)) };
+}
+
+/// Equality, or that there is none, where nulls are looked at too.
+pub(crate) trait Sameness: FixedRelation {
+    // what it answers of two rows, null or not
+    ghost tells: { Slot → Slot → Slot };
+
+    // what it makes of its answer to what is stored, and of whether each of the rows is valid
+    ghost finishes: { Slot → Bool → Bool → Slot };
+
+    /// Its answers to the rows of a word, from those to what is stored and from which rows of each side are valid.
+    fn finished_word(stored: u64, left: u64, right: u64) -> u64
+        ensures { (k : ℕ) → k < 64 → Boolean (bit_at result k == 1) ≡ finishes (Boolean (bit_at stored k == 1)) (bit_at left k == 1) (bit_at right k == 1) };
+
+    /// Shows what it tells of two rows, by its answer to what is stored and by which of them are valid.
+    fn shows_rows()
+        ensures { (p q : Bool) (s r : Slot) (b : Bool) → related Self.op s r ≡ Boolean b → finishes (Boolean b) p q ≡ tells (if p then s else Null) (if q then r else Null) };
+
+    // a null of such answers stays
+    ghost finishes_null: { (p q : Bool) → finishes Null p q ≡ Null };
 }
 
 /// A relation of values of a native type.
@@ -118,6 +140,34 @@ impl FixedRelation for GreaterOrEqual {
     fn of_words(left: u64, right: u64) -> u64 {
         left | !right
     }
+}
+
+impl Sameness for Equal {
+    ghost tells = { is_same };
+
+    ghost finishes = { finished_eq };
+
+    fn finished_word(stored: u64, left: u64, right: u64) -> u64 {
+        stored & left & right | !(left | right)
+    }
+
+    fn shows_rows() {}
+
+    ghost finishes_null = { λ p q. refl };
+}
+
+impl Sameness for NotEqual {
+    ghost tells = { differs };
+
+    ghost finishes = { finished_neq };
+
+    fn finished_word(stored: u64, left: u64, right: u64) -> u64 {
+        stored & left & right | left ^ right
+    }
+
+    fn shows_rows() {}
+
+    ghost finishes_null = { λ p q. refl };
 }
 
 impl<T: NativeType> Test<T> for Equal {

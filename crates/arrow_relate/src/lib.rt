@@ -4,6 +4,6 @@
 
 pub mod comparison;
 mod fixed;
-mod nulls;
 pub mod relation;
+mod stored;
 mod words;

@@ -1,29 +1,24 @@
 //! Rows of an array without dictionaries and a value, a scalar that is no null.
 
-ghost use Rattle.std.specs.Prelude.{◌≡◌, false, map, IfOk, IsOkUnless};
+ghost use Rattle.std.specs.Prelude.{◌≡◌, ◌≢◌, false, map, None, Some, IfOk, IsOkUnless};
 ghost use Rattle.arrow_types.specs.declared.error.Error.{Error};
 ghost use Rattle.arrow_types.specs.ArrowType.{boolean, plain};
 ghost use Rattle.arrow_types.specs.Relation.{is_null, related};
-ghost use Rattle.arrow_types.specs.Slot.{Boolean, Bytes, Text};
 ghost use Rattle.arrow_flat.specs.AnyPrimitive.{any_rows, element_of};
 ghost use Rattle.arrow_flat.specs.AnyPrimitiveScalar.{any_scalar_slot, element_of as scalar_element};
 ghost use Rattle.arrow_flat.specs.AnyScalar.{meaning_of};
-ghost use Rattle.arrow_flat.specs.ByteRows.{byte_slots};
 ghost use Rattle.arrow_flat.specs.Parts.{boolean_rows, rows_by};
-ghost use Rattle.arrow_flat.specs.Scalars.{slot_by};
 ghost use Rattle.arrow_arrays.specs.Any.{any_array_rows, kind_of, primitive_kind};
 ghost use Rattle.arrow_relate.specs.Related.{relation_of};
 ghost use Rattle.arrow_compare.specs.Kinds.{IsEquality, KindHasRelation, scalar_kind};
 
 use arrow_arrays::array::AnyArray;
-use arrow_flat::array::{AnyPrimitive, BinaryArray, BooleanArray, PrimitiveArray, Utf8Array};
-use arrow_flat::scalar::{
-    AnyPrimitiveScalar, AnyScalar, BinaryScalar, BooleanScalar, PrimitiveScalar, Utf8Scalar,
-};
+use arrow_flat::array::{AnyPrimitive, BooleanArray, PrimitiveArray};
+use arrow_flat::scalar::{AnyPrimitiveScalar, AnyScalar};
 use arrow_relate::comparison::{binary, boolean, primitive, utf8};
 use arrow_relate::relation::Relation;
 use arrow_types::error::Error;
-use arrow_types::types::{NativeOrd, NativeType, Offset};
+use arrow_types::types::NativeType;
 use std::alloc::Global;
 
 /// Whether each row is so related to the value, and null where the row is.
@@ -42,77 +37,36 @@ pub(super) fn relate_flat(
 {
     match (lhs, rhs) {
         (AnyArray::Boolean(array), AnyScalar::Boolean(scalar)) => {
-            relate_truth(alloc, by, array, scalar)
+            boolean::relate_scalar(alloc, by, array, known(scalar.value()))
         }
         (AnyArray::Primitive(array), AnyScalar::Primitive(scalar)) => {
             relate_primitive(alloc, by, array, scalar)
         }
-        (AnyArray::Utf8(array), AnyScalar::Utf8(scalar)) => relate_text(alloc, by, array, scalar),
+        (AnyArray::Utf8(array), AnyScalar::Utf8(scalar)) => {
+            utf8::relate_scalar(alloc, by, array, known(scalar.value()))
+        }
         (AnyArray::LargeUtf8(array), AnyScalar::LargeUtf8(scalar)) => {
-            relate_text(alloc, by, array, scalar)
+            utf8::relate_scalar(alloc, by, array, known(scalar.value()))
         }
         (AnyArray::Binary(array), AnyScalar::Binary(scalar)) => {
-            relate_bytes(alloc, by, array, scalar)
+            binary::relate_scalar(alloc, by, array, known(scalar.value()))
         }
         (AnyArray::LargeBinary(array), AnyScalar::LargeBinary(scalar)) => {
-            relate_bytes(alloc, by, array, scalar)
+            binary::relate_scalar(alloc, by, array, known(scalar.value()))
         }
         _ => unreachable!(),
     }
 }
 
-/// [`relate_flat`] of truth values.
-fn relate_truth(
-    alloc: Global,
-    by: Relation,
-    lhs: &BooleanArray,
-    rhs: &BooleanScalar,
-) -> Result<BooleanArray, Error>
-    requires valid { is_null (slot_by Boolean rhs.now.value) ≡ false }
-    ensures array_type { IfOk result (λ array. array.arrow_type ≡ plain boolean) }
-    ensures rows { IfOk result (λ array. boolean_rows array ≡ map (λ s. related (relation_of by) s (slot_by Boolean rhs.now.value)) (boolean_rows lhs.now)) }
-    ensures err { IsOkUnless result Error.OutOfMemory }
+/// The value of a scalar that is no null.
+fn known<T: Copy>(value: Option<T>) -> T
+    requires { value ≢ None }
+    ensures { value ≡ Some result }
 {
-    let Some(value) = rhs.value() else {
+    let Some(value) = value else {
         unreachable!();
     };
-    boolean::relate_scalar(alloc, by, lhs, value)
-}
-
-/// [`relate_flat`] of texts.
-fn relate_text<O: Offset>(
-    alloc: Global,
-    by: Relation,
-    lhs: &Utf8Array<O>,
-    rhs: &Utf8Scalar<O>,
-) -> Result<BooleanArray, Error>
-    requires valid { is_null (slot_by Text rhs.now.value) ≡ false }
-    ensures array_type { IfOk result (λ array. array.arrow_type ≡ plain boolean) }
-    ensures rows { IfOk result (λ array. boolean_rows array ≡ map (λ s. related (relation_of by) s (slot_by Text rhs.now.value)) (rows_by (byte_slots Text) lhs.now)) }
-    ensures err { IsOkUnless result Error.OutOfMemory }
-{
-    let Some(text) = rhs.value() else {
-        unreachable!();
-    };
-    utf8::relate_scalar(alloc, by, lhs, text)
-}
-
-/// [`relate_flat`] of bytes.
-fn relate_bytes<O: Offset>(
-    alloc: Global,
-    by: Relation,
-    lhs: &BinaryArray<O>,
-    rhs: &BinaryScalar<O>,
-) -> Result<BooleanArray, Error>
-    requires valid { is_null (slot_by Bytes rhs.now.value) ≡ false }
-    ensures array_type { IfOk result (λ array. array.arrow_type ≡ plain boolean) }
-    ensures rows { IfOk result (λ array. boolean_rows array ≡ map (λ s. related (relation_of by) s (slot_by Bytes rhs.now.value)) (rows_by (byte_slots Bytes) lhs.now)) }
-    ensures err { IsOkUnless result Error.OutOfMemory }
-{
-    let Some(bytes) = rhs.value() else {
-        unreachable!();
-    };
-    binary::relate_scalar(alloc, by, lhs, bytes)
+    value
 }
 
 /// [`relate_flat`] of primitives of one element type.
@@ -131,7 +85,7 @@ fn relate_primitive(
 {
     macro_rules! number {
         ($array:ident, $scalar:ident) => {
-            relate_number(alloc, by, $array, $scalar)
+            primitive::relate_scalar(alloc, by, $array, known($scalar.value()))
         };
     }
     match (lhs, rhs) {
@@ -146,52 +100,30 @@ fn relate_primitive(
         (AnyPrimitive::UInt32(array), AnyPrimitiveScalar::UInt32(scalar)) => number!(array, scalar),
         (AnyPrimitive::UInt64(array), AnyPrimitiveScalar::UInt64(scalar)) => number!(array, scalar),
         (AnyPrimitive::DaysMs(array), AnyPrimitiveScalar::DaysMs(scalar)) => {
-            relate_interval(alloc, by, array, scalar)
+            relate_interval(alloc, by, array, known(scalar.value()))
         }
         (AnyPrimitive::MonthDayNano(array), AnyPrimitiveScalar::MonthDayNano(scalar)) => {
-            relate_interval(alloc, by, array, scalar)
+            relate_interval(alloc, by, array, known(scalar.value()))
         }
         _ => unreachable!(),
     }
 }
 
-/// [`relate_flat`] of numbers.
-fn relate_number<T: NativeOrd>(
-    alloc: Global,
-    by: Relation,
-    lhs: &PrimitiveArray<T>,
-    rhs: &PrimitiveScalar<T>,
-) -> Result<BooleanArray, Error>
-    requires valid { is_null (slot_by T.slot rhs.now.value) ≡ false }
-    ensures array_type { IfOk result (λ array. array.arrow_type ≡ plain boolean) }
-    ensures rows { IfOk result (λ array. boolean_rows array ≡ map (λ s. related (relation_of by) s (slot_by T.slot rhs.now.value)) (rows_by (map T.slot) lhs.now)) }
-    ensures err { IsOkUnless result Error.OutOfMemory }
-{
-    let Some(value) = rhs.value() else {
-        unreachable!();
-    };
-    primitive::relate_scalar(alloc, by, lhs, value)
-}
-
-/// [`relate_flat`] of intervals that stand in no order.
+/// Whether each interval, which stands in no order, is so related to a value, and null where it is.
 fn relate_interval<T: NativeType>(
     alloc: Global,
     by: Relation,
     lhs: &PrimitiveArray<T>,
-    rhs: &PrimitiveScalar<T>,
+    rhs: T,
 ) -> Result<BooleanArray, Error>
-    requires equality { IsEquality (relation_of by) }
-    requires valid { is_null (slot_by T.slot rhs.now.value) ≡ false }
+    requires { IsEquality (relation_of by) }
     ensures array_type { IfOk result (λ array. array.arrow_type ≡ plain boolean) }
-    ensures rows { IfOk result (λ array. boolean_rows array ≡ map (λ s. related (relation_of by) s (slot_by T.slot rhs.now.value)) (rows_by (map T.slot) lhs.now)) }
+    ensures rows { IfOk result (λ array. boolean_rows array ≡ map (λ s. related (relation_of by) s (T.slot rhs)) (rows_by (map T.slot) lhs.now)) }
     ensures err { IsOkUnless result Error.OutOfMemory }
 {
-    let Some(value) = rhs.value() else {
-        unreachable!();
-    };
     match by {
-        Relation::Eq => primitive::eq_scalar(alloc, lhs, value),
-        Relation::Neq => primitive::neq_scalar(alloc, lhs, value),
+        Relation::Eq => primitive::eq_scalar(alloc, lhs, rhs),
+        Relation::Neq => primitive::neq_scalar(alloc, lhs, rhs),
         _ => unreachable!(),
     }
 }

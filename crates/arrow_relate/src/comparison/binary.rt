@@ -12,9 +12,9 @@ ghost use Rattle.arrow_flat.specs.Parts.{boolean_rows, rows_by};
 ghost use Rattle.arrow_logic.specs.RowByRow.{row_by_row};
 ghost use Rattle.arrow_relate.specs.Same.{is_same, differs};
 
-use crate::comparison::bytes;
 use crate::fixed::{Equal, Greater, GreaterOrEqual, Less, LessOrEqual, NotEqual};
 use crate::relation::Relation;
+use crate::stored::{relate_by, relate_scalar_by, same_by, same_scalar_by};
 use arrow_flat::array::{BinaryArray, BooleanArray};
 use arrow_types::error::Error;
 use arrow_types::types::Offset;
@@ -39,7 +39,7 @@ pub fn eq<O: Offset>(
     ensures rows { IfOk result (λ array. boolean_rows array ≡ row_by_row (related relation.eq) (rows_by (byte_slots Bytes) lhs.now) (rows_by (byte_slots Bytes) rhs.now)) }
     ensures err { IsOkUnless result Error.OutOfMemory }
 {
-    bytes::relate_by::<Equal, _, _>(alloc, lhs, rhs)
+    relate_by::<Equal, _>(alloc, lhs, rhs)
 }
 
 /// Whether the rows of both sides are the same: two nulls are, and a null and a value are not. No row is null.
@@ -61,7 +61,7 @@ pub fn eq_and_validity<O: Offset>(
     ensures rows { IfOk result (λ array. boolean_rows array ≡ row_by_row is_same (rows_by (byte_slots Bytes) lhs.now) (rows_by (byte_slots Bytes) rhs.now)) }
     ensures err { IsOkUnless result Error.OutOfMemory }
 {
-    bytes::eq_and_validity(alloc, lhs, rhs)
+    same_by::<Equal, _>(alloc, lhs, rhs)
 }
 
 /// Whether each row equals the scalar, and null where the row is.
@@ -79,7 +79,7 @@ pub fn eq_scalar<O: Offset>(
     ensures rows { IfOk result (λ array. boolean_rows array ≡ map (λ s. related relation.eq s (Bytes rhs.now)) (rows_by (byte_slots Bytes) lhs.now)) }
     ensures err { IsOkUnless result Error.OutOfMemory }
 {
-    bytes::relate_scalar_by::<Equal, _, _>(alloc, lhs, rhs)
+    relate_scalar_by::<Equal, _, _>(alloc, lhs, rhs)
 }
 
 /// Whether each row is the scalar: a null is not. No row is null.
@@ -97,7 +97,7 @@ pub fn eq_scalar_and_validity<O: Offset>(
     ensures rows { IfOk result (λ array. boolean_rows array ≡ map (λ s. is_same s (Bytes rhs.now)) (rows_by (byte_slots Bytes) lhs.now)) }
     ensures err { IsOkUnless result Error.OutOfMemory }
 {
-    bytes::eq_scalar_and_validity(alloc, lhs, rhs)
+    same_scalar_by::<Equal, _, _>(alloc, lhs, rhs)
 }
 
 /// Whether each row of the left side differs from that of the right one, and null where one of the two is.
@@ -119,7 +119,7 @@ pub fn neq<O: Offset>(
     ensures rows { IfOk result (λ array. boolean_rows array ≡ row_by_row (related relation.neq) (rows_by (byte_slots Bytes) lhs.now) (rows_by (byte_slots Bytes) rhs.now)) }
     ensures err { IsOkUnless result Error.OutOfMemory }
 {
-    bytes::relate_by::<NotEqual, _, _>(alloc, lhs, rhs)
+    relate_by::<NotEqual, _>(alloc, lhs, rhs)
 }
 
 /// Whether the rows of both sides differ: the rows of [`eq_and_validity`] turned.
@@ -141,7 +141,7 @@ pub fn neq_and_validity<O: Offset>(
     ensures rows { IfOk result (λ array. boolean_rows array ≡ row_by_row differs (rows_by (byte_slots Bytes) lhs.now) (rows_by (byte_slots Bytes) rhs.now)) }
     ensures err { IsOkUnless result Error.OutOfMemory }
 {
-    bytes::neq_and_validity(alloc, lhs, rhs)
+    same_by::<NotEqual, _>(alloc, lhs, rhs)
 }
 
 /// Whether each row differs from the scalar, and null where the row is.
@@ -159,7 +159,7 @@ pub fn neq_scalar<O: Offset>(
     ensures rows { IfOk result (λ array. boolean_rows array ≡ map (λ s. related relation.neq s (Bytes rhs.now)) (rows_by (byte_slots Bytes) lhs.now)) }
     ensures err { IsOkUnless result Error.OutOfMemory }
 {
-    bytes::relate_scalar_by::<NotEqual, _, _>(alloc, lhs, rhs)
+    relate_scalar_by::<NotEqual, _, _>(alloc, lhs, rhs)
 }
 
 /// Whether each row differs from the scalar: a null does. No row is null.
@@ -177,7 +177,7 @@ pub fn neq_scalar_and_validity<O: Offset>(
     ensures rows { IfOk result (λ array. boolean_rows array ≡ map (λ s. differs s (Bytes rhs.now)) (rows_by (byte_slots Bytes) lhs.now)) }
     ensures err { IsOkUnless result Error.OutOfMemory }
 {
-    bytes::neq_scalar_and_validity(alloc, lhs, rhs)
+    same_scalar_by::<NotEqual, _, _>(alloc, lhs, rhs)
 }
 
 /// Whether each row of the left side comes before that of the right one, and null where one of the two is.
@@ -199,7 +199,7 @@ pub fn lt<O: Offset>(
     ensures rows { IfOk result (λ array. boolean_rows array ≡ row_by_row (related relation.lt) (rows_by (byte_slots Bytes) lhs.now) (rows_by (byte_slots Bytes) rhs.now)) }
     ensures err { IsOkUnless result Error.OutOfMemory }
 {
-    bytes::relate_by::<Less, _, _>(alloc, lhs, rhs)
+    relate_by::<Less, _>(alloc, lhs, rhs)
 }
 
 /// Whether each row comes before the scalar, and null where the row is.
@@ -217,7 +217,7 @@ pub fn lt_scalar<O: Offset>(
     ensures rows { IfOk result (λ array. boolean_rows array ≡ map (λ s. related relation.lt s (Bytes rhs.now)) (rows_by (byte_slots Bytes) lhs.now)) }
     ensures err { IsOkUnless result Error.OutOfMemory }
 {
-    bytes::relate_scalar_by::<Less, _, _>(alloc, lhs, rhs)
+    relate_scalar_by::<Less, _, _>(alloc, lhs, rhs)
 }
 
 /// Whether each row of the left side does not come after that of the right one, and null where one of the two is.
@@ -239,7 +239,7 @@ pub fn lt_eq<O: Offset>(
     ensures rows { IfOk result (λ array. boolean_rows array ≡ row_by_row (related relation.lt_eq) (rows_by (byte_slots Bytes) lhs.now) (rows_by (byte_slots Bytes) rhs.now)) }
     ensures err { IsOkUnless result Error.OutOfMemory }
 {
-    bytes::relate_by::<LessOrEqual, _, _>(alloc, lhs, rhs)
+    relate_by::<LessOrEqual, _>(alloc, lhs, rhs)
 }
 
 /// Whether each row does not come after the scalar, and null where the row is.
@@ -257,7 +257,7 @@ pub fn lt_eq_scalar<O: Offset>(
     ensures rows { IfOk result (λ array. boolean_rows array ≡ map (λ s. related relation.lt_eq s (Bytes rhs.now)) (rows_by (byte_slots Bytes) lhs.now)) }
     ensures err { IsOkUnless result Error.OutOfMemory }
 {
-    bytes::relate_scalar_by::<LessOrEqual, _, _>(alloc, lhs, rhs)
+    relate_scalar_by::<LessOrEqual, _, _>(alloc, lhs, rhs)
 }
 
 /// Whether each row of the left side comes after that of the right one, and null where one of the two is.
@@ -279,7 +279,7 @@ pub fn gt<O: Offset>(
     ensures rows { IfOk result (λ array. boolean_rows array ≡ row_by_row (related relation.gt) (rows_by (byte_slots Bytes) lhs.now) (rows_by (byte_slots Bytes) rhs.now)) }
     ensures err { IsOkUnless result Error.OutOfMemory }
 {
-    bytes::relate_by::<Greater, _, _>(alloc, lhs, rhs)
+    relate_by::<Greater, _>(alloc, lhs, rhs)
 }
 
 /// Whether each row comes after the scalar, and null where the row is.
@@ -297,7 +297,7 @@ pub fn gt_scalar<O: Offset>(
     ensures rows { IfOk result (λ array. boolean_rows array ≡ map (λ s. related relation.gt s (Bytes rhs.now)) (rows_by (byte_slots Bytes) lhs.now)) }
     ensures err { IsOkUnless result Error.OutOfMemory }
 {
-    bytes::relate_scalar_by::<Greater, _, _>(alloc, lhs, rhs)
+    relate_scalar_by::<Greater, _, _>(alloc, lhs, rhs)
 }
 
 /// Whether each row of the left side does not come before that of the right one, and null where one of the two is.
@@ -319,7 +319,7 @@ pub fn gt_eq<O: Offset>(
     ensures rows { IfOk result (λ array. boolean_rows array ≡ row_by_row (related relation.gt_eq) (rows_by (byte_slots Bytes) lhs.now) (rows_by (byte_slots Bytes) rhs.now)) }
     ensures err { IsOkUnless result Error.OutOfMemory }
 {
-    bytes::relate_by::<GreaterOrEqual, _, _>(alloc, lhs, rhs)
+    relate_by::<GreaterOrEqual, _>(alloc, lhs, rhs)
 }
 
 /// Whether each row does not come before the scalar, and null where the row is.
@@ -337,7 +337,7 @@ pub fn gt_eq_scalar<O: Offset>(
     ensures rows { IfOk result (λ array. boolean_rows array ≡ map (λ s. related relation.gt_eq s (Bytes rhs.now)) (rows_by (byte_slots Bytes) lhs.now)) }
     ensures err { IsOkUnless result Error.OutOfMemory }
 {
-    bytes::relate_scalar_by::<GreaterOrEqual, _, _>(alloc, lhs, rhs)
+    relate_scalar_by::<GreaterOrEqual, _, _>(alloc, lhs, rhs)
 }
 
 /// Whether each row is so related to that of the right side, and null where one of the two is.
@@ -358,7 +358,7 @@ pub fn relate<O: Offset>(
     ensures rows { IfOk result (λ array. boolean_rows array ≡ row_by_row (related (relation_of by)) (rows_by (byte_slots Bytes) lhs.now) (rows_by (byte_slots Bytes) rhs.now)) }
     ensures err { IsOkUnless result Error.OutOfMemory }
 {
-    bytes::relate(alloc, by, lhs, rhs)
+    by_relation!(by, relate_by::<_, _>(alloc, lhs, rhs))
 }
 
 /// Whether each row is so related to the scalar, and null where the row is.
@@ -375,5 +375,5 @@ pub fn relate_scalar<O: Offset>(
     ensures rows { IfOk result (λ array. boolean_rows array ≡ map (λ s. related (relation_of by) s (Bytes rhs.now)) (rows_by (byte_slots Bytes) lhs.now)) }
     ensures err { IsOkUnless result Error.OutOfMemory }
 {
-    bytes::relate_scalar(alloc, by, lhs, rhs)
+    by_relation!(by, relate_scalar_by::<_, _, _>(alloc, lhs, rhs))
 }

@@ -14,14 +14,12 @@ ghost use Rattle.arrow_relate.specs.Same.{is_same, differs};
 ghost use Rattle.arrow_relate.specs.Words.{IsWordOf};
 
 use crate::fixed::{Equal, FixedRelation, Greater, GreaterOrEqual, Less, LessOrEqual, NotEqual};
-use crate::nulls::{
-    differing_rows, differs_from_scalar, null_where_either, same_as_scalar, same_rows,
-};
 use crate::relation::Relation;
+use crate::stored::{
+    RelatedBy, RelatedToScalar, relate_by, relate_scalar_by, same_by, same_scalar_by,
+};
 use crate::words::bits_by_words;
 use arrow_flat::array::BooleanArray;
-use arrow_logic::truths::truths;
-use arrow_logic::validity::shared;
 use arrow_memory::bitmap::Bitmap;
 use arrow_types::error::Error;
 use std::alloc::Global;
@@ -41,7 +39,7 @@ pub fn eq(alloc: Global, lhs: &BooleanArray, rhs: &BooleanArray) -> Result<Boole
     ensures rows { IfOk result (λ array. boolean_rows array ≡ row_by_row (related relation.eq) (boolean_rows lhs.now) (boolean_rows rhs.now)) }
     ensures err { IsOkUnless result Error.OutOfMemory }
 {
-    relate_by::<Equal>(alloc, lhs, rhs)
+    relate_by::<Equal, _>(alloc, lhs, rhs)
 }
 
 /// Whether the rows of both sides are the same: two nulls are, and a null and a value are not. No row is null.
@@ -63,8 +61,7 @@ pub fn eq_and_validity(
     ensures rows { IfOk result (λ array. boolean_rows array ≡ row_by_row is_same (boolean_rows lhs.now) (boolean_rows rhs.now)) }
     ensures err { IsOkUnless result Error.OutOfMemory }
 {
-    let bits = related_bits::<Equal>(alloc, lhs, rhs)?;
-    same_rows(alloc, bits, lhs, rhs)
+    same_by::<Equal, _>(alloc, lhs, rhs)
 }
 
 /// Whether each row equals the scalar, and null where the row is.
@@ -78,7 +75,7 @@ pub fn eq_scalar(alloc: Global, lhs: &BooleanArray, rhs: bool) -> Result<Boolean
     ensures rows { IfOk result (λ array. boolean_rows array ≡ map (λ s. related relation.eq s (Boolean rhs)) (boolean_rows lhs.now)) }
     ensures err { IsOkUnless result Error.OutOfMemory }
 {
-    relate_scalar_by::<Equal>(alloc, lhs, rhs)
+    relate_scalar_by::<Equal, _, _>(alloc, lhs, rhs)
 }
 
 /// Whether each row is the scalar: a null is not. No row is null.
@@ -96,8 +93,7 @@ pub fn eq_scalar_and_validity(
     ensures rows { IfOk result (λ array. boolean_rows array ≡ map (λ s. is_same s (Boolean rhs)) (boolean_rows lhs.now)) }
     ensures err { IsOkUnless result Error.OutOfMemory }
 {
-    let bits = related_scalar_bits::<Equal>(alloc, lhs, rhs)?;
-    same_as_scalar(alloc, bits, lhs)
+    same_scalar_by::<Equal, _, _>(alloc, lhs, rhs)
 }
 
 /// Whether each row of the left side differs from that of the right one, and null where one of the two is.
@@ -115,7 +111,7 @@ pub fn neq(alloc: Global, lhs: &BooleanArray, rhs: &BooleanArray) -> Result<Bool
     ensures rows { IfOk result (λ array. boolean_rows array ≡ row_by_row (related relation.neq) (boolean_rows lhs.now) (boolean_rows rhs.now)) }
     ensures err { IsOkUnless result Error.OutOfMemory }
 {
-    relate_by::<NotEqual>(alloc, lhs, rhs)
+    relate_by::<NotEqual, _>(alloc, lhs, rhs)
 }
 
 /// Whether the rows of both sides differ: the rows of [`eq_and_validity`] turned.
@@ -137,8 +133,7 @@ pub fn neq_and_validity(
     ensures rows { IfOk result (λ array. boolean_rows array ≡ row_by_row differs (boolean_rows lhs.now) (boolean_rows rhs.now)) }
     ensures err { IsOkUnless result Error.OutOfMemory }
 {
-    let bits = related_bits::<Equal>(alloc, lhs, rhs)?;
-    differing_rows(alloc, bits, lhs, rhs)
+    same_by::<NotEqual, _>(alloc, lhs, rhs)
 }
 
 /// Whether each row differs from the scalar, and null where the row is.
@@ -152,7 +147,7 @@ pub fn neq_scalar(alloc: Global, lhs: &BooleanArray, rhs: bool) -> Result<Boolea
     ensures rows { IfOk result (λ array. boolean_rows array ≡ map (λ s. related relation.neq s (Boolean rhs)) (boolean_rows lhs.now)) }
     ensures err { IsOkUnless result Error.OutOfMemory }
 {
-    relate_scalar_by::<NotEqual>(alloc, lhs, rhs)
+    relate_scalar_by::<NotEqual, _, _>(alloc, lhs, rhs)
 }
 
 /// Whether each row differs from the scalar: a null does. No row is null.
@@ -170,8 +165,7 @@ pub fn neq_scalar_and_validity(
     ensures rows { IfOk result (λ array. boolean_rows array ≡ map (λ s. differs s (Boolean rhs)) (boolean_rows lhs.now)) }
     ensures err { IsOkUnless result Error.OutOfMemory }
 {
-    let bits = related_scalar_bits::<Equal>(alloc, lhs, rhs)?;
-    differs_from_scalar(alloc, bits, lhs)
+    same_scalar_by::<NotEqual, _, _>(alloc, lhs, rhs)
 }
 
 /// Whether each row of the left side comes before that of the right one, and null where one of the two is.
@@ -189,7 +183,7 @@ pub fn lt(alloc: Global, lhs: &BooleanArray, rhs: &BooleanArray) -> Result<Boole
     ensures rows { IfOk result (λ array. boolean_rows array ≡ row_by_row (related relation.lt) (boolean_rows lhs.now) (boolean_rows rhs.now)) }
     ensures err { IsOkUnless result Error.OutOfMemory }
 {
-    relate_by::<Less>(alloc, lhs, rhs)
+    relate_by::<Less, _>(alloc, lhs, rhs)
 }
 
 /// Whether each row comes before the scalar, and null where the row is.
@@ -203,7 +197,7 @@ pub fn lt_scalar(alloc: Global, lhs: &BooleanArray, rhs: bool) -> Result<Boolean
     ensures rows { IfOk result (λ array. boolean_rows array ≡ map (λ s. related relation.lt s (Boolean rhs)) (boolean_rows lhs.now)) }
     ensures err { IsOkUnless result Error.OutOfMemory }
 {
-    relate_scalar_by::<Less>(alloc, lhs, rhs)
+    relate_scalar_by::<Less, _, _>(alloc, lhs, rhs)
 }
 
 /// Whether each row of the left side does not come after that of the right one, and null where one of the two is.
@@ -221,7 +215,7 @@ pub fn lt_eq(alloc: Global, lhs: &BooleanArray, rhs: &BooleanArray) -> Result<Bo
     ensures rows { IfOk result (λ array. boolean_rows array ≡ row_by_row (related relation.lt_eq) (boolean_rows lhs.now) (boolean_rows rhs.now)) }
     ensures err { IsOkUnless result Error.OutOfMemory }
 {
-    relate_by::<LessOrEqual>(alloc, lhs, rhs)
+    relate_by::<LessOrEqual, _>(alloc, lhs, rhs)
 }
 
 /// Whether each row does not come after the scalar, and null where the row is.
@@ -235,7 +229,7 @@ pub fn lt_eq_scalar(alloc: Global, lhs: &BooleanArray, rhs: bool) -> Result<Bool
     ensures rows { IfOk result (λ array. boolean_rows array ≡ map (λ s. related relation.lt_eq s (Boolean rhs)) (boolean_rows lhs.now)) }
     ensures err { IsOkUnless result Error.OutOfMemory }
 {
-    relate_scalar_by::<LessOrEqual>(alloc, lhs, rhs)
+    relate_scalar_by::<LessOrEqual, _, _>(alloc, lhs, rhs)
 }
 
 /// Whether each row of the left side comes after that of the right one, and null where one of the two is.
@@ -253,7 +247,7 @@ pub fn gt(alloc: Global, lhs: &BooleanArray, rhs: &BooleanArray) -> Result<Boole
     ensures rows { IfOk result (λ array. boolean_rows array ≡ row_by_row (related relation.gt) (boolean_rows lhs.now) (boolean_rows rhs.now)) }
     ensures err { IsOkUnless result Error.OutOfMemory }
 {
-    relate_by::<Greater>(alloc, lhs, rhs)
+    relate_by::<Greater, _>(alloc, lhs, rhs)
 }
 
 /// Whether each row comes after the scalar, and null where the row is.
@@ -267,7 +261,7 @@ pub fn gt_scalar(alloc: Global, lhs: &BooleanArray, rhs: bool) -> Result<Boolean
     ensures rows { IfOk result (λ array. boolean_rows array ≡ map (λ s. related relation.gt s (Boolean rhs)) (boolean_rows lhs.now)) }
     ensures err { IsOkUnless result Error.OutOfMemory }
 {
-    relate_scalar_by::<Greater>(alloc, lhs, rhs)
+    relate_scalar_by::<Greater, _, _>(alloc, lhs, rhs)
 }
 
 /// Whether each row of the left side does not come before that of the right one, and null where one of the two is.
@@ -285,7 +279,7 @@ pub fn gt_eq(alloc: Global, lhs: &BooleanArray, rhs: &BooleanArray) -> Result<Bo
     ensures rows { IfOk result (λ array. boolean_rows array ≡ row_by_row (related relation.gt_eq) (boolean_rows lhs.now) (boolean_rows rhs.now)) }
     ensures err { IsOkUnless result Error.OutOfMemory }
 {
-    relate_by::<GreaterOrEqual>(alloc, lhs, rhs)
+    relate_by::<GreaterOrEqual, _>(alloc, lhs, rhs)
 }
 
 /// Whether each row does not come before the scalar, and null where the row is.
@@ -299,7 +293,7 @@ pub fn gt_eq_scalar(alloc: Global, lhs: &BooleanArray, rhs: bool) -> Result<Bool
     ensures rows { IfOk result (λ array. boolean_rows array ≡ map (λ s. related relation.gt_eq s (Boolean rhs)) (boolean_rows lhs.now)) }
     ensures err { IsOkUnless result Error.OutOfMemory }
 {
-    relate_scalar_by::<GreaterOrEqual>(alloc, lhs, rhs)
+    relate_scalar_by::<GreaterOrEqual, _, _>(alloc, lhs, rhs)
 }
 
 /// Whether each row is so related to that of the right side, and null where one of the two is.
@@ -320,14 +314,7 @@ pub fn relate(
     ensures rows { IfOk result (λ array. boolean_rows array ≡ row_by_row (related (relation_of by)) (boolean_rows lhs.now) (boolean_rows rhs.now)) }
     ensures err { IsOkUnless result Error.OutOfMemory }
 {
-    match by {
-        Relation::Eq => eq(alloc, lhs, rhs),
-        Relation::Neq => neq(alloc, lhs, rhs),
-        Relation::Lt => lt(alloc, lhs, rhs),
-        Relation::LtEq => lt_eq(alloc, lhs, rhs),
-        Relation::Gt => gt(alloc, lhs, rhs),
-        Relation::GtEq => gt_eq(alloc, lhs, rhs),
-    }
+    by_relation!(by, relate_by::<_, _>(alloc, lhs, rhs))
 }
 
 /// Whether each row is so related to the scalar, and null where the row is.
@@ -344,91 +331,50 @@ pub fn relate_scalar(
     ensures rows { IfOk result (λ array. boolean_rows array ≡ map (λ s. related (relation_of by) s (Boolean rhs)) (boolean_rows lhs.now)) }
     ensures err { IsOkUnless result Error.OutOfMemory }
 {
-    match by {
-        Relation::Eq => eq_scalar(alloc, lhs, rhs),
-        Relation::Neq => neq_scalar(alloc, lhs, rhs),
-        Relation::Lt => lt_scalar(alloc, lhs, rhs),
-        Relation::LtEq => lt_eq_scalar(alloc, lhs, rhs),
-        Relation::Gt => gt_scalar(alloc, lhs, rhs),
-        Relation::GtEq => gt_eq_scalar(alloc, lhs, rhs),
+    by_relation!(by, relate_scalar_by::<_, _, _>(alloc, lhs, rhs))
+}
+
+impl<R: FixedRelation> RelatedBy<R> for Bitmap {
+    fn related_bits(
+        alloc: Global,
+        lhs: &BooleanArray,
+        rhs: &BooleanArray,
+    ) -> Result<Bitmap, Error> {
+        // There are as many values as rows.
+        let _ = (lhs.len(), rhs.len());
+        let (left, right) = (lhs.values(), rhs.values());
+        bits_by_words(alloc, left.len(), |j| related_word::<R>(left, right, j))
     }
 }
 
-/// Whether a relation holds of the rows of both sides, and null where one of the two is.
-fn relate_by<C: FixedRelation>(
-    alloc: Global,
-    lhs: &BooleanArray,
-    rhs: &BooleanArray,
-) -> Result<BooleanArray, Error>
-    requires { length (boolean_rows lhs.now) ≡ length (boolean_rows rhs.now) }
-    ensures array_type { IfOk result (λ array. array.arrow_type ≡ plain boolean) }
-    ensures rows { IfOk result (λ array. boolean_rows array ≡ row_by_row (related C.op) (boolean_rows lhs.now) (boolean_rows rhs.now)) }
-    ensures err { IsOkUnless result Error.OutOfMemory }
-{
-    let bits = related_bits::<C>(alloc, lhs, rhs)?;
-    null_where_either::<C, Bitmap>(alloc, bits, lhs, rhs)
-}
+impl<R: FixedRelation> RelatedToScalar<R, bool> for Bitmap {
+    ghost scalar_slot = { Boolean };
 
-/// Whether a relation holds of each row and a truth value, and null where the row is.
-fn relate_scalar_by<C: FixedRelation>(
-    alloc: Global,
-    lhs: &BooleanArray,
-    rhs: bool,
-) -> Result<BooleanArray, Error>
-    ensures array_type { IfOk result (λ array. array.arrow_type ≡ plain boolean) }
-    ensures rows { IfOk result (λ array. boolean_rows array ≡ map (λ s. related C.op s (Boolean rhs)) (boolean_rows lhs.now)) }
-    ensures err { IsOkUnless result Error.OutOfMemory }
-{
-    let bits = related_scalar_bits::<C>(alloc, lhs, rhs)?;
-    Ok(truths(bits, shared(lhs.validity())?))
-}
+    ghost IsScalar = { λ scalar. Unit {0} };
 
-/// A bit for each row, set where a relation holds of what both sides store there.
-fn related_bits<C: FixedRelation>(
-    alloc: Global,
-    lhs: &BooleanArray,
-    rhs: &BooleanArray,
-) -> Result<Bitmap, Error>
-    requires { length (boolean_rows lhs.now) ≡ length (boolean_rows rhs.now) }
-    ensures ok { IfOk result (λ bits. map Boolean bits ≡ row_by_row (related C.op) (map Boolean lhs.now.values) (map Boolean rhs.now.values)) }
-    ensures err { IsOkUnless result Error.OutOfMemory }
-{
-    // There are as many values as rows.
-    let _ = (lhs.len(), rhs.len());
-    let (left, right) = (lhs.values(), rhs.values());
-    bits_by_words(alloc, left.len(), |j| related_word::<C>(left, right, j))
-}
-
-/// A bit for each row, set where a relation holds of what is stored there and a truth value.
-fn related_scalar_bits<C: FixedRelation>(
-    alloc: Global,
-    lhs: &BooleanArray,
-    rhs: bool,
-) -> Result<Bitmap, Error>
-    ensures ok { IfOk result (λ bits. map Boolean bits ≡ map (λ s. related C.op s (Boolean rhs)) (map Boolean lhs.now.values)) }
-    ensures err { IsOkUnless result Error.OutOfMemory }
-{
-    let left = lhs.values();
-    bits_by_words(
-        alloc,
-        left.len(),
-        |j| related_scalar_word::<C>(left, rhs, j),
-    )
+    fn related_scalar_bits(alloc: Global, lhs: &BooleanArray, rhs: bool) -> Result<Bitmap, Error> {
+        let left = lhs.values();
+        bits_by_words(
+            alloc,
+            left.len(),
+            |j| related_scalar_word::<R>(left, rhs, j),
+        )
+    }
 }
 
 /// Of which of the 64 rows from row `64 * j` on a relation holds, a bit each.
-fn related_word<C: FixedRelation>(left: &Bitmap, right: &Bitmap, j: usize) -> u64
+fn related_word<R: FixedRelation>(left: &Bitmap, right: &Bitmap, j: usize) -> u64
     requires { length left.now ≡ length right.now }
-    ensures { IsWordOf (row_by_row (related C.op) (map Boolean left.now) (map Boolean right.now)) j result }
+    ensures { IsWordOf (row_by_row (related R.op) (map Boolean left.now) (map Boolean right.now)) j result }
 {
-    C::of_words(left.word(j), right.word(j))
+    R::of_words(left.word(j), right.word(j))
 }
 
 /// The same of each row and a truth value.
-fn related_scalar_word<C: FixedRelation>(left: &Bitmap, right: bool, j: usize) -> u64
-    ensures { IsWordOf (map (λ s. related C.op s (Boolean right)) (map Boolean left.now)) j result }
+fn related_scalar_word<R: FixedRelation>(left: &Bitmap, right: bool, j: usize) -> u64
+    ensures { IsWordOf (map (λ s. related R.op s (Boolean right)) (map Boolean left.now)) j result }
 {
-    C::of_words(left.word(j), repeated(right))
+    R::of_words(left.word(j), repeated(right))
 }
 
 /// A word of equal bits.

@@ -1,26 +1,16 @@
 //! Relations of rows of bytes, of texts and of any bytes alike.
 
-ghost use Rattle.std.specs.Prelude.{◌≡◌, ◌+◌, ◌<◌, ◌≤◌, ℕ, List, Some, length, map, refl, slice_get, slice_index, IfOk, IsOkUnless, IsUtf8};
+ghost use Rattle.std.specs.Prelude.{◌≡◌, ◌+◌, ◌<◌, ◌≤◌, ℕ, List, Some, length, map, refl, slice_get, slice_index, IsUtf8};
 ghost use Rattle.std.specs.Ordering.{is_eq};
-ghost use Rattle.arrow_types.specs.ArrowType.{boolean, plain};
-ghost use Rattle.arrow_types.specs.declared.error.Error.{Error};
 ghost use Rattle.arrow_types.specs.Relation.{Relation as RowRelation, byte_order, holds, related};
 ghost use Rattle.arrow_types.specs.Slot.{Boolean};
 ghost use Rattle.arrow_flat.specs.ByteRows.{byte_slots, row_bytes};
-ghost use Rattle.arrow_flat.specs.Parts.{boolean_rows, rows_by};
 ghost use Rattle.arrow_logic.specs.RowByRow.{row_by_row};
-ghost use Rattle.arrow_relate.specs.Related.{relation_of};
-ghost use Rattle.arrow_relate.specs.Same.{is_same, differs};
 
 use crate::fixed::{Equal, FixedRelation, Greater, GreaterOrEqual, Less, LessOrEqual, NotEqual};
-use crate::nulls::{
-    differing_rows, differs_from_scalar, null_where_either, same_as_scalar, same_rows,
-};
-use crate::relation::Relation;
+use crate::stored::{RelatedBy, RelatedToScalar};
 use crate::words::bits_by_rows;
-use arrow_flat::array::{Binary, BooleanArray, ByteKind, ByteRows, FlatArray, Text};
-use arrow_logic::truths::truths;
-use arrow_logic::validity::shared;
+use arrow_flat::array::{Binary, ByteKind, ByteRows, FlatArray, Text};
 use arrow_memory::bitmap::Bitmap;
 use arrow_types::error::Error;
 use arrow_types::types::{Index, Offset};
@@ -216,235 +206,38 @@ fn is_related<'a, R: ByteTest, O: Offset, K: ComparedBytes>(
     R::of_bytes::<K>(rows.row(row), scalar)
 }
 
-/// Whether the relation holds of each row of both sides, null rows too, a bit each.
-///
-/// # Requires
-/// There are as many on both sides.
-///
-/// # Errors
-/// `OutOfMemory` where memory is refused.
-fn related_bits<R: ByteTest, O: Offset, K: ComparedBytes>(
-    alloc: Global,
-    left: &FlatArray<ByteRows<O, K>>,
-    right: &FlatArray<ByteRows<O, K>>,
-) -> Result<Bitmap, Error>
-    requires { length (rows_by (byte_slots K.slot) left.now) ≡ length (rows_by (byte_slots K.slot) right.now) }
-    ensures ok { IfOk result (λ bits. map Boolean bits ≡ row_by_row (related R.op) (byte_slots K.slot left.now.values) (byte_slots K.slot right.now.values)) }
-    ensures err { IsOkUnless result Error.OutOfMemory }
-{
-    // There are as many values as rows.
-    let _ = (left.len(), right.len());
-    let (left, right) = (LentRows::of(left), LentRows::of(right));
-    bits_by_rows(
-        alloc,
-        left.len(),
-        |row| are_related::<R, O, K>(&left, &right, row),
-    )
-}
-
-/// The same of each row and a scalar.
-///
-/// # Requires
-/// The scalar is a row of the kind.
-///
-/// # Errors
-/// `OutOfMemory` where memory is refused.
-fn related_scalar_bits<R: ByteTest, O: Offset, K: ComparedBytes>(
-    alloc: Global,
-    rows: &FlatArray<ByteRows<O, K>>,
-    scalar: &[u8],
-) -> Result<Bitmap, Error>
-    requires { K.Allows scalar.now }
-    ensures ok { IfOk result (λ bits. map Boolean bits ≡ map (λ s. related R.op s (K.slot scalar.now)) (byte_slots K.slot rows.now.values)) }
-    ensures err { IsOkUnless result Error.OutOfMemory }
-{
-    let rows = LentRows::of(rows);
-    bits_by_rows(
-        alloc,
-        rows.len(),
-        |row| is_related::<R, O, K>(&rows, scalar, row),
-    )
-}
-
-/// Whether a relation holds of each row of both sides, and null where one of the two is.
-///
-/// # Requires
-/// Both have as many rows.
-///
-/// # Errors
-/// `OutOfMemory` where memory is refused.
-pub(super) fn relate_by<R: ByteTest, O: Offset, K: ComparedBytes>(
-    alloc: Global,
-    lhs: &FlatArray<ByteRows<O, K>>,
-    rhs: &FlatArray<ByteRows<O, K>>,
-) -> Result<BooleanArray, Error>
-    requires { length (rows_by (byte_slots K.slot) lhs.now) ≡ length (rows_by (byte_slots K.slot) rhs.now) }
-    ensures array_type { IfOk result (λ array. array.arrow_type ≡ plain boolean) }
-    ensures rows { IfOk result (λ array. boolean_rows array ≡ row_by_row (related R.op) (rows_by (byte_slots K.slot) lhs.now) (rows_by (byte_slots K.slot) rhs.now)) }
-    ensures err { IsOkUnless result Error.OutOfMemory }
-{
-    let bits = related_bits::<R, O, K>(alloc, lhs, rhs)?;
-    null_where_either::<R, _>(alloc, bits, lhs, rhs)
-}
-
-/// Whether a relation holds of each row and a scalar, and null where the row is.
-///
-/// # Requires
-/// The scalar is a row of the kind.
-///
-/// # Errors
-/// `OutOfMemory` where memory is refused.
-pub(super) fn relate_scalar_by<R: ByteTest, O: Offset, K: ComparedBytes>(
-    alloc: Global,
-    lhs: &FlatArray<ByteRows<O, K>>,
-    rhs: &[u8],
-) -> Result<BooleanArray, Error>
-    requires { K.Allows rhs.now }
-    ensures array_type { IfOk result (λ array. array.arrow_type ≡ plain boolean) }
-    ensures rows { IfOk result (λ array. boolean_rows array ≡ map (λ s. related R.op s (K.slot rhs.now)) (rows_by (byte_slots K.slot) lhs.now)) }
-    ensures err { IsOkUnless result Error.OutOfMemory }
-{
-    let validity = shared(lhs.validity())?;
-    let bits = related_scalar_bits::<R, O, K>(alloc, lhs, rhs)?;
-    Ok(truths(bits, validity))
-}
-
-/// [`relate_by`] of a relation that is known when the program runs.
-///
-/// # Requires
-/// Both have as many rows.
-///
-/// # Errors
-/// `OutOfMemory` where memory is refused.
-pub(super) fn relate<O: Offset, K: ComparedBytes>(
-    alloc: Global,
-    by: Relation,
-    lhs: &FlatArray<ByteRows<O, K>>,
-    rhs: &FlatArray<ByteRows<O, K>>,
-) -> Result<BooleanArray, Error>
-    requires { length (rows_by (byte_slots K.slot) lhs.now) ≡ length (rows_by (byte_slots K.slot) rhs.now) }
-    ensures array_type { IfOk result (λ array. array.arrow_type ≡ plain boolean) }
-    ensures rows { IfOk result (λ array. boolean_rows array ≡ row_by_row (related (relation_of by)) (rows_by (byte_slots K.slot) lhs.now) (rows_by (byte_slots K.slot) rhs.now)) }
-    ensures err { IsOkUnless result Error.OutOfMemory }
-{
-    match by {
-        Relation::Eq => relate_by::<Equal, O, K>(alloc, lhs, rhs),
-        Relation::Neq => relate_by::<NotEqual, O, K>(alloc, lhs, rhs),
-        Relation::Lt => relate_by::<Less, O, K>(alloc, lhs, rhs),
-        Relation::LtEq => relate_by::<LessOrEqual, O, K>(alloc, lhs, rhs),
-        Relation::Gt => relate_by::<Greater, O, K>(alloc, lhs, rhs),
-        Relation::GtEq => relate_by::<GreaterOrEqual, O, K>(alloc, lhs, rhs),
+impl<O: Offset, K: ComparedBytes, R: ByteTest> RelatedBy<R> for ByteRows<O, K> {
+    fn related_bits(
+        alloc: Global,
+        lhs: &FlatArray<ByteRows<O, K>>,
+        rhs: &FlatArray<ByteRows<O, K>>,
+    ) -> Result<Bitmap, Error> {
+        // There are as many values as rows.
+        let _ = (lhs.len(), rhs.len());
+        let (left, right) = (LentRows::of(lhs), LentRows::of(rhs));
+        bits_by_rows(
+            alloc,
+            left.len(),
+            |row| are_related::<R, O, K>(&left, &right, row),
+        )
     }
 }
 
-/// [`relate_scalar_by`] of a relation that is known when the program runs.
-///
-/// # Requires
-/// The scalar is a row of the kind.
-///
-/// # Errors
-/// `OutOfMemory` where memory is refused.
-pub(super) fn relate_scalar<O: Offset, K: ComparedBytes>(
-    alloc: Global,
-    by: Relation,
-    lhs: &FlatArray<ByteRows<O, K>>,
-    rhs: &[u8],
-) -> Result<BooleanArray, Error>
-    requires { K.Allows rhs.now }
-    ensures array_type { IfOk result (λ array. array.arrow_type ≡ plain boolean) }
-    ensures rows { IfOk result (λ array. boolean_rows array ≡ map (λ s. related (relation_of by) s (K.slot rhs.now)) (rows_by (byte_slots K.slot) lhs.now)) }
-    ensures err { IsOkUnless result Error.OutOfMemory }
-{
-    match by {
-        Relation::Eq => relate_scalar_by::<Equal, O, K>(alloc, lhs, rhs),
-        Relation::Neq => relate_scalar_by::<NotEqual, O, K>(alloc, lhs, rhs),
-        Relation::Lt => relate_scalar_by::<Less, O, K>(alloc, lhs, rhs),
-        Relation::LtEq => relate_scalar_by::<LessOrEqual, O, K>(alloc, lhs, rhs),
-        Relation::Gt => relate_scalar_by::<Greater, O, K>(alloc, lhs, rhs),
-        Relation::GtEq => relate_scalar_by::<GreaterOrEqual, O, K>(alloc, lhs, rhs),
+impl<'a, O: Offset, K: ComparedBytes, R: ByteTest> RelatedToScalar<R, &'a [u8]> for ByteRows<O, K> {
+    ghost scalar_slot = { λ scalar. K.slot scalar.now };
+
+    ghost IsScalar = { λ scalar. K.Allows scalar.now };
+
+    fn related_scalar_bits(
+        alloc: Global,
+        lhs: &FlatArray<ByteRows<O, K>>,
+        rhs: &'a [u8],
+    ) -> Result<Bitmap, Error> {
+        let rows = LentRows::of(lhs);
+        bits_by_rows(
+            alloc,
+            rows.len(),
+            |row| is_related::<R, O, K>(&rows, rhs, row),
+        )
     }
-}
-
-/// Whether the rows of both sides are the same: two nulls are, and a null and a value are not. No row is null.
-///
-/// # Requires
-/// Both have as many rows.
-///
-/// # Errors
-/// `OutOfMemory` where memory is refused.
-pub(super) fn eq_and_validity<O: Offset, K: ComparedBytes>(
-    alloc: Global,
-    lhs: &FlatArray<ByteRows<O, K>>,
-    rhs: &FlatArray<ByteRows<O, K>>,
-) -> Result<BooleanArray, Error>
-    requires { length (rows_by (byte_slots K.slot) lhs.now) ≡ length (rows_by (byte_slots K.slot) rhs.now) }
-    ensures array_type { IfOk result (λ array. array.arrow_type ≡ plain boolean) }
-    ensures rows { IfOk result (λ array. boolean_rows array ≡ row_by_row is_same (rows_by (byte_slots K.slot) lhs.now) (rows_by (byte_slots K.slot) rhs.now)) }
-    ensures err { IsOkUnless result Error.OutOfMemory }
-{
-    let bits = related_bits::<Equal, O, K>(alloc, lhs, rhs)?;
-    same_rows(alloc, bits, lhs, rhs)
-}
-
-/// Whether the rows of both sides differ: the rows of [`eq_and_validity`] turned.
-///
-/// # Requires
-/// Both have as many rows.
-///
-/// # Errors
-/// `OutOfMemory` where memory is refused.
-pub(super) fn neq_and_validity<O: Offset, K: ComparedBytes>(
-    alloc: Global,
-    lhs: &FlatArray<ByteRows<O, K>>,
-    rhs: &FlatArray<ByteRows<O, K>>,
-) -> Result<BooleanArray, Error>
-    requires { length (rows_by (byte_slots K.slot) lhs.now) ≡ length (rows_by (byte_slots K.slot) rhs.now) }
-    ensures array_type { IfOk result (λ array. array.arrow_type ≡ plain boolean) }
-    ensures rows { IfOk result (λ array. boolean_rows array ≡ row_by_row differs (rows_by (byte_slots K.slot) lhs.now) (rows_by (byte_slots K.slot) rhs.now)) }
-    ensures err { IsOkUnless result Error.OutOfMemory }
-{
-    let bits = related_bits::<Equal, O, K>(alloc, lhs, rhs)?;
-    differing_rows(alloc, bits, lhs, rhs)
-}
-
-/// Whether each row is the scalar: a null is not. No row is null.
-///
-/// # Requires
-/// The scalar is a row of the kind.
-///
-/// # Errors
-/// `OutOfMemory` where memory is refused.
-pub(super) fn eq_scalar_and_validity<O: Offset, K: ComparedBytes>(
-    alloc: Global,
-    lhs: &FlatArray<ByteRows<O, K>>,
-    rhs: &[u8],
-) -> Result<BooleanArray, Error>
-    requires { K.Allows rhs.now }
-    ensures array_type { IfOk result (λ array. array.arrow_type ≡ plain boolean) }
-    ensures rows { IfOk result (λ array. boolean_rows array ≡ map (λ s. is_same s (K.slot rhs.now)) (rows_by (byte_slots K.slot) lhs.now)) }
-    ensures err { IsOkUnless result Error.OutOfMemory }
-{
-    let bits = related_scalar_bits::<Equal, O, K>(alloc, lhs, rhs)?;
-    same_as_scalar(alloc, bits, lhs)
-}
-
-/// Whether each row differs from the scalar: a null does. No row is null.
-///
-/// # Requires
-/// The scalar is a row of the kind.
-///
-/// # Errors
-/// `OutOfMemory` where memory is refused.
-pub(super) fn neq_scalar_and_validity<O: Offset, K: ComparedBytes>(
-    alloc: Global,
-    lhs: &FlatArray<ByteRows<O, K>>,
-    rhs: &[u8],
-) -> Result<BooleanArray, Error>
-    requires { K.Allows rhs.now }
-    ensures array_type { IfOk result (λ array. array.arrow_type ≡ plain boolean) }
-    ensures rows { IfOk result (λ array. boolean_rows array ≡ map (λ s. differs s (K.slot rhs.now)) (rows_by (byte_slots K.slot) lhs.now)) }
-    ensures err { IsOkUnless result Error.OutOfMemory }
-{
-    let bits = related_scalar_bits::<Equal, O, K>(alloc, lhs, rhs)?;
-    differs_from_scalar(alloc, bits, lhs)
 }

@@ -5,21 +5,18 @@ ghost use Rattle.arrow_types.specs.declared.error.Error.{Error};
 ghost use Rattle.arrow_types.specs.ArrowType.{boolean, plain};
 ghost use Rattle.arrow_types.specs.Relation.{related};
 ghost use Rattle.arrow_types.specs.Relation as relation;
-ghost use Rattle.arrow_types.specs.Slot.{Boolean};
 ghost use Rattle.arrow_relate.specs.Related.{relation_of};
 ghost use Rattle.arrow_flat.specs.Parts.{boolean_rows, rows_by};
 ghost use Rattle.arrow_logic.specs.RowByRow.{row_by_row};
 ghost use Rattle.arrow_relate.specs.Same.{is_same, differs};
 
 use crate::fixed::{Equal, Greater, GreaterOrEqual, Less, LessOrEqual, NotEqual, Test};
-use crate::nulls::{
-    differing_rows, differs_from_scalar, null_where_either, same_as_scalar, same_rows,
-};
 use crate::relation::Relation;
+use crate::stored::{
+    RelatedBy, RelatedToScalar, relate_by, relate_scalar_by, same_by, same_scalar_by,
+};
 use crate::words::bits_by_rows;
 use arrow_flat::array::{BooleanArray, PrimitiveArray};
-use arrow_logic::truths::truths;
-use arrow_logic::validity::shared;
 use arrow_memory::bitmap::Bitmap;
 use arrow_memory::buffer::Buffer;
 use arrow_types::error::Error;
@@ -45,7 +42,7 @@ pub fn eq<T: NativeType>(
     ensures rows { IfOk result (λ array. boolean_rows array ≡ row_by_row (related relation.eq) (rows_by (map T.slot) lhs.now) (rows_by (map T.slot) rhs.now)) }
     ensures err { IsOkUnless result Error.OutOfMemory }
 {
-    relate_by::<T, Equal>(alloc, lhs, rhs)
+    relate_by::<Equal, _>(alloc, lhs, rhs)
 }
 
 /// Whether the rows of both sides are the same: two nulls are, and a null and a value are not. No row is null.
@@ -67,8 +64,7 @@ pub fn eq_and_validity<T: NativeType>(
     ensures rows { IfOk result (λ array. boolean_rows array ≡ row_by_row is_same (rows_by (map T.slot) lhs.now) (rows_by (map T.slot) rhs.now)) }
     ensures err { IsOkUnless result Error.OutOfMemory }
 {
-    let bits = related_bits::<T, Equal>(alloc, lhs, rhs)?;
-    same_rows(alloc, bits, lhs, rhs)
+    same_by::<Equal, _>(alloc, lhs, rhs)
 }
 
 /// Whether each row equals the scalar, and null where the row is.
@@ -86,7 +82,7 @@ pub fn eq_scalar<T: NativeType>(
     ensures rows { IfOk result (λ array. boolean_rows array ≡ map (λ s. related relation.eq s (T.slot rhs)) (rows_by (map T.slot) lhs.now)) }
     ensures err { IsOkUnless result Error.OutOfMemory }
 {
-    relate_scalar_by::<T, Equal>(alloc, lhs, rhs)
+    relate_scalar_by::<Equal, _, _>(alloc, lhs, rhs)
 }
 
 /// Whether each row is the scalar: a null is not. No row is null.
@@ -104,8 +100,7 @@ pub fn eq_scalar_and_validity<T: NativeType>(
     ensures rows { IfOk result (λ array. boolean_rows array ≡ map (λ s. is_same s (T.slot rhs)) (rows_by (map T.slot) lhs.now)) }
     ensures err { IsOkUnless result Error.OutOfMemory }
 {
-    let bits = related_scalar_bits::<T, Equal>(alloc, lhs, rhs)?;
-    same_as_scalar(alloc, bits, lhs)
+    same_scalar_by::<Equal, _, _>(alloc, lhs, rhs)
 }
 
 /// Whether each row of the left side differs from that of the right one, and null where one of the two is.
@@ -127,7 +122,7 @@ pub fn neq<T: NativeType>(
     ensures rows { IfOk result (λ array. boolean_rows array ≡ row_by_row (related relation.neq) (rows_by (map T.slot) lhs.now) (rows_by (map T.slot) rhs.now)) }
     ensures err { IsOkUnless result Error.OutOfMemory }
 {
-    relate_by::<T, NotEqual>(alloc, lhs, rhs)
+    relate_by::<NotEqual, _>(alloc, lhs, rhs)
 }
 
 /// Whether the rows of both sides differ: the rows of [`eq_and_validity`] turned.
@@ -149,8 +144,7 @@ pub fn neq_and_validity<T: NativeType>(
     ensures rows { IfOk result (λ array. boolean_rows array ≡ row_by_row differs (rows_by (map T.slot) lhs.now) (rows_by (map T.slot) rhs.now)) }
     ensures err { IsOkUnless result Error.OutOfMemory }
 {
-    let bits = related_bits::<T, Equal>(alloc, lhs, rhs)?;
-    differing_rows(alloc, bits, lhs, rhs)
+    same_by::<NotEqual, _>(alloc, lhs, rhs)
 }
 
 /// Whether each row differs from the scalar, and null where the row is.
@@ -168,7 +162,7 @@ pub fn neq_scalar<T: NativeType>(
     ensures rows { IfOk result (λ array. boolean_rows array ≡ map (λ s. related relation.neq s (T.slot rhs)) (rows_by (map T.slot) lhs.now)) }
     ensures err { IsOkUnless result Error.OutOfMemory }
 {
-    relate_scalar_by::<T, NotEqual>(alloc, lhs, rhs)
+    relate_scalar_by::<NotEqual, _, _>(alloc, lhs, rhs)
 }
 
 /// Whether each row differs from the scalar: a null does. No row is null.
@@ -186,8 +180,7 @@ pub fn neq_scalar_and_validity<T: NativeType>(
     ensures rows { IfOk result (λ array. boolean_rows array ≡ map (λ s. differs s (T.slot rhs)) (rows_by (map T.slot) lhs.now)) }
     ensures err { IsOkUnless result Error.OutOfMemory }
 {
-    let bits = related_scalar_bits::<T, Equal>(alloc, lhs, rhs)?;
-    differs_from_scalar(alloc, bits, lhs)
+    same_scalar_by::<NotEqual, _, _>(alloc, lhs, rhs)
 }
 
 /// Whether each row of the left side comes before that of the right one, and null where one of the two is.
@@ -209,7 +202,7 @@ pub fn lt<T: NativeOrd>(
     ensures rows { IfOk result (λ array. boolean_rows array ≡ row_by_row (related relation.lt) (rows_by (map T.slot) lhs.now) (rows_by (map T.slot) rhs.now)) }
     ensures err { IsOkUnless result Error.OutOfMemory }
 {
-    relate_by::<T, Less>(alloc, lhs, rhs)
+    relate_by::<Less, _>(alloc, lhs, rhs)
 }
 
 /// Whether each row comes before the scalar, and null where the row is.
@@ -227,7 +220,7 @@ pub fn lt_scalar<T: NativeOrd>(
     ensures rows { IfOk result (λ array. boolean_rows array ≡ map (λ s. related relation.lt s (T.slot rhs)) (rows_by (map T.slot) lhs.now)) }
     ensures err { IsOkUnless result Error.OutOfMemory }
 {
-    relate_scalar_by::<T, Less>(alloc, lhs, rhs)
+    relate_scalar_by::<Less, _, _>(alloc, lhs, rhs)
 }
 
 /// Whether each row of the left side does not come after that of the right one, and null where one of the two is.
@@ -249,7 +242,7 @@ pub fn lt_eq<T: NativeOrd>(
     ensures rows { IfOk result (λ array. boolean_rows array ≡ row_by_row (related relation.lt_eq) (rows_by (map T.slot) lhs.now) (rows_by (map T.slot) rhs.now)) }
     ensures err { IsOkUnless result Error.OutOfMemory }
 {
-    relate_by::<T, LessOrEqual>(alloc, lhs, rhs)
+    relate_by::<LessOrEqual, _>(alloc, lhs, rhs)
 }
 
 /// Whether each row does not come after the scalar, and null where the row is.
@@ -267,7 +260,7 @@ pub fn lt_eq_scalar<T: NativeOrd>(
     ensures rows { IfOk result (λ array. boolean_rows array ≡ map (λ s. related relation.lt_eq s (T.slot rhs)) (rows_by (map T.slot) lhs.now)) }
     ensures err { IsOkUnless result Error.OutOfMemory }
 {
-    relate_scalar_by::<T, LessOrEqual>(alloc, lhs, rhs)
+    relate_scalar_by::<LessOrEqual, _, _>(alloc, lhs, rhs)
 }
 
 /// Whether each row of the left side comes after that of the right one, and null where one of the two is.
@@ -289,7 +282,7 @@ pub fn gt<T: NativeOrd>(
     ensures rows { IfOk result (λ array. boolean_rows array ≡ row_by_row (related relation.gt) (rows_by (map T.slot) lhs.now) (rows_by (map T.slot) rhs.now)) }
     ensures err { IsOkUnless result Error.OutOfMemory }
 {
-    relate_by::<T, Greater>(alloc, lhs, rhs)
+    relate_by::<Greater, _>(alloc, lhs, rhs)
 }
 
 /// Whether each row comes after the scalar, and null where the row is.
@@ -307,7 +300,7 @@ pub fn gt_scalar<T: NativeOrd>(
     ensures rows { IfOk result (λ array. boolean_rows array ≡ map (λ s. related relation.gt s (T.slot rhs)) (rows_by (map T.slot) lhs.now)) }
     ensures err { IsOkUnless result Error.OutOfMemory }
 {
-    relate_scalar_by::<T, Greater>(alloc, lhs, rhs)
+    relate_scalar_by::<Greater, _, _>(alloc, lhs, rhs)
 }
 
 /// Whether each row of the left side does not come before that of the right one, and null where one of the two is.
@@ -329,7 +322,7 @@ pub fn gt_eq<T: NativeOrd>(
     ensures rows { IfOk result (λ array. boolean_rows array ≡ row_by_row (related relation.gt_eq) (rows_by (map T.slot) lhs.now) (rows_by (map T.slot) rhs.now)) }
     ensures err { IsOkUnless result Error.OutOfMemory }
 {
-    relate_by::<T, GreaterOrEqual>(alloc, lhs, rhs)
+    relate_by::<GreaterOrEqual, _>(alloc, lhs, rhs)
 }
 
 /// Whether each row does not come before the scalar, and null where the row is.
@@ -347,7 +340,7 @@ pub fn gt_eq_scalar<T: NativeOrd>(
     ensures rows { IfOk result (λ array. boolean_rows array ≡ map (λ s. related relation.gt_eq s (T.slot rhs)) (rows_by (map T.slot) lhs.now)) }
     ensures err { IsOkUnless result Error.OutOfMemory }
 {
-    relate_scalar_by::<T, GreaterOrEqual>(alloc, lhs, rhs)
+    relate_scalar_by::<GreaterOrEqual, _, _>(alloc, lhs, rhs)
 }
 
 /// Whether each row is so related to that of the right side, and null where one of the two is.
@@ -368,14 +361,7 @@ pub fn relate<T: NativeOrd>(
     ensures rows { IfOk result (λ array. boolean_rows array ≡ row_by_row (related (relation_of by)) (rows_by (map T.slot) lhs.now) (rows_by (map T.slot) rhs.now)) }
     ensures err { IsOkUnless result Error.OutOfMemory }
 {
-    match by {
-        Relation::Eq => eq(alloc, lhs, rhs),
-        Relation::Neq => neq(alloc, lhs, rhs),
-        Relation::Lt => lt(alloc, lhs, rhs),
-        Relation::LtEq => lt_eq(alloc, lhs, rhs),
-        Relation::Gt => gt(alloc, lhs, rhs),
-        Relation::GtEq => gt_eq(alloc, lhs, rhs),
-    }
+    by_relation!(by, relate_by::<_, _>(alloc, lhs, rhs))
 }
 
 /// Whether each row is so related to the scalar, and null where the row is.
@@ -392,70 +378,33 @@ pub fn relate_scalar<T: NativeOrd>(
     ensures rows { IfOk result (λ array. boolean_rows array ≡ map (λ s. related (relation_of by) s (T.slot rhs)) (rows_by (map T.slot) lhs.now)) }
     ensures err { IsOkUnless result Error.OutOfMemory }
 {
-    match by {
-        Relation::Eq => eq_scalar(alloc, lhs, rhs),
-        Relation::Neq => neq_scalar(alloc, lhs, rhs),
-        Relation::Lt => lt_scalar(alloc, lhs, rhs),
-        Relation::LtEq => lt_eq_scalar(alloc, lhs, rhs),
-        Relation::Gt => gt_scalar(alloc, lhs, rhs),
-        Relation::GtEq => gt_eq_scalar(alloc, lhs, rhs),
+    by_relation!(by, relate_scalar_by::<_, _, _>(alloc, lhs, rhs))
+}
+
+impl<T: NativeType, R: Test<T>> RelatedBy<R> for Buffer<T> {
+    fn related_bits(
+        alloc: Global,
+        lhs: &PrimitiveArray<T>,
+        rhs: &PrimitiveArray<T>,
+    ) -> Result<Bitmap, Error> {
+        // There are as many values as rows.
+        let _ = (lhs.len(), rhs.len());
+        let (left, right) = (lhs.values().as_slice(), rhs.values().as_slice());
+        bits_by_rows(alloc, left.len(), |row| R::of(left[row], right[row]))
     }
 }
 
-/// Whether a relation holds of the rows of both sides, and null where one of the two is.
-fn relate_by<T: NativeType, C: Test<T>>(
-    alloc: Global,
-    lhs: &PrimitiveArray<T>,
-    rhs: &PrimitiveArray<T>,
-) -> Result<BooleanArray, Error>
-    requires { length (rows_by (map T.slot) lhs.now) ≡ length (rows_by (map T.slot) rhs.now) }
-    ensures array_type { IfOk result (λ array. array.arrow_type ≡ plain boolean) }
-    ensures rows { IfOk result (λ array. boolean_rows array ≡ row_by_row (related C.op) (rows_by (map T.slot) lhs.now) (rows_by (map T.slot) rhs.now)) }
-    ensures err { IsOkUnless result Error.OutOfMemory }
-{
-    let bits = related_bits::<T, C>(alloc, lhs, rhs)?;
-    null_where_either::<C, Buffer<T>>(alloc, bits, lhs, rhs)
-}
+impl<T: NativeType, R: Test<T>> RelatedToScalar<R, T> for Buffer<T> {
+    ghost scalar_slot = { T.slot };
 
-/// Whether a relation holds of each row and a value, and null where the row is.
-fn relate_scalar_by<T: NativeType, C: Test<T>>(
-    alloc: Global,
-    lhs: &PrimitiveArray<T>,
-    rhs: T,
-) -> Result<BooleanArray, Error>
-    ensures array_type { IfOk result (λ array. array.arrow_type ≡ plain boolean) }
-    ensures rows { IfOk result (λ array. boolean_rows array ≡ map (λ s. related C.op s (T.slot rhs)) (rows_by (map T.slot) lhs.now)) }
-    ensures err { IsOkUnless result Error.OutOfMemory }
-{
-    let bits = related_scalar_bits::<T, C>(alloc, lhs, rhs)?;
-    Ok(truths(bits, shared(lhs.validity())?))
-}
+    ghost IsScalar = { λ scalar. Unit {0} };
 
-/// A bit for each row, set where a relation holds of what both sides store there.
-fn related_bits<T: NativeType, C: Test<T>>(
-    alloc: Global,
-    lhs: &PrimitiveArray<T>,
-    rhs: &PrimitiveArray<T>,
-) -> Result<Bitmap, Error>
-    requires { length (rows_by (map T.slot) lhs.now) ≡ length (rows_by (map T.slot) rhs.now) }
-    ensures ok { IfOk result (λ bits. map Boolean bits ≡ row_by_row (related C.op) (map T.slot lhs.now.values) (map T.slot rhs.now.values)) }
-    ensures err { IsOkUnless result Error.OutOfMemory }
-{
-    // There are as many values as rows.
-    let _ = (lhs.len(), rhs.len());
-    let (left, right) = (lhs.values().as_slice(), rhs.values().as_slice());
-    bits_by_rows(alloc, left.len(), |row| C::of(left[row], right[row]))
-}
-
-/// A bit for each row, set where a relation holds of what is stored there and a value.
-fn related_scalar_bits<T: NativeType, C: Test<T>>(
-    alloc: Global,
-    lhs: &PrimitiveArray<T>,
-    rhs: T,
-) -> Result<Bitmap, Error>
-    ensures ok { IfOk result (λ bits. map Boolean bits ≡ map (λ s. related C.op s (T.slot rhs)) (map T.slot lhs.now.values)) }
-    ensures err { IsOkUnless result Error.OutOfMemory }
-{
-    let left = lhs.values().as_slice();
-    bits_by_rows(alloc, left.len(), |row| C::of(left[row], rhs))
+    fn related_scalar_bits(
+        alloc: Global,
+        lhs: &PrimitiveArray<T>,
+        rhs: T,
+    ) -> Result<Bitmap, Error> {
+        let left = lhs.values().as_slice();
+        bits_by_rows(alloc, left.len(), |row| R::of(left[row], rhs))
+    }
 }

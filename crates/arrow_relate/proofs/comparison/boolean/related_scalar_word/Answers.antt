@@ -10,7 +10,7 @@ use Rattle.arrow_relate.proofs.comparison.boolean.related_scalar_word.Goals as g
 
 pub returns : goal.returns
 returns g c = λ k below within.
-    let op = g.C.FixedRelation.op in
+    let op = g.R.FixedRelation.op in
     let xs = c.args.left.now in
     let place = 64 * c.args.j + k in
     let by = λ (s : Slot). related op s (Boolean c.args.right) in

@@ -7,7 +7,7 @@ use Rattle.arrow_relate.proofs.comparison.boolean.related_word.Goals as goal
 
 pub returns : goal.returns
 returns g c = λ k below within.
-    let op = g.C.FixedRelation.op in
+    let op = g.R.FixedRelation.op in
     let xs = c.args.left.now in
     let ys = c.args.right.now in
     let place = 64 * c.args.j + k in

@@ -1,6 +1,0 @@
-use Rattle.std.proofs.lemmas.Result.{IfOk-weaker}
-use Rattle.arrow_relate.proofs.comparison.bytes.neq_scalar_and_validity.Goals as goal
-
-pub returns-clause-rows : goal.returns-clause-rows
-returns-clause-rows g c =
-    IfOk-weaker c.differs_from_scalar.result _ _ (λ array rows. rows (g.K.ByteKind.slot c.args.rhs.now) c.in_ok-bits.ensures.ok) c.differs_from_scalar.ensures.rows

@@ -1,6 +1,0 @@
-use Rattle.std.proofs.lemmas.Result.{IfOk-weaker}
-use Rattle.arrow_relate.proofs.comparison.primitive.eq_scalar_and_validity.Goals as goal
-
-pub returns-clause-rows : goal.returns-clause-rows
-returns-clause-rows g c =
-    IfOk-weaker c.same_as_scalar.result _ _ (λ array rows. rows (g.T.NativeType.slot c.args.rhs) c.in_ok-bits.ensures.ok) c.same_as_scalar.ensures.rows
