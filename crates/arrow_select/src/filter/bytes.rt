@@ -6,6 +6,7 @@ ghost use Rattle.arrow_types.specs.declared.error.Error.{Error};
 ghost use Rattle.arrow_types.specs.Fits.{Fits};
 ghost use Rattle.arrow_types.specs.Rows.{select};
 ghost use Rattle.arrow_memory.specs.Offsets.{last_of};
+ghost use Rattle.arrow_memory.specs.Sliced.{sliced};
 ghost use Rattle.arrow_flat.specs.ByteRows.{byte_slots, row_bytes};
 ghost use Rattle.arrow_flat.specs.Parts.{rows_by};
 ghost use Rattle.arrow_flat.specs.Pieces.{pieces};
@@ -23,6 +24,10 @@ use arrow_memory::offset::{Offsets, OffsetsBuffer};
 use arrow_types::error::Error;
 use arrow_types::types::Offset;
 use std::alloc::Global;
+
+/// How many bytes are copied at once of a run that has no more: a copy of a fixed size is a few moves, and its end is not guessed
+/// before the offsets are read.
+const BLOCK: usize = 32;
 
 /// The rows at which the mask is set, in an array of the same type. What lies beneath a null comes with it, so no row is
 /// looked at, and all have at most the bytes of the array, which fit. Where all rows are kept the array is shared, and
@@ -130,7 +135,8 @@ fn append_ends<O: Offset>(
     ends.try_extend_from_slice(rows, start, len)
 }
 
-/// The bytes of the rows at which the mask is set, a run of them at a time. There is room for `total` from the first on.
+/// The bytes of the rows at which the mask is set, a run of them at a time. There is room for `total`, and for a block more, from
+/// the first on.
 ///
 /// # Errors
 /// `OutOfMemory` where memory is refused.
@@ -146,7 +152,7 @@ fn kept_bytes<O: Offset>(
     ensures ok { IfOk result (λ bytes. bytes.items ≡ valid_values mask.now rows.now values.now 0) }
     ensures err { IsOkUnless result Error.OutOfMemory }
 {
-    let mut bytes = Vec::with_capacity(alloc, total)?;
+    let mut bytes = Vec::with_capacity(alloc, total.saturating_add(BLOCK))?;
     let len = mask.len();
     let mut left = mask.runs(0, len);
     let mut row = 0;
@@ -154,8 +160,30 @@ fn kept_bytes<O: Offset>(
         let (unset, count) = left.next_set();
         row += unset;
         let (first, end) = rows.range(row, count);
-        bytes.extend_from_slice(&values[first..end])?;
+        append_bytes(&mut bytes, values, first, end)?;
         row += count;
     }
     Ok(bytes)
+}
+
+/// Appends the bytes from `first` up to `end`. No more than a block are copied as a block, where there are so many, and cut.
+///
+/// # Errors
+/// `OutOfMemory` where a growth is refused.
+#[inline(always)]
+fn append_bytes(bytes: &mut Vec<u8>, values: &[u8], first: usize, end: usize) -> Result<(), Error>
+    requires rises { first ≤ end }
+    requires within { end ≤ length values.now }
+    ensures ok { OnOk result (bytes.new.items ≡ bytes.old.items ++ sliced values.now first (end - first)) }
+    ensures err { IsOkUnless result Error.OutOfMemory }
+{
+    let count = end - first;
+    if count > BLOCK || values.len() - first < BLOCK {
+        bytes.extend_from_slice(&values[first..end])?;
+        return Ok(());
+    }
+    let len = bytes.len() + count;
+    bytes.extend_from_slice(&values[first..first + BLOCK])?;
+    bytes.truncate(len);
+    Ok(())
 }

@@ -15,8 +15,8 @@ loop-row-preserved g c =
     let before = c.loop-row.invariant in
     let long = run_long unset count c.loop-row.left left c.next_set-unset.ensures.bits in
     let at : row + unset + count ≡ row + (unset + count) = omega arith in
-    let grown = c.in_ok-extend_from_slice.ensures.items ∙ (λ i. c.loop-row.bytes.items ++ sliced values (c.range-first.ensures.start i) (c.range-first.ensures.end i - c.range-first.ensures.start i)) in
+    let grown = c.in_ok-append_bytes.ensures.ok ∙ (λ i. c.loop-row.bytes.items ++ sliced values (c.range-first.ensures.start i) (c.range-first.ensures.end i - c.range-first.ensures.start i)) in
     record {
       count = omega (arith, before.count, long);
-      bytes = ap (λ k. c.extend_from_slice.new.self.items ++ valid_values left os values k) at ∙ run_copied os values c.range-first.ensures.sound c.requires.within unset count c.loop-row.left left row c.next_set-unset.ensures.bits (omega (arith, before.count, c.requires.lengths, c.len-len.ensures)) (valid_values c.args.mask.now os values 0) c.loop-row.bytes.items c.extend_from_slice.new.self.items grown before.bytes;
+      bytes = ap (λ k. c.append_bytes.new.bytes.items ++ valid_values left os values k) at ∙ run_copied os values c.range-first.ensures.sound c.requires.within unset count c.loop-row.left left row c.next_set-unset.ensures.bits (omega (arith, before.count, c.requires.lengths, c.len-len.ensures)) (valid_values c.args.mask.now os values 0) c.loop-row.bytes.items c.append_bytes.new.bytes.items grown before.bytes;
     }
