@@ -106,34 +106,79 @@ trait AnyScalarElement: AnyElement {
     fn scalar(data_type: DataType, value: Option<Self>) -> Result<AnyPrimitiveScalar, Error>;
 }
 
-macro_rules! elements_of_scalars {
-    ($($element:ident => $variant:ident),* $(,)?) => {
-        $(
-            impl AnyScalarElement for $element {
-                fn scalar(
-                    data_type: DataType,
-                    value: Option<$element>,
-                ) -> Result<AnyPrimitiveScalar, Error> {
-                    Ok(AnyPrimitiveScalar::$variant(PrimitiveScalar::try_new(data_type, value)?))
-                }
-            }
-        )*
-    };
+impl AnyScalarElement for i8 {
+    fn scalar(data_type: DataType, value: Option<i8>) -> Result<AnyPrimitiveScalar, Error> {
+        Ok(AnyPrimitiveScalar::Int8(PrimitiveScalar::try_new(data_type, value)?))
+    }
 }
 
-elements_of_scalars! {
-    i8 => Int8,
-    i16 => Int16,
-    i32 => Int32,
-    i64 => Int64,
-    i128 => Int128,
-    i256 => Int256,
-    u8 => UInt8,
-    u16 => UInt16,
-    u32 => UInt32,
-    u64 => UInt64,
-    days_ms => DaysMs,
-    months_days_ns => MonthDayNano,
+impl AnyScalarElement for i16 {
+    fn scalar(data_type: DataType, value: Option<i16>) -> Result<AnyPrimitiveScalar, Error> {
+        Ok(AnyPrimitiveScalar::Int16(PrimitiveScalar::try_new(data_type, value)?))
+    }
+}
+
+impl AnyScalarElement for i32 {
+    fn scalar(data_type: DataType, value: Option<i32>) -> Result<AnyPrimitiveScalar, Error> {
+        Ok(AnyPrimitiveScalar::Int32(PrimitiveScalar::try_new(data_type, value)?))
+    }
+}
+
+impl AnyScalarElement for i64 {
+    fn scalar(data_type: DataType, value: Option<i64>) -> Result<AnyPrimitiveScalar, Error> {
+        Ok(AnyPrimitiveScalar::Int64(PrimitiveScalar::try_new(data_type, value)?))
+    }
+}
+
+impl AnyScalarElement for i128 {
+    fn scalar(data_type: DataType, value: Option<i128>) -> Result<AnyPrimitiveScalar, Error> {
+        Ok(AnyPrimitiveScalar::Int128(PrimitiveScalar::try_new(data_type, value)?))
+    }
+}
+
+impl AnyScalarElement for i256 {
+    fn scalar(data_type: DataType, value: Option<i256>) -> Result<AnyPrimitiveScalar, Error> {
+        Ok(AnyPrimitiveScalar::Int256(PrimitiveScalar::try_new(data_type, value)?))
+    }
+}
+
+impl AnyScalarElement for u8 {
+    fn scalar(data_type: DataType, value: Option<u8>) -> Result<AnyPrimitiveScalar, Error> {
+        Ok(AnyPrimitiveScalar::UInt8(PrimitiveScalar::try_new(data_type, value)?))
+    }
+}
+
+impl AnyScalarElement for u16 {
+    fn scalar(data_type: DataType, value: Option<u16>) -> Result<AnyPrimitiveScalar, Error> {
+        Ok(AnyPrimitiveScalar::UInt16(PrimitiveScalar::try_new(data_type, value)?))
+    }
+}
+
+impl AnyScalarElement for u32 {
+    fn scalar(data_type: DataType, value: Option<u32>) -> Result<AnyPrimitiveScalar, Error> {
+        Ok(AnyPrimitiveScalar::UInt32(PrimitiveScalar::try_new(data_type, value)?))
+    }
+}
+
+impl AnyScalarElement for u64 {
+    fn scalar(data_type: DataType, value: Option<u64>) -> Result<AnyPrimitiveScalar, Error> {
+        Ok(AnyPrimitiveScalar::UInt64(PrimitiveScalar::try_new(data_type, value)?))
+    }
+}
+
+impl AnyScalarElement for days_ms {
+    fn scalar(data_type: DataType, value: Option<days_ms>) -> Result<AnyPrimitiveScalar, Error> {
+        Ok(AnyPrimitiveScalar::DaysMs(PrimitiveScalar::try_new(data_type, value)?))
+    }
+}
+
+impl AnyScalarElement for months_days_ns {
+    fn scalar(
+        data_type: DataType,
+        value: Option<months_days_ns>,
+    ) -> Result<AnyPrimitiveScalar, Error> {
+        Ok(AnyPrimitiveScalar::MonthDayNano(PrimitiveScalar::try_new(data_type, value)?))
+    }
 }
 
 /// What a relation answers of an array and a scalar of its type.
