@@ -1,17 +1,18 @@
 -- Rows of bytes under construction: a row is written behind those so far.
 use Rattle.std.proofs.Common.{◌≡◌, ℕ, ◌+◌, ◌-◌, ◌<◌, ◌≤◌, Bool, true, false, Option, Result, Ok, Err, IsOkUnless, if◌then◌else◌, List, [], ◌∷◌, ◌++◌, length, get_or, take, drop, slice_index, refl, ap, sym, subst, ◌∙◌, arith}
+use Rattle.std.specs.List.{All}
 use Rattle.std.specs.Result.{IsErrAnd}
 use Rattle.std.proofs.lemmas.Int.{ints}
 use Rattle.std.proofs.lemmas.Option.{get_or_from_slice_get}
-use Rattle.std.proofs.lemmas.List.{take-append-le, drop-append-le, take_all, length-drop, length-append, length-take, take_more, take-take}
-use Rattle.std.proofs.Math.Seq.{drop-append_seam, take-append-add}
+use Rattle.std.proofs.lemmas.List.{take-append-le, drop-append-le, take_all, length-drop, length-append, length-take, take_more}
+use Rattle.std.proofs.Math.Seq.{drop-append_seam}
 use Rattle.arrow_memory.proofs.SlicedLemmas.{sliced-sliced}
 use Rattle.arrow_types.specs.declared.error.Error.{Error}
 use Rattle.arrow_types.specs.declared.error.Error.TheVariants.{Overflow, OutOfMemory}
 use Rattle.arrow_memory.specs.Grown.{IsGrowthError}
 use Rattle.arrow_memory.specs.Offsets.{IsOffsets, last_of, with_row}
 use Rattle.arrow_memory.specs.Sliced.{sliced}
-use Rattle.arrow_memory.proofs.OffsetLemmas.{at_most_last, last_behind, offsets_more}
+use Rattle.arrow_memory.proofs.OffsetLemmas.{at_most_last, last_behind, offsets_more, offsets_rise}
 use Rattle.arrow_flat.specs.Parts.{FitsRows}
 use Rattle.arrow_flat.specs.Pieces.{pieces, pieces_from}
 use Rattle.arrow_flat.proofs.PieceLemmas.{length-pieces, piece_at}
@@ -84,6 +85,20 @@ row_read os read_os bytes from i begin end same lent here there within =
     let last = there ∙ ap (λ xs. slice_index xs (i + 1)) same in
     (λ t. sliced (lent t) (first t) (last t - first t)) ∙ sym (get_or_from_slice_get (pieces os bytes) i _ [] (piece_at os bytes i within))
 
+-- what holds of each part of the bytes from the first row to the last holds of each row
+pub of_each_row : (P : List ℕ → Type 0) (os bytes : List ℕ) (first end : ℕ) → IsOffsets os → first ≡ slice_index os 0 → end ≡ slice_index os (length os - 1) → ((place n : ℕ) → P (sliced (sliced bytes first (end - first)) place n)) → All P (pieces os bytes)
+of_each_row P os bytes first end sound here there holds k d within =
+    let count = length-pieces os bytes in
+    let begin = slice_index os k in
+    let n = slice_index os (k + 1) - begin in
+    let low : slice_index os 0 ≤ begin = offsets_rise os 0 k sound (omega arith) (omega (arith, count, within)) in
+    let rises : begin ≤ slice_index os (k + 1) = offsets_rise os k (k + 1) sound (omega arith) (omega (arith, count, within)) in
+    let high : slice_index os (k + 1) ≤ slice_index os (length os - 1) = offsets_rise os (k + 1) (length os - 1) sound (omega (arith, count, within)) (omega (arith, count, within)) in
+    let place : first + (begin - first) ≡ begin = omega (arith, here, low) in
+    let part = sliced-sliced bytes first (end - first) (begin - first) n (omega (arith, here, there, low, rises, high)) ∙ ap (λ p. sliced bytes p n) place in
+    let row = get_or_from_slice_get (pieces os bytes) k _ d (piece_at os bytes k (omega (arith, count, within))) in
+    subst P (part ∙ sym row) (holds (begin - first) n)
+
 module _ (f : List ℕ → List ℕ) (v : Option (List Bool)) (os bytes : List ℕ) (i : ℕ) (within : i + 1 < length os) (fits : FitsRows v (length os - 1)) where
   counted : length (pieces os bytes) ≡ length os - 1
   counted = length-pieces os bytes
@@ -106,11 +121,6 @@ pub part_moved : (from bytes : List ℕ) (begin end first last : ℕ) → from �
 part_moved from bytes begin end first last lent rises within =
     let count : begin + last - (begin + first) ≡ last - first = omega arith in
     ap (sliced bytes (begin + first)) count ∙ sym (ap (λ xs. sliced (sliced xs begin (end - begin)) first (last - first)) lent ∙ sliced-sliced bytes begin (end - begin) first (last - first) (omega (arith, length-take (end - begin) (drop begin from))))
-
--- a block of bytes behind others, cut where a part ends
-pub block_cut : (old from new more : List ℕ) (begin count block len : ℕ) → more ≡ old ++ sliced from begin block → new ≡ take len more → len ≡ length old + count → count ≤ block → new ≡ old ++ sliced from begin count
-block_cut old from new more begin count block len grown cut long small =
-    cut ∙ ((λ t. take (long t) (grown t)) ∙ (take-append-add old (sliced from begin block) count ∙ ap (λ xs. old ++ xs) (take-take count block (drop begin from) small)))
 
 -- ---- errors
 

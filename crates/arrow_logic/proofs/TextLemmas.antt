@@ -6,11 +6,14 @@ use Rattle.std.proofs.lemmas.Bool.{le-ltb, lt-leb}
 use Rattle.std.proofs.lemmas.Int.{ints}
 use Rattle.std.proofs.lemmas.List.{drop_min, length-drop, take_all}
 use Rattle.std.proofs.lemmas.List.Sums.{sum_by-append, sum_by-cons}
-use Rattle.std.proofs.lemmas.Str.{encodes-chars}
+use Rattle.std.specs.Prelude.{Option, None, Some, IsAscii, bit_or}
+use Rattle.std.proofs.lemmas.Nat.{le_or_l, le_or_r, or_lt}
+use Rattle.std.proofs.lemmas.Str.Ascii.{IsAscii-nil}
+use Rattle.std.proofs.lemmas.Str.{IsAscii-drop, IsAscii-take, chars-IsAscii, encodes-IsAscii, encodes-chars}
 use lib.Utf8.{next}
-use Rattle.arrow_types.specs.Part.{part_begin}
+use Rattle.arrow_types.specs.Part.{cut, part_begin}
 use Rattle.arrow_memory.specs.Sliced.{sliced}
-use Rattle.arrow_logic.specs.Substring.{begins, skipped}
+use Rattle.arrow_logic.specs.Substring.{IsCutByBytes, begins, skipped, text_cut}
 
 -- a character's bytes: one that begins it, and others that go on with it
 record Spelt (c : ℕ) : Type 0 where
@@ -208,3 +211,37 @@ pub rest_some : (bs cs : List ℕ) (place k n : ℕ) → drop place bs ≡ encod
 rest_some bs cs place k n is counted =
     let long : place + n - place ≡ skipped k (drop place bs) = omega (arith, counted) in
     ap (sliced bs place) long ∙ (ap (λ xs. take (skipped k xs) xs) is ∙ first_are k cs)
+
+-- ---- texts of ASCII alone
+
+IsAscii-cut : (start : ℤ) (len : Option ℕ) (bytes : List ℕ) → IsAscii bytes → IsAscii (cut start len bytes)
+IsAscii-cut start None bytes ascii = IsAscii-drop bytes (part_begin start (length bytes)) ascii
+IsAscii-cut start (Some k) bytes ascii =
+    IsAscii-take _ k (IsAscii-drop bytes (part_begin start (length bytes)) ascii)
+
+-- their characters are their bytes
+pub ascii_by_bytes : (bytes : List ℕ) → IsAscii bytes → (place n : ℕ) → IsCutByBytes text_cut (sliced bytes place n)
+ascii_by_bytes bytes ascii place n start len =
+    let row = sliced bytes place n in
+    let row_ascii = IsAscii-take (drop place bytes) n (IsAscii-drop bytes place ascii) in
+    ap (λ cs. encode_utf8_all (cut start len cs)) (chars-IsAscii row row_ascii) ∙ encodes-IsAscii (cut start len row) (IsAscii-cut start len row row_ascii)
+
+-- what a number and bytes have together: the bits that are set in any of them
+abbrev pub together : ℕ → List ℕ → ℕ
+together n [] = n
+together n (b ∷ bs) = together (bit_or n b) bs
+
+ascii_cons : (b : ℕ) (bs : List ℕ) → b < 128 → IsAscii bs → IsAscii (b ∷ bs)
+ascii_cons b bs low rest zero = low
+ascii_cons b bs low rest (suc i) = rest i
+
+-- it is below 128 exactly where each of them is
+pub each_low : (n : ℕ) (bs : List ℕ) → together n bs < 128 → (n < 128) × IsAscii bs
+each_low n [] low = (low, IsAscii-nil)
+each_low n (b ∷ bs) low =
+    let rest = each_low (bit_or n b) bs low in
+    (omega (arith, le_or_l n b, rest.0), ascii_cons b bs (omega (arith, le_or_r n b, rest.0)) rest.1)
+
+pub low_together : (n : ℕ) (bs : List ℕ) → n < 128 → IsAscii bs → together n bs < 128
+low_together n [] low ascii = low
+low_together n (b ∷ bs) low ascii = low_together (bit_or n b) bs (or_lt 7 n b low (ascii 0)) (λ i. ascii (suc i))

@@ -1,5 +1,5 @@
 -- Parts of texts and of bytes: of which types they are asked, and where characters begin.
-use Rattle.std.specs.Prelude.{ℕ, zero, suc, ℤ, Bool, List, [], ◌∷◌, ◌||◌, Option, encode_utf8_all, nat_lt, nat_le, if◌then◌else◌}
+use Rattle.std.specs.Prelude.{ℕ, zero, suc, ℤ, Bool, List, [], ◌∷◌, ◌||◌, ◌≡◌, Option, encode_utf8_all, nat_lt, nat_le, if◌then◌else◌}
 use Rattle.std.specs.Str.{chars}
 use Rattle.arrow_types.specs.declared.error.ArgumentFault.TheVariants.{SubstringType}
 use Rattle.arrow_types.specs.declared.error.Error.{Error}
@@ -18,6 +18,10 @@ HasParts _ = ⊥
 -- the bytes of a part of a text, of which these are the bytes
 abbrev pub text_cut : ℤ → Option ℕ → List ℕ → List ℕ
 text_cut start len bytes = encode_utf8_all (cut start len (chars bytes))
+
+-- a row of which each part, counted in its units, is that counted in bytes
+abbrev pub IsCutByBytes : (ℤ → Option ℕ → List ℕ → List ℕ) → List ℕ → Type 0
+IsCutByBytes cut_units row = (start : ℤ) (len : Option ℕ) → cut_units start len row ≡ cut start len row
 
 -- whether a byte of a text begins a character, and does not go on with one
 abbrev pub begins : ℕ → Bool

@@ -1,6 +1,7 @@
 //! Parts of texts, by characters, and of bytes.
 
-ghost use Rattle.std.specs.Prelude.{◌≡◌, ◌↔◌, ◌<◌, ◌≤◌, ◌+◌, ◌-◌, Err, [], length, map, slice_index, slice_index_or, ◌++◌, IfOk, IfErr, OnOk, IsOkUnless, IsTrue};
+ghost use Rattle.std.specs.Prelude.{◌≡◌, ◌↔◌, ◌<◌, ◌≤◌, ◌+◌, ◌-◌, Err, [], length, map, slice_index, slice_index_or, IfOk, IfErr, IsOkUnless, IsTrue};
+ghost use Rattle.std.specs.List.{All};
 ghost use Rattle.arrow_types.specs.declared.error.ArgumentFault.{ArgumentFault};
 ghost use Rattle.arrow_types.specs.declared.error.Error.{Error};
 ghost use Rattle.arrow_types.specs.Part.{part};
@@ -12,7 +13,7 @@ ghost use Rattle.arrow_flat.specs.Parts.{FitsRows, rows_by};
 ghost use Rattle.arrow_flat.specs.Pieces.{pieces};
 ghost use Rattle.arrow_arrays.specs.Any.{any_array_type, any_array_rows};
 ghost use Rattle.arrow_logic.specs.Kept.{kept};
-ghost use Rattle.arrow_logic.specs.Substring.{HasParts, IsSubstringRefusal};
+ghost use Rattle.arrow_logic.specs.Substring.{HasParts, IsCutByBytes, IsSubstringRefusal};
 
 mod units;
 
@@ -20,15 +21,19 @@ use crate::validity::shared;
 use arrow_arrays::array::AnyArray;
 use arrow_flat::array::{ByteRows, FlatArray};
 use arrow_memory::buffer::Buffer;
+use arrow_memory::bytes::append_span;
 use arrow_memory::offset::{Offsets, OffsetsBuffer};
 use arrow_types::datatypes::DataType;
 use arrow_types::error::{ArgumentFault, Error};
 use arrow_types::types::Offset;
 use std::alloc::Global;
-use units::Units;
+use units::{Units, span_in};
 
-/// How many bytes are copied by one move.
+/// How many bytes a part is copied as where it has no more: one move.
 const BLOCK: usize = 16;
+
+/// Rows of fewer bytes than these on average are all read once: that costs less than to look for characters in each.
+const SHORT: usize = 32;
 
 /// A part of each row, in an array of the same type, null where the row is. The unit is a character of a text and a byte
 /// of bytes. Of a row of n units the part begins at the smaller of `start` and n, or, where `start` is negative, at
@@ -118,6 +123,32 @@ fn copy_parts<O: Offset, K: Units>(
     ensures long { IfOk result (λ made. length made.0 ≡ length rows.now.values.offsets) }
     ensures err { IsOkUnless result Error.OutOfMemory }
 {
+    // Each has a loop of its own, in which it is known how parts are found.
+    if have_bytes_as_units(rows) {
+        copy_parts_by(alloc, rows, start, count, true)
+    } else {
+        copy_parts_by(alloc, rows, start, count, false)
+    }
+}
+
+/// The same, by bytes where that is known to do.
+///
+/// # Errors
+/// `OutOfMemory` where memory is refused.
+#[inline(always)]
+fn copy_parts_by<O: Offset, K: Units>(
+    alloc: Global,
+    rows: &FlatArray<ByteRows<O, K>>,
+    start: i64,
+    count: Option<u64>,
+    by_bytes: bool,
+) -> Result<(OffsetsBuffer<O>, Vec<u8>), Error>
+    requires by_bytes { IsTrue by_bytes → All (IsCutByBytes K.cut) (row_bytes rows.now.values) }
+    ensures parts { IfOk result (λ made. pieces made.0 made.1.items ≡ kept [] (K.cut start count) rows.now.validity (row_bytes rows.now.values)) }
+    ensures within { IfOk result (λ made. last_of made.0 ≡ length made.1.items) }
+    ensures long { IfOk result (λ made. length made.0 ≡ length rows.now.values.offsets) }
+    ensures err { IsOkUnless result Error.OutOfMemory }
+{
     // The validity has a bit for each row.
     let _ = rows.validity();
     let offsets = rows.offsets();
@@ -127,22 +158,38 @@ fn copy_parts<O: Offset, K: Units>(
     let mut bytes = Vec::with_capacity(alloc, (end - first).saturating_add(BLOCK))?;
     let from = rows.values().as_slice();
     for row in 0..len {
-        let (begin, end) = span_of(rows, row, start, count);
-        append_part(&mut bytes, from, begin, end)?;
+        let (begin, end) = span_of(rows, row, start, count, by_bytes);
+        append_span(&mut bytes, from, begin, end, from.len(), BLOCK)?;
         ends.try_push_usize(end - begin)?;
     }
     Ok((ends.into_buffer()?, bytes))
 }
 
+/// Whether each unit of the rows is known to be a byte: one pass over their bytes, where these are few.
+fn have_bytes_as_units<O: Offset, K: Units>(rows: &FlatArray<ByteRows<O, K>>) -> bool
+    ensures { IsTrue result → All (IsCutByBytes K.cut) (row_bytes rows.now.values) }
+{
+    let offsets = rows.offsets();
+    let len = offsets.len() - 1;
+    let (first, end) = offsets.range(0, len);
+    if (end - first) / SHORT >= len {
+        return false;
+    }
+    K::are_bytes(&rows.values().as_slice()[first..end])
+}
+
 /// Where the bytes of the part of a row lie: nowhere of a null.
+#[inline(always)]
 fn span_of<O: Offset, K: Units>(
     rows: &FlatArray<ByteRows<O, K>>,
     row: usize,
     start: i64,
     count: Option<u64>,
+    by_bytes: bool,
 ) -> (usize, usize)
     requires within { row + 1 < length rows.now.values.offsets }
     requires fits { FitsRows rows.now.validity (length rows.now.values.offsets - 1) }
+    requires by_bytes { IsTrue by_bytes → All (IsCutByBytes K.cut) (row_bytes rows.now.values) }
     ensures rises { result.0 ≤ result.1 }
     ensures within { result.1 ≤ length rows.now.values.bytes }
     ensures part { sliced rows.now.values.bytes result.0 (result.1 - result.0) ≡ slice_index_or (kept [] (K.cut start count) rows.now.validity (row_bytes rows.now.values)) row [] }
@@ -153,28 +200,6 @@ fn span_of<O: Offset, K: Units>(
     }
     let (begin, end) = rows.offsets().start_end(row);
     let bytes = &rows.values().as_slice()[begin..end];
-    let (first, last) = K::span(bytes, start, count);
+    let (first, last) = span_in::<K>(bytes, start, count, by_bytes);
     (begin + first, begin + last)
-}
-
-/// Appends the bytes from `begin` to `end`. No more than a block are copied as a block, which is one move, and cut, where
-/// there are so many.
-///
-/// # Errors
-/// `OutOfMemory` where a growth is refused.
-fn append_part(bytes: &mut Vec<u8>, from: &[u8], begin: usize, end: usize) -> Result<(), Error>
-    requires rises { begin ≤ end }
-    requires within { end ≤ length from.now }
-    ensures ok { OnOk result (bytes.new.items ≡ bytes.old.items ++ sliced from.now begin (end - begin)) }
-    ensures err { IsOkUnless result Error.OutOfMemory }
-{
-    let count = end - begin;
-    if count > BLOCK || from.len() - begin < BLOCK {
-        bytes.extend_from_slice(&from[begin..end])?;
-        return Ok(());
-    }
-    let len = bytes.len() + count;
-    bytes.extend_from_slice(&from[begin..begin + BLOCK])?;
-    bytes.truncate(len);
-    Ok(())
 }

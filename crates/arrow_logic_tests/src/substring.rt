@@ -23,7 +23,7 @@ const NONE: i128 = -1;
 const MOST: i128 = 18_446_744_073_709_551_615;
 
 /// Of texts.
-const TEXTS: [Case; 20] = [
+const TEXTS: [Case; 25] = [
     ("héllo", 0, 1, 2, "él"),
     ("héllo", 0, i64::MIN, 1, "h"),
     ("héllo", 0, 0, MOST, "héllo"),
@@ -44,6 +44,11 @@ const TEXTS: [Case; 20] = [
     ("before,_beneath,é€,,a𝄞", 1, 1, NONE, "_,€,,𝄞"),
     ("before,_beneath,é€,,a𝄞", 2, -1, NONE, "€,,𝄞"),
     ("before,_beneath,é€,,a𝄞", 4, 0, 1, "a"),
+    ("hello,_beneath,,world", 0, -4, 2, "el,_,,or"),
+    ("hello,_beneath,wörld,again", 0, 1, 2, "el,_,ör,ga"),
+    ("é,hello,_beneath,wo", 1, 1, 2, "el,_,o"),
+    ("a,_é", 0, 0, 1, "a,_"),
+    ("a text of more bytes than are read before", 0, 30, 3, "rea"),
 ];
 
 /// Of texts and of bytes.

@@ -4,5 +4,6 @@
 
 pub mod bitmap;
 pub mod buffer;
+pub mod bytes;
 pub mod offset;
 mod words;

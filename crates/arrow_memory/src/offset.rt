@@ -214,6 +214,7 @@ impl<O: Offset> Offsets<O> {
     /// # Errors
     /// `Overflow` where it would end past the greatest offset, `OutOfMemory` where a growth is refused.
     /// The offsets are then as before.
+    #[inline(always)]
     pub fn try_push_usize(&mut self, length: usize) -> Result<(), Error>
         ensures ok { OnOk result (self.new ≡ with_row self.old length) }
         ensures overflow { (result ≡ Err Error.Overflow) ↔ (O.greatest < last_of self.old + length) }

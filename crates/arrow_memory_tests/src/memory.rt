@@ -2,6 +2,7 @@
 
 mod bitmaps;
 mod buffers;
+mod bytes;
 mod offsets;
 
 #[test]
@@ -11,6 +12,7 @@ fn bits_values_and_offsets(rt: HostRuntime) {
     bitmaps::check_words(&rt);
     bitmaps::check_room(&rt);
     buffers::check_parts(&rt);
+    bytes::check_spans(&rt);
     offsets::check_places(&rt);
     offsets::check_numbers(&rt);
     offsets::check_appended(&rt);

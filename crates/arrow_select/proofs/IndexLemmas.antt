@@ -235,10 +235,6 @@ pub named_by : (bits : List Bool) (count : ℕ) (s : Slot) (b : Bool) → IsKey 
 named_by bits count s b key same some read =
     each_index count (λ s. slice_get bits (place_in s) ≡ Some b → not (is_null s) && b ≡ named_bit bits s) (λ at. refl) (λ n within at. sym (get_or_from_slice_get bits n b false at)) s key read
 
--- a place that an index names is there, where there is one
-pub place_within : (count : ℕ) → 0 < count → (s : Slot) → IsKey count s → place_in s < count
-place_within count some = each_index count (λ s. place_in s < count) some (λ n within. within)
-
 -- as many rows as indices that are stored
 pub length-masked_slots : {I : Type 0} (slot : I → Slot) (v : Option (List Bool)) (keys : List I) → FitsRows v (length keys) → length (masked v (map slot keys)) ≡ length keys
 length-masked_slots slot v keys fits =

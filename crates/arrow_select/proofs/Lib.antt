@@ -8,6 +8,7 @@ pub mod LawLemmas
 pub mod SetBytes
 pub mod SetLemmas
 pub mod ShiftLemmas
+pub mod SpanLemmas
 pub mod TakenBytes
 pub mod TakenFields
 pub mod TakenKeys

@@ -2,7 +2,7 @@
 use Rattle.std.proofs.Common.{arith, ◌≡◌, ◌+◌, ◌-◌, ℕ, zero, suc, pos, ◌<◌, ◌≤◌, ◌^◌, Bool, true, false, Option, Some, None, List, [], ◌∷◌, ◌++◌, length, map, replicate, drop, slice_index, refl, ap, sym, subst, ◌∙◌, append_assoc}
 use Rattle.std.specs.Prelude.{option_map, slice_get, sum}
 use Rattle.std.specs.List.{All, concat, range_with_len}
-use Rattle.std.proofs.lemmas.List.{append-nil, get_or-drop, get_or-take, get_or_default, length-map, map-append}
+use Rattle.std.proofs.lemmas.List.{get_or-drop, get_or-take, get_or_default, length-map, map-append}
 use Rattle.std.proofs.lemmas.List.Elements.{All-cons, All-nil}
 use Rattle.std.proofs.lemmas.List.Sums.{sum-map, sum_by-append, sum_by-cons}
 use Rattle.arrow_types.specs.declared.datatypes.physical_type.PhysicalType.{PhysicalType}
@@ -92,10 +92,6 @@ module _ (os ends left run rest all : List ℕ) (some : 0 < length ends) (is : l
       let whole = sym (last_ends ends (map (row_length os) left) some) ∙ (ap last_of so_far ∙ ends_last 0 (map (row_length os) all)) in
       let parts = ap sum split ∙ sum_by-append (λ x. x) (map (row_length os) run) (map (row_length os) rest) in
       omega (arith, whole, parts)
-
-pub ends_all : (os ends : List ℕ) (i : ℕ) (left : List Bool) (all : List ℕ) → length left ≡ 0 → EndsUpTo os ends (places_from i left) all → ends ≡ 0 ∷ ends_from 0 (map (row_length os) all)
-ends_all os ends i [] all none so_far = sym (append-nil ends) ∙ so_far
-ends_all os ends i (b ∷ left) all none so_far = absurd (omega (arith, none))
 
 -- ---- the ends of a run
 

@@ -1,23 +1,24 @@
 -- Members of lists at which a mask is set: of a word, from the lowest bit on, and of a list, a word at a time.
 use Rattle.std.proofs.Common.{arith, inl, inr, ◌≡◌, ◌+◌, ◌-◌, ◌*◌, ◌/◌, ◌%◌, ◌^◌, ◌<◌, ◌≤◌, min, ℕ, zero, suc, Bool, true, false, cond, if◌then◌else◌, Some, List, [], ◌∷◌, ◌++◌, length, map, take, drop, refl, ap, sym, subst, ◌∙◌, append_assoc, w64}
-use Rattle.std.specs.Prelude.{◌==◌, nat_eq, bit_and, count_ones, slice_get}
+use Rattle.std.specs.Prelude.{◌==◌, nat_eq, bit_and, bit_or, count_ones, slice_get}
 use Rattle.std.specs.List.{range_with_len}
-use Rattle.std.specs.Int.{bit_at, trailing_zeros}
+use Rattle.std.specs.Int.{bit_at, from_bool, trailing_zeros}
 use Rattle.std.proofs.Math.Nat.{pow-le-pow_right, mod-eq_of_lt}
 use Rattle.std.proofs.lemmas.Bool.{cases_lt}
-use Rattle.std.proofs.lemmas.List.{append-nil, length-append, drop-drop, drop_all, length-take, length-drop, take_min}
-use Rattle.std.proofs.lemmas.List.FromFn.{get_or-map-range_with_len}
+use Rattle.std.proofs.lemmas.List.{append-nil, length-append, drop-drop, drop_all, get_or-drop, get_or-take, length-take, length-drop, same_lists, take_min}
+use Rattle.std.proofs.lemmas.List.FromFn.{get_or-map-range_with_len, length-map-range_with_len}
 use Rattle.std.proofs.lemmas.Option.{slice_get-get_or}
 use Rattle.std.proofs.lemmas.List.Sums.{sum_by-cons}
-use Rattle.std.proofs.lemmas.Nat.{ones_le_self}
-use Rattle.std.proofs.lemmas.Nat.Bits.{bit_at_and, bit_at_lowest, bit_at-suc, bit_at_above, bit_at-trailing_zeros, bit_at-zero, bit_at-lt, bit_at_ones}
+use Rattle.std.proofs.lemmas.Nat.{and_le_l, ones_le_self}
+use Rattle.std.proofs.lemmas.Nat.Bits.{bit_at_and, bit_at_lowest, bit_at-suc, bit_at_above, bit_at-trailing_zeros, bit_at-zero, bit_at-lt, bit_at_ones, shr_and_one}
 use Rattle.std.proofs.lemmas.Simd.{mask_l-lt}
 use Rattle.arrow_memory.specs.Sliced.{sliced}
 use Rattle.arrow_memory.specs.Words.{low_bits, set_count, word_of}
 use Rattle.arrow_memory.proofs.AppendLemmas.{bit_at-shr}
 use Rattle.arrow_memory.proofs.WordLemmas.{count_ones-word_of, length-low_bits, word_of-low_bits}
 use Rattle.arrow_select.specs.Selected.{at_set, set_in_word, word_bits, IsRunOf}
-use Rattle.arrow_memory.proofs.BitLemmas.{bits_of_word}
+use Rattle.arrow_memory.proofs.BitLemmas.{bits_of_word, word_more}
+use Rattle.arrow_memory.proofs.SlicedLemmas.{length-sliced}
 
 -- how many members are set
 pub length-at_set : {A : Type 0} (mask : List Bool) (xs : List A) → length mask ≡ length xs → length (at_set mask xs) ≡ set_count mask
@@ -72,14 +73,6 @@ none_at f a zero xs none = refl
 none_at f a (suc n) [] none = refl
 none_at f a (suc n) (x ∷ xs) none =
     ap (λ b. if b then x ∷ at_set (map f (range_with_len (a + 1) n)) xs else at_set (map f (range_with_len (a + 1) n)) xs) (none a (omega arith)) ∙ none_at f (a + 1) n xs (λ i from. none i (omega (arith, from)))
-
--- each bit is set
-all_at : {A : Type 0} (f : ℕ → Bool) (a n : ℕ) (xs : List A) → length xs ≡ n → ((i : ℕ) → i < a + n → f i ≡ true) → at_set (map f (range_with_len a n)) xs ≡ xs
-all_at f a zero [] long all = refl
-all_at f a zero (x ∷ xs) long all = absurd (omega (arith, long))
-all_at f a (suc n) [] long all = refl
-all_at f a (suc n) (x ∷ xs) long all =
-    ap (λ b. if b then x ∷ at_set (map f (range_with_len (a + 1) n)) xs else at_set (map f (range_with_len (a + 1) n)) xs) (all a (omega arith)) ∙ ap (λ ys. x ∷ ys) (all_at f (a + 1) n xs (omega (arith, long)) (λ i below. all i (omega (arith, below))))
 
 -- the first bit that is set, and others that differ in that bit alone
 first_at : {A : Type 0} (f g : ℕ → Bool) (a k n : ℕ) (xs : List A) (x : A) → k < n → ((i : ℕ) → i < a + k → f i ≡ false) → f (a + k) ≡ true → ((i : ℕ) → i ≤ a + k → g i ≡ false) → ((i : ℕ) → a + k < i → f i ≡ g i) → slice_get xs k ≡ Some x → at_set (map f (range_with_len a n)) xs ≡ x ∷ at_set (map g (range_with_len a n)) xs
@@ -190,23 +183,9 @@ lowest_first w xs x some small below read =
     let drops = drops_lowest w some small in
     first_at (λ i. bit_at w i == 1) (λ i. bit_at (bit_and w (w - 1)) i == 1) 0 k (length xs) xs x (lowest_within w (length xs) some small below) (λ i to. is_one (bit_at w i) 0 (drops.below i (omega (arith, to)))) (is_one (bit_at w (0 + k)) 1 (ap (bit_at w) (omega arith) ∙ drops.one)) (λ i to. is_one (bit_at (bit_and w (w - 1)) i) 0 (drops.unset i (omega (arith, to)))) (λ i from. is_one (bit_at w i) (bit_at (bit_and w (w - 1)) i) (sym (drops.above i (omega (arith, from))))) read
 
--- no bit is set in 0, and each in the greatest word
+-- no bit is set in 0
 pub set_in_zero : {A : Type 0} (xs : List A) → set_in_word 0 xs ≡ []
 set_in_zero xs = none_at (λ i. bit_at 0 i == 1) 0 (length xs) xs (λ i from. is_one (bit_at 0 i) 0 (bit_at-zero i))
-
-pub set_in_full : {A : Type 0} (w : ℕ) (xs : List A) → w ≡ 2 ^ 64 - 1 → length xs ≡ 64 → set_in_word w xs ≡ xs
-set_in_full w xs is long =
-    all_at (λ i. bit_at w i == 1) 0 (length xs) xs refl (λ i below. is_one (bit_at w i) 1 (ap (λ n. bit_at n i) is ∙ bit_at_ones 64 i (omega (arith, below, long))))
-
--- so many values are a word where all its bits are set within them
-pub full_long : (w n : ℕ) → w ≡ 2 ^ 64 - 1 → w < 2 ^ n → n ≤ 64 → n ≡ 64
-full_long w n is below most =
-    elim (cases_lt n 64) as (λ _. n ≡ 64) [
-      | inl before ↦
-          let power = pow-le-pow_right {n = 2} (omega arith) {i = n} {j = 63} (omega (arith, before)) in
-          absurd (omega (arith, power, is, below))
-      | inr after ↦ omega (arith, after, most)
-    ]
 
 -- ---- a word cut off
 
@@ -268,10 +247,6 @@ length-word_bits word = length-low_bits word 64
 low-word_bits : (word bits : ℕ) → low_bits word (length (word_bits bits)) ≡ word_bits word
 unfolding word_bits
 low-word_bits word bits = ap (low_bits word) (length-low_bits bits 64)
-
-word_of-word_bits : (word : ℕ) → word < 2 ^ 64 → word_of (word_bits word) ≡ word
-unfolding word_bits
-word_of-word_bits word small = word_of-low_bits word 64 ∙ mod-eq_of_lt small
 
 read-word_bits : (word k : ℕ) → k < 64 → slice_get (word_bits word) k ≡ Some (bit_at word k == 1)
 unfolding word_bits
@@ -357,6 +332,29 @@ set_in_run w first count xs run below =
     let at : first + (i - first) ≡ i = omega (arith, from) in
     is_one (bit_at w i) 1 (ap (bit_at w) (sym at) ∙ run.ones (i - first) (omega (arith, from, to)))) (λ i from. is_one (bit_at w i) 0 (run.above i (omega (arith, from)))))
 
+-- so many bits of a word from a place on
+bits_of_run : (bits first count : ℕ) → first + count ≤ 64 → low_bits (bits / 2 ^ first) count ≡ sliced (word_bits bits) first count
+unfolding word_bits
+bits_of_run bits first count within =
+    let f = λ (k : ℕ). bit_at (bits / 2 ^ first) k == 1 in
+    let size = length-map-range_with_len f 0 count in
+    same_lists _ _ (size ∙ sym (length-sliced (low_bits bits 64) first count (omega (arith, within, length-low_bits bits 64))))
+    (λ k d below.
+    let here : k < count = omega (arith, below, size) in
+    let read = get_or-take count (drop first (low_bits bits 64)) k d here ∙ (get_or-drop first (low_bits bits 64) k d ∙ get_or-map-range_with_len (λ i. bit_at bits i == 1) 0 64 (first + k) (first + k) d (omega (arith, here, within)) (omega arith)) in
+    get_or-map-range_with_len f 0 count k k d here (omega arith) ∙ (is_one (bit_at (bits / 2 ^ first) k) (bit_at bits (first + k)) (bit_at-shr bits first k) ∙ sym read))
+
+pub word_of_run : (word bits first count : ℕ) → first + count ≤ 64 → word < 2 ^ count → low_bits word count ≡ low_bits (bits / 2 ^ first) count → word ≡ word_of (sliced (word_bits bits) first count)
+word_of_run word bits first count within below same =
+    sym (word_of-low_bits word count ∙ mod-eq_of_lt below) ∙ ap word_of (same ∙ bits_of_run bits first count within)
+
+-- and the bits at which such a word is set
+pub gathered_run : (w first count bits made : ℕ) → IsRunOf w first count → w < 2 ^ 64 → made ≡ word_of (sliced (word_bits bits) first count) → made ≡ word_of (set_in_word w (word_bits bits))
+gathered_run w first count bits made run small is =
+    let many : first + count - first ≡ count = omega arith in
+    let below : w < 2 ^ length (word_bits bits) = subst (λ n. w < 2 ^ n) (sym (length-word_bits bits)) small in
+    is ∙ ap word_of (ap (λ n. take n (drop first (word_bits bits))) (sym many) ∙ set_in_run w first count (word_bits bits) run below)
+
 -- no word has more ones than bits
 ones_few : (w : ℕ) → w < 2 ^ 64 → count_ones w ≤ 64
 ones_few w small =
@@ -386,6 +384,40 @@ run_of_ones w some small same =
 pub some_more : {A : Type 0} (old kept new first some rest all : List A) → first ≡ some ++ rest → new ≡ kept ++ some → kept ++ first ≡ old ++ all → new ++ rest ≡ old ++ all
 some_more old kept new first some rest all is pushed so_far =
     ap (λ ys. ys ++ rest) pushed ∙ (append_assoc kept some rest ∙ (ap (λ ys. kept ++ ys) (sym is) ∙ so_far))
+
+-- the values so far, with those at which the bits that are left are set, are all, and there is room for these
+pub record TakesUpTo {A : Type 0} (word left : ℕ) (xs old now : List A) (old_len old_room len room : ℕ) : Type 0 where
+  pub below : left < 2 ^ length xs
+  pub fits : len + length (set_in_word left xs) ≤ room
+  pub items : now ++ set_in_word left xs ≡ old ++ set_in_word word xs
+  pub count : len + length (set_in_word left xs) ≡ old_len + length (set_in_word word xs)
+  pub same : room ≡ old_room
+
+-- where a bit is left there is room for one value, and with it the lowest bit is done
+module _ {A : Type 0} (word left : ℕ) (xs old now : List A) (old_len old_room len room : ℕ) (some : 0 < left) (small : left < 2 ^ 64) (so_far : TakesUpTo word left xs old now old_len old_room len room) (x : A) (read : slice_get xs (trailing_zeros w64 left) ≡ Some x) where
+  abbrev rest : List A
+  rest = set_in_word (bit_and left (left - 1)) xs
+
+  first : set_in_word left xs ≡ x ∷ rest
+  first = lowest_first left xs x some small so_far.below read
+
+  pub takes_room : len < room
+  takes_room = omega (arith, so_far.fits, ap length first)
+
+  pub takes_more : (new : List A) (new_len new_room : ℕ) → new ≡ now ++ x ∷ [] → new_len ≡ len + 1 → new_room ≡ room → TakesUpTo word (bit_and left (left - 1)) xs old new old_len old_room new_len new_room
+  takes_more new new_len new_room pushed one same = record {
+    below = omega (arith, so_far.below, and_le_l left (left - 1));
+    fits = omega (arith, so_far.fits, ap length first, one, same);
+    items = some_more old now new (set_in_word left xs) (x ∷ []) rest (set_in_word word xs) first pushed so_far.items;
+    count = omega (arith, so_far.count, ap length first, one);
+    same = same ∙ so_far.same;
+  }
+
+-- where none is left these are all
+pub takes_all : {A : Type 0} (word left : ℕ) (xs old now : List A) (old_len old_room len room : ℕ) → left ≡ 0 → TakesUpTo word left xs old now old_len old_room len room → (now ≡ old ++ set_in_word word xs) × (len ≡ old_len + length (set_in_word word xs))
+takes_all word left xs old now old_len old_room len room none so_far =
+    let nil : set_in_word left xs ≡ [] = ap (λ w. set_in_word w xs) none ∙ set_in_zero xs in
+    (sym (append-nil now) ∙ (ap (λ ys. now ++ ys) (sym nil) ∙ so_far.items), omega (arith, so_far.count, ap length nil))
 
 -- ---- bits that are gathered
 
@@ -421,13 +453,40 @@ pub room_for_bit : (mask left bits : ℕ) (kept rest : List Bool) (b : Bool) →
 room_for_bit mask left bits kept rest b first so_far =
     omega (arith, ap length so_far, length-append kept (set_in_word left (word_bits bits)), ap length first, at_set-short (low_bits mask (length (word_bits bits))) (word_bits bits), length-word_bits bits)
 
--- all bits of a word
-pub set_in_full_word : (w bits : ℕ) → w ≡ 2 ^ 64 - 1 → bits < 2 ^ 64 → bits ≡ word_of (set_in_word w (word_bits bits))
-set_in_full_word w bits is small =
-    let all = set_in_full w (word_bits bits) is (length-word_bits bits) in
-    sym (ap word_of all ∙ word_of-word_bits bits small)
-
 -- members that were kept, of those that are left, are no more than all
 pub kept_below : {A : Type 0} (kept first part rest xs all : List A) (mask : List Bool) → first ≡ part ++ rest → kept ++ first ≡ all → all ≡ at_set mask xs → length kept + length part ≤ length xs
 kept_below kept first part rest xs all mask is so_far whole =
     omega (arith, ap length is, ap length so_far, ap length whole, length-append kept first, length-append part rest, at_set-short mask xs)
+
+-- the bits so far, as a word of so many, with those at which the bits that are left are set, are all
+abbrev pub GathersUpTo : ℕ → ℕ → ℕ → ℕ → ℕ → Type 0
+GathersUpTo word bits left gathered count =
+    (kept : List Bool) × (gathered ≡ word_of kept) × (length kept ≡ count) × (kept ++ set_in_word left (word_bits bits) ≡ set_in_word word (word_bits bits))
+
+-- where a bit is left the word has room for one, and with it the lowest bit is done
+module _ (word bits left gathered count : ℕ) (some : 0 < left) (small : left < 2 ^ 64) (so_far : GathersUpTo word bits left gathered count) where
+  abbrev seen : Bool
+  seen = nat_eq (bit_and (bits / 2 ^ trailing_zeros w64 left) 1) 1
+
+  abbrev others : List Bool
+  others = set_in_word (bit_and left (left - 1)) (word_bits bits)
+
+  first_bit : set_in_word left (word_bits bits) ≡ seen ∷ others
+  first_bit =
+      lowest_bit left bits some small ∙ ap (λ b. b ∷ others) (ap (λ n. nat_eq n 1) (sym (shr_and_one bits (trailing_zeros w64 left))))
+
+  pub gathers_below : count < 64
+  gathers_below =
+      omega (arith, so_far.2, room_for_bit word left bits so_far.0 others seen first_bit so_far.3)
+
+  pub gathers_more : (bit : ℕ) → bit ≡ from_bool seen → GathersUpTo word bits (bit_and left (left - 1)) (bit_or gathered (bit * 2 ^ count % 18446744073709551616)) (count + 1)
+  gathers_more bit is =
+      let kept = so_far.0 in
+      let more = ap (λ n. bit_or gathered (n * 2 ^ count % 18446744073709551616)) is ∙ word_more kept seen gathered count so_far.2 gathers_below so_far.1 in
+      (kept ++ seen ∷ [], more, omega (arith, so_far.2, length-append kept (seen ∷ [])), some_more [] kept (kept ++ seen ∷ []) (set_in_word left (word_bits bits)) (seen ∷ []) others (set_in_word word (word_bits bits)) first_bit refl so_far.3)
+
+-- where none is left these are all
+pub gathers_all : (word bits left gathered count : ℕ) → left ≡ 0 → GathersUpTo word bits left gathered count → gathered ≡ word_of (set_in_word word (word_bits bits))
+gathers_all word bits left gathered count none so_far =
+    let nil : set_in_word left (word_bits bits) ≡ [] = ap (λ w. set_in_word w (word_bits bits)) none ∙ set_in_zero (word_bits bits) in
+    so_far.1 ∙ ap word_of (sym (append-nil so_far.0) ∙ (ap (λ ys. so_far.0 ++ ys) (sym nil) ∙ so_far.3))

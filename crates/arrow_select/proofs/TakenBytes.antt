@@ -1,10 +1,8 @@
 -- Texts and bytes by index: where the rows end, their bytes, and when there are too many.
 use Rattle.std.proofs.Common.{arith, ◌≡◌, ◌+◌, ◌-◌, ℕ, zero, suc, ◌<◌, ◌≤◌, ◌^◌, Bool, true, false, not, ◌&&◌, Option, Some, None, List, [], ◌∷◌, ◌++◌, length, map, take, drop, get_or, slice_index, if◌then◌else◌, refl, ap, sym, subst, ◌∙◌, append_assoc}
 use Rattle.std.specs.Prelude.{option_map, slice_get, sum, sum_by}
-use Rattle.std.specs.List.{All, concat, range_with_len}
-use Rattle.std.proofs.lemmas.List.{append-nil, get_or-map, length-append, length-map, same_lists}
-use Rattle.std.proofs.lemmas.List.FromFn.{get_or-map-range_with_len, length-map-range_with_len}
-use Rattle.std.proofs.lemmas.List.Folds.{concat-append}
+use Rattle.std.specs.List.{All, concat}
+use Rattle.std.proofs.lemmas.List.{length-append, length-map}
 use Rattle.std.proofs.lemmas.List.Elements.{All-map}
 use Rattle.std.proofs.lemmas.Simd.{map-map}
 use Rattle.std.proofs.Math.Seq.{drop-append_seam, take-append_seam}
@@ -29,7 +27,8 @@ use Rattle.arrow_arrays.specs.KeyedParts.{AreKeys, IsKey, key_in}
 use Rattle.arrow_flat_growable.specs.ByteLaws.{fits_rows, fits_stored, null_of, slots_fit, slots_pass}
 use Rattle.arrow_flat_growable.specs.Bytes.{IsBytesType, SparesBytes}
 use Rattle.arrow_flat_growable.specs.GrownRows.{total}
-use Rattle.arrow_select.specs.Taken.{MarksTaken, ends_from, is_taken_valid, place_in, row_bytes, row_length, span_length, span_of, span_start, taken_bytes}
+use Rattle.arrow_select.specs.Spans.{IsSpanWithin, span_bytes, spanned}
+use Rattle.arrow_select.specs.Taken.{MarksTaken, ends_from, is_taken_valid, place_in, span_length, span_of, taken_bytes, taken_span}
 use Rattle.arrow_select.proofs.IndexLemmas.{Stores, each_index, fits_taken, gives_next, map-agree, mask-map, named_valid, rows_taken}
 
 -- where rows end
@@ -60,12 +59,6 @@ sum_below f (s ∷ rows) (suc i) within =
 pub passes_all : (f : Slot → ℕ) (rows : List Slot) (i n greatest : ℕ) (old : List ℕ) → i < length rows → n ≡ f (get_or rows i Null) → old ≡ 0 ∷ ends_from 0 (map f (take i rows)) → greatest < last_of old + n → greatest < sum (map f rows)
 passes_all f rows i n greatest old within row so_far over =
     omega (arith, over, row, ap last_of so_far, ends_last 0 (map f (take i rows)), sum_below f rows i within)
-
--- the bytes of the rows so far, and of one more
-pub bytes_next : (f : Slot → List ℕ) (rows : List Slot) (i : ℕ) (row old new : List ℕ) → i < length rows → row ≡ f (get_or rows i Null) → old ≡ concat (map f (take i rows)) → new ≡ old ++ row → new ≡ concat (map f (take (i + 1) rows))
-bytes_next f rows i row old new within is so_far more =
-    let next = gives_next f [] (map f (take i rows)) rows i row within is refl in
-    more ∙ (ap (λ bs. bs ++ row) so_far ∙ (ap (λ bs. concat (map f (take i rows)) ++ bs) (sym (append-nil row)) ∙ (sym (concat-append (map f (take i rows)) (row ∷ [])) ∙ ap concat next)))
 
 -- the validity of rows of bytes
 pub rows_fit : (slot : List ℕ → Slot) (v w : Option (List Bool)) (os ps bytes : List ℕ) → w ≡ v → ps ≡ os → FitsRows v (length (map slot (pieces os bytes))) → FitsRows w (length ps - 1)
@@ -98,30 +91,14 @@ pub span_if : (v : Option (List Bool)) (os : List ℕ) (count : ℕ) (s : Slot) 
 span_if v os count s here there key valid named =
     (λ i. if valid i && named i then (slice_index os (place_in s), slice_index os (place_in s + 1)) else (0, 0)) ∙ span_by v os count s key
 
--- as many ends as rows, and how far they are apart
+-- as many ends as rows
 length-ends : (place : ℕ) (lengths : List ℕ) → length (ends_from place lengths) ≡ length lengths
 length-ends place [] = refl
 length-ends place (n ∷ lengths) = ap suc (length-ends (place + n) lengths)
 
-apart : (place : ℕ) (lengths : List ℕ) (k : ℕ) → k < length lengths → row_length (place ∷ ends_from place lengths) k ≡ slice_index lengths k
-apart place [] k within = absurd (omega (arith, within))
-apart place (n ∷ lengths) zero within = omega arith
-apart place (n ∷ lengths) (suc k) within =
-    let next : suc k + 1 ≡ suc (k + 1) = omega arith in
-    (λ i. slice_index (place ∷ ends_from place (n ∷ lengths)) (next i) - slice_index (ends_from place (n ∷ lengths)) k) ∙ apart (place + n) lengths k (omega (arith, within))
-
--- rows that are copied one by one, by where they begin and by how far their ends are apart
-copied : (start len : Slot → ℕ) (bytes : List ℕ) (indices : List Slot) → map (row_bytes bytes (map start indices) (0 ∷ ends_from 0 (map len indices))) (range_with_len 0 (length indices)) ≡ map (λ s. sliced bytes (start s) (len s)) indices
-copied start len bytes indices =
-    let row = row_bytes bytes (map start indices) (0 ∷ ends_from 0 (map len indices)) in
-    let part = λ (s : Slot). sliced bytes (start s) (len s) in
-    let size = length-map-range_with_len row 0 (length indices) in
-    same_lists _ _ (size ∙ sym (length-map indices part))
-    (λ k d within.
-    let below : k < length indices = omega (arith, within, size) in
-    let begins : slice_index (map start indices) k ≡ start (get_or indices k Null) = get_or-map start indices k Null 0 below in
-    let long : row_length (0 ∷ ends_from 0 (map len indices)) k ≡ len (get_or indices k Null) = apart 0 (map len indices) k (omega (arith, below, length-map indices len)) ∙ get_or-map len indices k Null 0 below in
-    get_or-map-range_with_len row 0 (length indices) k k d below (omega arith) ∙ ((λ i. sliced bytes (begins i) (long i)) ∙ sym (get_or-map part indices k Null d below)))
+-- the bytes of the rows that indices name are those of their spans
+pub spanned_by_index : (v : Option (List Bool)) (os bytes : List ℕ) (indices : List Slot) → spanned bytes (map (taken_span v os) indices) ≡ concat (map (taken_bytes v os bytes) indices)
+spanned_by_index v os bytes indices = ap concat (map-map (span_bytes bytes) (taken_span v os) indices)
 
 -- the row that an index names lies inside the bytes
 abbrev span_where : Bool → List ℕ → ℕ → ℕ × ℕ
@@ -139,31 +116,14 @@ module _ (v : Option (List Bool)) (os bytes : List ℕ) (sound : IsOffsets os) (
       each_index (length os - 1) _ refl (λ n has. bytes_where (valid_at v n) os bytes n sound within has)
 
   -- and lies within the bytes
-  within_where : (valid : Bool) (n : ℕ) → n < length os - 1 → (span_where valid os n).0 + ((span_where valid os n).1 - (span_where valid os n).0) ≤ length bytes
+  within_where : (valid : Bool) (n : ℕ) → n < length os - 1 → IsSpanWithin (length bytes) (span_where valid os n)
   within_where true n has =
-      omega (arith, within, offsets_rise os n (n + 1) sound (omega arith) (omega (arith, has)), at_most_last os (n + 1) sound (omega (arith, has)))
-  within_where false n has = omega arith
+      (offsets_rise os n (n + 1) sound (omega arith) (omega (arith, has)), omega (arith, within, at_most_last os (n + 1) sound (omega (arith, has))))
+  within_where false n has = (omega arith, omega arith)
 
-  pub span_within : (s : Slot) → IsKey (length os - 1) s → span_start v os s + span_length v os s ≤ length bytes
-  span_within =
-      each_index (length os - 1) _ (omega arith) (λ n has. within_where (valid_at v n) n has)
-
-  -- so do the rows that are copied one by one, and they are those of the indices
-  module _ (indices : List Slot) (keys : AreKeys (length os - 1) indices) (starts offsets : List ℕ) (begin : starts ≡ map (span_start v os) indices) (end : offsets ≡ 0 ∷ ends_from 0 (map (span_length v os) indices)) where
-    pub rows_counted : length offsets ≡ length starts + 1
-    rows_counted =
-        omega (arith, ap length begin, ap length end, length-ends 0 (map (span_length v os) indices), length-map indices (span_length v os), length-map indices (span_start v os))
-
-    pub rows_within : (row : ℕ) → row < length starts → slice_index starts row + row_length offsets row ≤ length bytes
-    rows_within row below =
-        let has : row < length indices = omega (arith, below, ap length begin, length-map indices (span_start v os)) in
-        let first : slice_index starts row ≡ span_start v os (get_or indices row Null) = ap (λ xs. slice_index xs row) begin ∙ get_or-map (span_start v os) indices row Null 0 has in
-        let long : row_length offsets row ≡ span_length v os (get_or indices row Null) = ap (λ os. row_length os row) end ∙ (apart 0 (map (span_length v os) indices) row (omega (arith, has, length-map indices (span_length v os))) ∙ get_or-map (span_length v os) indices row Null 0 has) in
-        omega (arith, first, long, span_within (get_or indices row Null) (keys row Null has))
-
-    pub rows_copied : map (row_bytes bytes starts offsets) (range_with_len 0 (length starts)) ≡ map (taken_bytes v os bytes) indices
-    rows_copied =
-        (λ i. map (row_bytes bytes (begin i) (end i)) (range_with_len 0 (length (begin i)))) ∙ (ap (λ n. map (row_bytes bytes (map (span_start v os) indices) (0 ∷ ends_from 0 (map (span_length v os) indices))) (range_with_len 0 n)) (length-map indices (span_start v os)) ∙ copied (span_start v os) (span_length v os) bytes indices)
+  pub spans_within : (indices : List Slot) → AreKeys (length os - 1) indices → All (IsSpanWithin (length bytes)) (map (taken_span v os) indices)
+  spans_within indices keys =
+      All-map (IsSpanWithin (length bytes)) (taken_span v os) indices (λ k d among. each_index (length os - 1) (λ s. IsSpanWithin (length bytes) (taken_span v os s)) (omega arith, omega arith) (λ n has. within_where (valid_at v n) n has) (get_or indices k d) (keys k d among))
 
   -- as many bytes as the offsets say
   pub bytes_by_index : (indices : List Slot) → AreKeys (length os - 1) indices → map length (map (taken_bytes v os bytes) indices) ≡ map (span_length v os) indices

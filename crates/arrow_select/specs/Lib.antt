@@ -6,4 +6,5 @@ pub mod Keys
 pub mod Laws
 pub mod Refusals
 pub mod Selected
+pub mod Spans
 pub mod Taken

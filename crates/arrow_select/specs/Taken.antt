@@ -11,11 +11,11 @@ use Rattle.arrow_types.specs.Relation.{is_null}
 use Rattle.arrow_types.specs.Rows.{gather, valid_at}
 use Rattle.arrow_types.specs.Slot.{Slot, Null, Number}
 use Rattle.arrow_memory.specs.Grown.{IsGrowthError}
-use Rattle.arrow_memory.specs.Sliced.{sliced}
 use Rattle.arrow_flat.specs.Parts.{IsValue}
 use Rattle.arrow_arrays.specs.Any.{any_array_type, any_array_rows}
 use Rattle.arrow_arrays.specs.declared.array.any.AnyArray.{AnyArray}
 use Rattle.arrow_arrays.specs.KeyedParts.{key_in}
+use Rattle.arrow_select.specs.Spans.{span_bytes}
 
 -- types of which there are rows by index: all but maps, unions and bytes of a fixed size, and structs that have a field of these
 abbrev pub HasTakePlain : PlainType → Type 0
@@ -95,31 +95,27 @@ abbrev pub span_of : Option (List Bool) → List ℕ → Option ℕ → ℕ × �
 span_of validity offsets None = (0, 0)
 span_of validity offsets (Some n) = if valid_at validity n then (slice_index offsets n, slice_index offsets (n + 1)) else (0, 0)
 
--- where the bytes begin of the row that an index names
-abbrev pub span_start : Option (List Bool) → List ℕ → Slot → ℕ
-span_start validity offsets index = (span_of validity offsets (key_in index)).0
+-- where the bytes lie of the row that an index names
+abbrev pub taken_span : Option (List Bool) → List ℕ → Slot → ℕ × ℕ
+taken_span validity offsets index = span_of validity offsets (key_in index)
 
--- how many bytes the row has that an index names
+-- how many bytes it has
 abbrev pub span_length : Option (List Bool) → List ℕ → Slot → ℕ
 span_length validity offsets index =
-    (span_of validity offsets (key_in index)).1 - (span_of validity offsets (key_in index)).0
+    (taken_span validity offsets index).1 - (taken_span validity offsets index).0
 
 -- and its bytes
 abbrev pub taken_bytes : Option (List Bool) → List ℕ → List ℕ → Slot → List ℕ
-taken_bytes validity offsets bytes index =
-    sliced bytes (span_of validity offsets (key_in index)).0 (span_length validity offsets index)
+taken_bytes validity offsets bytes index = span_bytes bytes (taken_span validity offsets index)
 
 -- where rows of such lengths end, of which the first begins at a place
 abbrev pub ends_from : ℕ → List ℕ → List ℕ
 ends_from place [] = []
 ends_from place (n ∷ lengths) = (place + n) ∷ ends_from (place + n) lengths
 
--- how long a row is, and its bytes where it begins at a place of its own
+-- how long a row is
 abbrev pub row_length : List ℕ → ℕ → ℕ
 row_length offsets row = slice_index offsets (row + 1) - slice_index offsets row
-
-abbrev pub row_bytes : List ℕ → List ℕ → List ℕ → ℕ → List ℕ
-row_bytes bytes starts offsets row = sliced bytes (slice_index starts row) (row_length offsets row)
 
 -- indices that name so many rows from one on, or as many nulls
 abbrev pub run_of : Option ℕ → ℕ → List Slot

@@ -7,5 +7,6 @@ pub mod filter;
 pub mod if_then_else;
 mod keys;
 pub mod laws;
+mod spans;
 pub mod take;
 pub mod window;

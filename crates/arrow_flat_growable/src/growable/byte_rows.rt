@@ -18,12 +18,16 @@ use arrow_arrays::array::{AnyArray, AnyOffset, AnyRows};
 use arrow_flat::array::{ByteKind, ByteRows, FlatArray};
 use arrow_memory::bitmap::Bitmap;
 use arrow_memory::buffer::Buffer;
+use arrow_memory::bytes::append_span;
 use arrow_memory::offset::{Offsets, OffsetsBuffer};
 use arrow_types::datatypes::DataType;
 use arrow_types::error::Error;
 use arrow_types::types::Offset;
 use std::alloc::Global;
 use std::marker::{Model, PhantomData};
+
+/// How many bytes a run of rows is copied as where it has no more: eight moves.
+const BLOCK: usize = 128;
 
 /// Which rows of bytes can grow.
 pub trait GrowableKind: AnyRows {
@@ -305,40 +309,7 @@ fn append_bytes<O: Offset>(
         return Ok(());
     }
     let (first, end) = rows.range(start, len);
-    append_part(bytes, values, first, end, until)
-}
-
-/// How many bytes a part is copied with where it has no more. A copy of a fixed size is a few moves, and needs neither a
-/// call nor a loop whose end is guessed.
-const BLOCK: usize = 128;
-
-/// Appends the bytes from `first` up to `end`. A short part is copied with what comes behind it, where that is still
-/// before `until` and there is room for it, and is then cut. Where it is refused, all is as before.
-fn append_part(
-    bytes: &mut Vec<u8>,
-    values: &[u8],
-    first: usize,
-    end: usize,
-    until: usize,
-) -> Result<(), Error>
-    requires order { first ≤ end }
-    requires within { end ≤ length values.now }
-    requires until { until ≤ length values.now }
-    ensures ok { OnOk result (bytes.new.items ≡ bytes.old.items ++ sliced values.now first (end - first)) }
-    ensures unchanged { OnErr result (bytes.new.items ≡ bytes.old.items) }
-    ensures err { IsOkUnless result Error.OutOfMemory }
-{
-    let (done, len) = (bytes.len(), end - first);
-    let behind = until.saturating_sub(first);
-    if len <= BLOCK && BLOCK <= behind && BLOCK <= bytes.capacity() - done {
-        let Ok(()) = bytes.extend_from_slice(&values[first..first + BLOCK]) else {
-            unreachable!();
-        };
-        bytes.truncate(done + len);
-        return Ok(());
-    }
-    bytes.extend_from_slice(&values[first..end])?;
-    Ok(())
+    append_span(bytes, values, first, end, until, BLOCK)
 }
 
 impl<O: AnyOffset, K: GrowableKind> GrowableValues for GrowableBytes<O, K> {

@@ -1,12 +1,12 @@
 //! What a part of a row is counted in: the characters of a text, or bytes.
 
-ghost use Rattle.std.specs.Prelude.{◌≡◌, ◌<◌, ◌≤◌, ◌-◌, ℕ, ℤ, Option, List, [], drop, length, count_by, encode_utf8_all, IsUtf8};
+ghost use Rattle.std.specs.Prelude.{◌≡◌, ◌↔◌, ◌<◌, ◌≤◌, ◌-◌, ℕ, ℤ, Option, List, [], drop, length, count_by, encode_utf8_all, IsAscii, IsTrue, IsUtf8};
 ghost use Rattle.std.specs.Str.{chars};
 ghost use Rattle.std.proofs.lemmas.Str.{IsUtf8-nil};
 ghost use Rattle.arrow_types.specs.Part.{cut, part, part_begin};
 ghost use Rattle.arrow_types.specs.Slot.{Slot};
 ghost use Rattle.arrow_memory.specs.Sliced.{sliced};
-ghost use Rattle.arrow_logic.specs.Substring.{begins, skipped, text_cut};
+ghost use Rattle.arrow_logic.specs.Substring.{IsCutByBytes, begins, skipped, text_cut};
 ghost use Rattle.arrow_logic.specs.SubstringLaws.{IsUtf8-cut, part_of_bytes, part_of_text};
 
 use arrow_flat::array::{Binary, ByteKind, Text};
@@ -25,6 +25,10 @@ pub(crate) trait Units: ByteKind {
         ensures rises { result.0 ≤ result.1 }
         ensures within { result.1 ≤ length row.now }
         ensures part { sliced row.now result.0 (result.1 - result.0) ≡ cut start count row.now };
+
+    /// Whether each unit is known to be a byte in every row that lies among these bytes.
+    fn are_bytes(bytes: &[u8]) -> bool
+        ensures { IsTrue result → (place len : ℕ) → IsCutByBytes cut (sliced bytes.now place len) };
 
     ghost is_part: { (start : ℤ) (count : Option ℕ) (bytes : List ℕ) → part start count (Self.slot bytes) ≡ Self.slot (cut start count bytes) };
 
@@ -46,6 +50,10 @@ impl Units for Text {
         (begin, end)
     }
 
+    fn are_bytes(bytes: &[u8]) -> bool {
+        are_ascii(bytes)
+    }
+
     ghost is_part = { part_of_text };
 
     ghost allows_part = { IsUtf8-cut };
@@ -57,18 +65,11 @@ impl Units for Binary {
     ghost cut = { cut };
 
     fn span(row: &[u8], start: i64, count: Option<u64>) -> (usize, usize) {
-        let units = start.unsigned_abs() as usize;
-        let begin = if start < 0 {
-            row.len().saturating_sub(units)
-        } else {
-            units.min(row.len())
-        };
-        let left = row.len() - begin;
-        let count = match count {
-            Some(count) => left.min(count as usize),
-            None => left,
-        };
-        (begin, begin + count)
+        span_of_bytes(row, start, count)
+    }
+
+    fn are_bytes(_bytes: &[u8]) -> bool {
+        true
     }
 
     ghost is_part = { part_of_bytes };
@@ -76,6 +77,59 @@ impl Units for Binary {
     ghost allows_part = { λ start count bytes any. any };
 
     ghost allows_none = { tt };
+}
+
+/// Where the part of a row lies among its bytes, which is counted where each unit is a byte.
+#[inline(always)]
+pub(crate) fn span_in<K: Units>(
+    row: &[u8],
+    start: i64,
+    count: Option<u64>,
+    by_bytes: bool,
+) -> (usize, usize)
+    requires allowed { K.Allows row.now }
+    requires by_bytes { IsTrue by_bytes → IsCutByBytes K.cut row.now }
+    ensures rises { result.0 ≤ result.1 }
+    ensures within { result.1 ≤ length row.now }
+    ensures part { sliced row.now result.0 (result.1 - result.0) ≡ K.cut start count row.now }
+{
+    if by_bytes {
+        span_of_bytes(row, start, count)
+    } else {
+        K::span(row, start, count)
+    }
+}
+
+/// Where a part lies among the bytes of a row, each of which is a unit.
+#[inline(always)]
+fn span_of_bytes(row: &[u8], start: i64, count: Option<u64>) -> (usize, usize)
+    ensures rises { result.0 ≤ result.1 }
+    ensures within { result.1 ≤ length row.now }
+    ensures part { sliced row.now result.0 (result.1 - result.0) ≡ cut start count row.now }
+{
+    let units = start.unsigned_abs() as usize;
+    let begin = if start < 0 {
+        row.len().saturating_sub(units)
+    } else {
+        units.min(row.len())
+    };
+    let left = row.len() - begin;
+    let count = match count {
+        Some(count) => left.min(count as usize),
+        None => left,
+    };
+    (begin, begin + count)
+}
+
+/// Whether each byte is below 0x80: all are read, and one test is made of what they have together.
+fn are_ascii(bytes: &[u8]) -> bool
+    ensures { IsTrue result ↔ IsAscii bytes.now }
+{
+    let mut together = 0;
+    for &byte in bytes {
+        together |= byte;
+    }
+    together < 0x80
 }
 
 /// Whether a byte of a text begins a character, and does not go on with one.

@@ -1,21 +1,22 @@
-//! Texts and bytes at which a mask is set: where the rows end first, and then the bytes, for which there is room.
+//! Texts and bytes at which a mask is set: where the rows end and lie first, and then the bytes, for which there is room.
 
-ghost use Rattle.std.specs.Prelude.{◌≡◌, ◌+◌, ◌-◌, ◌<◌, ◌≤◌, ◌∷◌, ◌++◌, count_by, length, map, slice_index, IfOk, OnOk, IsOkUnless};
-ghost use Rattle.std.specs.List.{range_with_len};
+ghost use Rattle.std.specs.Prelude.{◌≡◌, ◌+◌, ◌-◌, ◌<◌, ◌≤◌, ◌∷◌, ◌++◌, List, ℕ, count_by, length, map, slice_index, IfOk, OnOk, IsOkUnless};
+ghost use Rattle.std.specs.List.{All, range_with_len};
 ghost use Rattle.arrow_types.specs.declared.error.Error.{Error};
 ghost use Rattle.arrow_types.specs.Fits.{Fits};
 ghost use Rattle.arrow_types.specs.Rows.{select};
 ghost use Rattle.arrow_memory.specs.Offsets.{last_of};
-ghost use Rattle.arrow_memory.specs.Sliced.{sliced};
 ghost use Rattle.arrow_flat.specs.ByteRows.{byte_slots, row_bytes};
 ghost use Rattle.arrow_flat.specs.Parts.{rows_by};
 ghost use Rattle.arrow_flat.specs.Pieces.{pieces};
 ghost use Rattle.arrow_flat_growable.specs.GrownRows.{valid_values};
 ghost use Rattle.arrow_select.specs.Laws.{places_from};
 ghost use Rattle.arrow_select.specs.Selected.{at_set};
+ghost use Rattle.arrow_select.specs.Spans.{spanned, IsSpanWithin};
 ghost use Rattle.arrow_select.specs.Taken.{ends_from, row_length};
 
 use crate::filter::words::set_validity;
+use crate::spans::copy_spans;
 use arrow_flat::array::{ByteKind, ByteRows, FlatArray};
 use arrow_flat_growable::growable::GrowableKind;
 use arrow_memory::bitmap::Bitmap;
@@ -24,10 +25,6 @@ use arrow_memory::offset::{Offsets, OffsetsBuffer};
 use arrow_types::error::Error;
 use arrow_types::types::Offset;
 use std::alloc::Global;
-
-/// How many bytes are copied at once of a run that has no more: a copy of a fixed size is a few moves, and its end is not guessed
-/// before the offsets are read.
-const BLOCK: usize = 32;
 
 /// The rows at which the mask is set, in an array of the same type. What lies beneath a null comes with it, so no row is
 /// looked at, and all have at most the bytes of the array, which fit. Where all rows are kept the array is shared, and
@@ -81,39 +78,46 @@ fn kept_parts<O: Offset, K: ByteKind>(
 {
     let (rows, values) = (array.offsets(), array.values().as_slice());
     prove!(0 < rows.len());
-    let ends = kept_ends(alloc, rows, mask, count)?;
+    let (spans, ends) = kept_spans(alloc, rows, mask, count)?;
     let total = ends.last().to_usize();
-    let bytes = kept_bytes(alloc, rows, values, mask, total)?;
+    let bytes = copy_spans(alloc, values, &spans, total)?;
     Ok((ends.into_buffer()?, bytes))
 }
 
-/// Where the rows end at which the mask is set, of which there are so many, a run of them at a time.
+/// Where the bytes lie of the rows at which the mask is set, of which there are so many, a span for each run of them, and where
+/// these rows end: in one walk over the mask.
 ///
 /// # Errors
 /// `OutOfMemory` where memory is refused.
-fn kept_ends<O: Offset>(
+fn kept_spans<O: Offset>(
     alloc: Global,
     rows: &OffsetsBuffer<O>,
     mask: &Bitmap,
     count: usize,
-) -> Result<Offsets<O>, Error>
+) -> Result<(Vec<(usize, usize)>, Offsets<O>), Error>
     requires lengths { length rows.now ≡ length mask.now + 1 }
-    ensures ok { IfOk result (λ ends. ends ≡ 0 ∷ ends_from 0 (map (row_length rows.now) (places_from 0 mask.now))) }
+    ensures within { IfOk result (λ kept. All (IsSpanWithin (last_of rows.now)) kept.0.items) }
+    ensures bytes { IfOk result (λ kept. (bytes : List ℕ) → last_of rows.now ≤ length bytes → spanned bytes kept.0.items ≡ valid_values mask.now rows.now bytes 0) }
+    ensures ends { IfOk result (λ kept. kept.1 ≡ 0 ∷ ends_from 0 (map (row_length rows.now) (places_from 0 mask.now))) }
     ensures err { IsOkUnless result Error.OutOfMemory }
 {
-    let mut ends = Offsets::with_capacity(alloc, count)?;
     let len = mask.len();
     // All rows end at the greatest offset at most, and so do those that are kept.
     let _ = rows.range(0, len);
+    let mut ends = Offsets::with_capacity(alloc, count)?;
+    // No more runs than rows that are kept, and one more at most than rows that are not.
+    let runs = count.min(len.saturating_sub(count)) + 1;
+    let mut spans = Vec::with_capacity(alloc, runs)?;
     let mut left = mask.runs(0, len);
     let mut row = 0;
     while row < len {
         let (unset, count) = left.next_set();
         row += unset;
+        spans.push(rows.range(row, count))?;
         append_ends(&mut ends, rows, row, count)?;
         row += count;
     }
-    Ok(ends)
+    Ok((spans, ends))
 }
 
 /// Appends where `len` rows from row `start` on end. These offsets fit.
@@ -133,57 +137,4 @@ fn append_ends<O: Offset>(
 {
     prove!(start < rows.len());
     ends.try_extend_from_slice(rows, start, len)
-}
-
-/// The bytes of the rows at which the mask is set, a run of them at a time. There is room for `total`, and for a block more, from
-/// the first on.
-///
-/// # Errors
-/// `OutOfMemory` where memory is refused.
-fn kept_bytes<O: Offset>(
-    alloc: Global,
-    rows: &OffsetsBuffer<O>,
-    values: &[u8],
-    mask: &Bitmap,
-    total: usize,
-) -> Result<Vec<u8>, Error>
-    requires lengths { length rows.now ≡ length mask.now + 1 }
-    requires within { last_of rows.now ≤ length values.now }
-    ensures ok { IfOk result (λ bytes. bytes.items ≡ valid_values mask.now rows.now values.now 0) }
-    ensures err { IsOkUnless result Error.OutOfMemory }
-{
-    let mut bytes = Vec::with_capacity(alloc, total.saturating_add(BLOCK))?;
-    let len = mask.len();
-    let mut left = mask.runs(0, len);
-    let mut row = 0;
-    while row < len {
-        let (unset, count) = left.next_set();
-        row += unset;
-        let (first, end) = rows.range(row, count);
-        append_bytes(&mut bytes, values, first, end)?;
-        row += count;
-    }
-    Ok(bytes)
-}
-
-/// Appends the bytes from `first` up to `end`. No more than a block are copied as a block, where there are so many, and cut.
-///
-/// # Errors
-/// `OutOfMemory` where a growth is refused.
-#[inline(always)]
-fn append_bytes(bytes: &mut Vec<u8>, values: &[u8], first: usize, end: usize) -> Result<(), Error>
-    requires rises { first ≤ end }
-    requires within { end ≤ length values.now }
-    ensures ok { OnOk result (bytes.new.items ≡ bytes.old.items ++ sliced values.now first (end - first)) }
-    ensures err { IsOkUnless result Error.OutOfMemory }
-{
-    let count = end - first;
-    if count > BLOCK || values.len() - first < BLOCK {
-        bytes.extend_from_slice(&values[first..end])?;
-        return Ok(());
-    }
-    let len = bytes.len() + count;
-    bytes.extend_from_slice(&values[first..first + BLOCK])?;
-    bytes.truncate(len);
-    Ok(())
 }

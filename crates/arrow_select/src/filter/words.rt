@@ -4,6 +4,7 @@ ghost use Rattle.std.specs.Prelude.{◌≡◌, ◌+◌, ◌*◌, ◌^◌, ◌<�
 ghost use Rattle.std.specs.Vec.{vec_len, vec_capacity};
 ghost use Rattle.arrow_types.specs.declared.error.Error.{Error};
 ghost use Rattle.arrow_flat.specs.Parts.{FitsRows};
+ghost use Rattle.arrow_memory.specs.Sliced.{sliced};
 ghost use Rattle.arrow_memory.specs.Words.{low_bits, word_of};
 ghost use Rattle.arrow_select.specs.Selected.{at_set, set_in_word, word_bits, IsRunOf};
 
@@ -111,7 +112,7 @@ fn append_word<T: NativeType>(out: &mut Vec<T>, values: &[T], word: u64)
 }
 
 /// Appends the values at which the bits of a word are set, and answers the bits of another at which they are, moved together
-/// as by `gathered`: in one walk. Where all are set the values are copied in one.
+/// as by `gathered`: in one walk, or by a copy and a shift where they are a long run.
 #[inline(always)]
 fn append_both<T: NativeType>(out: &mut Vec<T>, values: &[T], bits: u64, word: u64) -> u64
     requires in_word { length values.now ≤ 64 }
@@ -122,11 +123,12 @@ fn append_both<T: NativeType>(out: &mut Vec<T>, values: &[T], bits: u64, word: u
     ensures capacity { vec_capacity out.old ≤ vec_capacity out.new }
     ensures bits { result ≡ word_of (set_in_word word (word_bits bits)) }
 {
-    if word == u64::MAX {
-        append_run(out, values);
-        bits
-    } else {
-        push_both(out, values, bits, word)
+    match long_run(word) {
+        Some((first, ones)) => {
+            append_run(out, &values[first..first + ones]);
+            run_of_bits(bits, first, ones)
+        }
+        None => push_both(out, values, bits, word),
     }
 }
 
@@ -347,9 +349,26 @@ fn append_set_bits(kept: &mut MutableBitmap, bits: &Bitmap, mask: &Bitmap) -> Re
 fn gathered(bits: u64, mask: u64) -> u64
     ensures { result ≡ word_of (set_in_word mask (word_bits bits)) }
 {
-    if mask == u64::MAX {
-        return bits;
+    match long_run(mask) {
+        Some((first, ones)) => run_of_bits(bits, first, ones),
+        None => gather_each(bits, mask),
     }
+}
+
+/// So many bits of a word from a place on, with zeros above.
+fn run_of_bits(bits: u64, first: usize, count: usize) -> u64
+    requires some { 0 < count }
+    requires within { first + count ≤ 64 }
+    ensures { result ≡ word_of (sliced (word_bits bits) first count) }
+{
+    low_word(bits >> first, count)
+}
+
+/// The same, bit by bit.
+#[inline(always)]
+fn gather_each(bits: u64, mask: u64) -> u64
+    ensures { result ≡ word_of (set_in_word mask (word_bits bits)) }
+{
     let mut kept = 0;
     let mut count = 0usize;
     let mut left = mask;

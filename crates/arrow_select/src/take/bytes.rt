@@ -1,7 +1,7 @@
-//! Texts and bytes by index: where the rows end first, and then the bytes, for which there is room.
+//! Texts and bytes by index: where the rows lie and end first, and then the bytes, for which there is room.
 
-ghost use Rattle.std.specs.Prelude.{◌≡◌, ℕ, ◌+◌, ◌-◌, ◌<◌, ◌≤◌, ◌∷◌, Err, length, map, slice_index, slice_index_or, option_copied, sum, IfOk, IfErr, OnOk, IsOkUnless};
-ghost use Rattle.std.specs.List.{concat, range_with_len};
+ghost use Rattle.std.specs.Prelude.{◌≡◌, ◌+◌, ◌-◌, ◌<◌, ◌≤◌, ◌∷◌, Err, length, map, slice_index_or, option_copied, sum, IfOk, IfErr, OnOk};
+ghost use Rattle.std.specs.List.{concat};
 ghost use Rattle.arrow_types.specs.declared.error.Error.{Error};
 ghost use Rattle.arrow_types.specs.Fits.{Fits};
 ghost use Rattle.arrow_types.specs.Rows.{gather, masked};
@@ -11,8 +11,9 @@ ghost use Rattle.arrow_memory.specs.Offsets.{last_of};
 ghost use Rattle.arrow_flat.specs.ByteRows.{byte_slots};
 ghost use Rattle.arrow_flat.specs.Parts.{FitsRows, MarksNulls, rows_by};
 ghost use Rattle.arrow_arrays.specs.KeyedParts.{AreKeys, key_in};
-ghost use Rattle.arrow_select.specs.Taken.{ends_from, row_bytes, row_length, span_length, span_of, span_start, taken_bytes};
+ghost use Rattle.arrow_select.specs.Taken.{ends_from, span_length, span_of, taken_bytes, taken_span};
 
+use crate::spans::copy_spans;
 use crate::take::indices::{index_at, is_valid, take_validity};
 use arrow_flat::array::{ByteKind, ByteRows, FlatArray, PrimitiveArray};
 use arrow_flat_growable::growable::GrowableKind;
@@ -71,11 +72,10 @@ fn take_rows<O: Offset, K: ByteKind, I: Index>(
 {
     // The rows lie in the values as the offsets say.
     let _ = values.offsets().len();
-    let (starts, offsets) = take_spans(alloc, values, indices)?;
+    let (spans, offsets) = take_spans(alloc, values, indices)?;
     let total = offsets.last().to_usize();
-    let offsets = offsets.into_buffer()?;
-    let bytes = copy_spans(alloc, values.values().as_slice(), &starts, &offsets, total)?;
-    Ok((offsets, bytes))
+    let bytes = copy_spans(alloc, values.values().as_slice(), &spans, total)?;
+    Ok((offsets.into_buffer()?, bytes))
 }
 
 /// Where the bytes of the row lie that index `row` names: nowhere where the index or that row is null. Both are read
@@ -109,7 +109,7 @@ fn span_at<O: Offset, I: Index>(
     }
 }
 
-/// Where the rows begin that the indices name, and their offsets by index.
+/// Where the bytes lie of the rows that the indices name, and their offsets by index.
 ///
 /// # Errors
 /// `Overflow` where they have too many bytes, `OutOfMemory` where memory is refused.
@@ -117,47 +117,21 @@ fn take_spans<O: Offset, K: ByteKind, I: Index>(
     alloc: Global,
     values: &FlatArray<ByteRows<O, K>>,
     indices: &PrimitiveArray<I>,
-) -> Result<(Vec<usize>, Offsets<O>), Error>
+) -> Result<(Vec<(usize, usize)>, Offsets<O>), Error>
     requires { AreKeys (length values.now.values.offsets - 1) (rows_by (map I.slot) indices.now) }
-    ensures starts { IfOk result (λ spans. spans.0.items ≡ map (span_start values.now.validity values.now.values.offsets) (rows_by (map I.slot) indices.now)) }
-    ensures offsets { IfOk result (λ spans. spans.1 ≡ 0 ∷ ends_from 0 (map (span_length values.now.validity values.now.values.offsets) (rows_by (map I.slot) indices.now))) }
+    ensures spans { IfOk result (λ taken. taken.0.items ≡ map (taken_span values.now.validity values.now.values.offsets) (rows_by (map I.slot) indices.now)) }
+    ensures offsets { IfOk result (λ taken. taken.1 ≡ 0 ∷ ends_from 0 (map (span_length values.now.validity values.now.values.offsets) (rows_by (map I.slot) indices.now))) }
     ensures overflow { result ≡ Err Error.Overflow → O.greatest < sum (map (span_length values.now.validity values.now.values.offsets) (rows_by (map I.slot) indices.now)) }
     ensures others { IfErr result IsGrowthError }
 {
     let (rows, validity) = (values.offsets(), values.validity());
     let (stored, nulls) = (indices.values().as_slice(), indices.validity());
-    let mut starts = Vec::with_capacity(alloc, stored.len())?;
+    let mut spans = Vec::with_capacity(alloc, stored.len())?;
     let mut offsets = Offsets::with_capacity(alloc, stored.len())?;
     for row in 0..stored.len() {
-        let (start, end) = span_at(rows, validity, stored, nulls, row);
-        starts.push_reserved(start);
-        offsets.try_push_usize(end - start)?;
+        let span = span_at(rows, validity, stored, nulls, row);
+        spans.push_reserved(span);
+        offsets.try_push_usize(span.1 - span.0)?;
     }
-    Ok((starts, offsets))
-}
-
-/// The bytes of rows that begin at these places, as long as the offsets say, one row behind the other. There is room for
-/// `total` from the first on.
-///
-/// # Errors
-/// `OutOfMemory` where memory is refused.
-fn copy_spans<O: Offset>(
-    alloc: Global,
-    from: &[u8],
-    starts: &[usize],
-    offsets: &OffsetsBuffer<O>,
-    total: usize,
-) -> Result<Vec<u8>, Error>
-    requires rows { length offsets.now ≡ length starts.now + 1 }
-    requires within { (row : ℕ) → row < length starts.now → slice_index starts.now row + row_length offsets.now row ≤ length from.now }
-    ensures ok { IfOk result (λ bytes. bytes.items ≡ concat (map (row_bytes from.now starts.now offsets.now) (range_with_len 0 (length starts.now)))) }
-    ensures err { IsOkUnless result Error.OutOfMemory }
-{
-    let mut bytes = Vec::with_capacity(alloc, total)?;
-    for row in 0..starts.len() {
-        let (begin, end) = offsets.start_end(row);
-        let start = starts[row];
-        bytes.extend_from_slice(&from[start..start + (end - begin)])?;
-    }
-    Ok(bytes)
+    Ok((spans, offsets))
 }

@@ -97,14 +97,14 @@ fn append_values<T: NativeType, I: Index>(
     let mut row = 0;
     while row < stored.len() {
         let count = WORD_BITS.min(stored.len() - row);
-        append_word(taken, values, stored, validity, row / WORD_BITS, count);
+        append_picked(taken, values, stored, validity, row / WORD_BITS, count);
         row += count;
     }
 }
 
 /// Appends the values that `count` indices from index `64 * j` on name. There is room for them, and no branch depends on a
 /// bit.
-fn append_word<T: NativeType, I: Index>(
+fn append_picked<T: NativeType, I: Index>(
     taken: &mut Vec<T>,
     values: &[T],
     stored: &[I],

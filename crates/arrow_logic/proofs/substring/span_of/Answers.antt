@@ -5,6 +5,7 @@ use Rattle.arrow_flat.specs.ByteRows.{byte_slots}
 use Rattle.arrow_flat.specs.Parts.{FitsRows}
 use Rattle.arrow_flat.proofs.PartsLemmas.{length-masked}
 use Rattle.arrow_flat.proofs.PieceLemmas.{length-byte_slots, length-pieces}
+use Rattle.arrow_logic.specs.Substring.{IsCutByBytes}
 use Rattle.arrow_logic.proofs.PartLemmas.{part_moved, part_of_null, part_of_row, row_read}
 use Rattle.arrow_logic.proofs.substring.span_of.Goals as goal
 
@@ -20,11 +21,17 @@ returns-then-not-is_valid-clause-part g c =
     let values = c.args.rows.now.values in
     part_of_null (g.K.Units.cut c.args.start c.args.count) c.args.rows.now.validity values.offsets values.bytes c.args.row c.requires.within c.requires.fits c.is_valid.result c.is_valid.ensures.bit c.if-not-is_valid.true
 
-pub span-first-requires : goal.span-first-requires
-span-first-requires g c =
+pub span_in-first-requires-clause-allowed : goal.span_in-first-requires-clause-allowed
+span_in-first-requires-clause-allowed g c =
     let values = c.args.rows.now.values in
     let row = row_read values.offsets c.offsets.result.now values.bytes c.as_slice.result.now c.args.row c.start_end-begin.result.0 c.start_end-begin.result.1 c.offsets.ensures (c.as_slice.ensures ∙ c.values.ensures.same) c.start_end-begin.ensures.start c.start_end-begin.ensures.end c.requires.within in
     subst g.K.ByteKind.Allows (sym row) (c.values.ensures.allowed c.args.row [] (omega (arith, length-pieces values.offsets values.bytes, c.requires.within)))
+
+pub span_in-first-requires-clause-by_bytes : goal.span_in-first-requires-clause-by_bytes
+span_in-first-requires-clause-by_bytes g c = λ told.
+    let values = c.args.rows.now.values in
+    let row = row_read values.offsets c.offsets.result.now values.bytes c.as_slice.result.now c.args.row c.start_end-begin.result.0 c.start_end-begin.result.1 c.offsets.ensures (c.as_slice.ensures ∙ c.values.ensures.same) c.start_end-begin.ensures.start c.start_end-begin.ensures.end c.requires.within in
+    subst (IsCutByBytes g.K.Units.cut) (sym row) (c.requires.by_bytes told c.args.row [] (omega (arith, length-pieces values.offsets values.bytes, c.requires.within)))
 
 pub returns-clause-part : goal.returns-clause-part
 returns-clause-part g c =
@@ -32,5 +39,5 @@ returns-clause-part g c =
     let row = row_read values.offsets c.offsets.result.now values.bytes c.as_slice.result.now c.args.row c.start_end-begin.result.0 c.start_end-begin.result.1 c.offsets.ensures (c.as_slice.ensures ∙ c.values.ensures.same) c.start_end-begin.ensures.start c.start_end-begin.ensures.end c.requires.within in
     let fits : SFits w64 c.args.start = search rules in
     let start : to_z w64 (of_z w64 c.args.start) ≡ c.args.start = to_z-of_z w64 c.args.start fits in
-    let moved = part_moved c.as_slice.result.now values.bytes c.start_end-begin.result.0 c.start_end-begin.result.1 c.span-first.result.0 c.span-first.result.1 (c.as_slice.ensures ∙ c.values.ensures.same) c.span-first.ensures.rises c.span-first.ensures.within in
-    moved ∙ part_of_row (g.K.Units.cut c.args.start c.args.count) c.args.rows.now.validity values.offsets values.bytes c.args.row c.requires.within c.requires.fits c.is_valid.result _ _ c.is_valid.ensures.bit c.if-not-is_valid.false row (c.span-first.ensures.part ∙ ap (λ z. g.K.Units.cut z c.args.count (sliced c.as_slice.result.now c.start_end-begin.result.0 (c.start_end-begin.result.1 - c.start_end-begin.result.0))) start)
+    let moved = part_moved c.as_slice.result.now values.bytes c.start_end-begin.result.0 c.start_end-begin.result.1 c.span_in-first.result.0 c.span_in-first.result.1 (c.as_slice.ensures ∙ c.values.ensures.same) c.span_in-first.ensures.rises c.span_in-first.ensures.within in
+    moved ∙ part_of_row (g.K.Units.cut c.args.start c.args.count) c.args.rows.now.validity values.offsets values.bytes c.args.row c.requires.within c.requires.fits c.is_valid.result _ _ c.is_valid.ensures.bit c.if-not-is_valid.false row (c.span_in-first.ensures.part ∙ ap (λ z. g.K.Units.cut z c.args.count (sliced c.as_slice.result.now c.start_end-begin.result.0 (c.start_end-begin.result.1 - c.start_end-begin.result.0))) start)

@@ -1,10 +1,19 @@
-use Rattle.std.proofs.Common.{◌∷◌, ap, map, subst, ◌∙◌}
-use Rattle.arrow_memory.specs.Offsets.{IsOffsets}
+use Rattle.std.proofs.Common.{◌≤◌, ◌∷◌, arith, ap, length, map, subst, sym, ◌∙◌}
+use Rattle.std.specs.List.{All}
+use Rattle.arrow_memory.specs.Offsets.{IsOffsets, last_of}
 use Rattle.arrow_flat_growable.specs.GrownRows.{valid_values}
 use Rattle.arrow_select.specs.Laws.{places_from}
+use Rattle.arrow_select.specs.Spans.{IsSpanWithin, spanned}
 use Rattle.arrow_select.specs.Taken.{ends_from, row_length}
 use Rattle.arrow_select.proofs.SetBytes.{kept_end, kept_pieces}
+use Rattle.arrow_select.proofs.SpanLemmas.{spans_fit}
 use Rattle.arrow_select.proofs.filter.bytes.kept_parts.Goals as goal
+
+pub copy_spans-requires : goal.copy_spans-requires
+copy_spans-requires g c =
+    let values = c.as_slice-values.result.now in
+    let within : last_of c.offsets-rows.result.now ≤ length values = omega (arith, c.values.ensures.within, ap last_of c.offsets-rows.ensures, ap length (c.as_slice-values.ensures ∙ c.values.ensures.same)) in
+    subst (All (IsSpanWithin (length values))) (sym c.deref.ensures.value) (spans_fit (last_of c.offsets-rows.result.now) (length values) c.in_ok-spans.spans.items within c.in_ok-spans.ensures.within)
 
 pub returns-clause-rows : goal.returns-clause-rows
 returns-clause-rows g c =
@@ -12,8 +21,9 @@ returns-clause-rows g c =
     let mask = c.args.mask.now in
     let sound = subst IsOffsets c.offsets-rows.ensures c.len.ensures.sound in
     let lent = c.as_slice-values.ensures ∙ c.values.ensures.same in
-    let ends = c.in_ok-into_buffer.ensures.ok ∙ (c.in_ok-ends.ensures.ok ∙ ap (λ os. 0 ∷ ends_from 0 (map (row_length os) (places_from 0 mask))) c.offsets-rows.ensures) in
-    let bytes = c.in_ok-bytes.ensures.ok ∙ (λ i. valid_values mask (c.offsets-rows.ensures i) (lent i) 0) in
+    let within : last_of c.offsets-rows.result.now ≤ length c.as_slice-values.result.now = omega (arith, c.values.ensures.within, ap last_of c.offsets-rows.ensures, ap length lent) in
+    let ends = c.in_ok-into_buffer.ensures.ok ∙ (c.in_ok-spans.ensures.ends ∙ ap (λ os. 0 ∷ ends_from 0 (map (row_length os) (places_from 0 mask))) c.offsets-rows.ensures) in
+    let bytes = c.in_ok-bytes.ensures.ok ∙ (ap (spanned c.as_slice-values.result.now) c.deref.ensures.value ∙ (c.in_ok-spans.ensures.bytes c.as_slice-values.result.now within ∙ (λ i. valid_values mask (c.offsets-rows.ensures i) (lent i) 0))) in
     kept_pieces p.offsets p.bytes sound c.values.ensures.within mask c.requires.lengths c.in_ok-into_buffer.field-0 c.in_ok-bytes.bytes.items ends bytes
 
 pub returns-clause-within : goal.returns-clause-within
@@ -22,6 +32,7 @@ returns-clause-within g c =
     let mask = c.args.mask.now in
     let sound = subst IsOffsets c.offsets-rows.ensures c.len.ensures.sound in
     let lent = c.as_slice-values.ensures ∙ c.values.ensures.same in
-    let ends = c.in_ok-into_buffer.ensures.ok ∙ (c.in_ok-ends.ensures.ok ∙ ap (λ os. 0 ∷ ends_from 0 (map (row_length os) (places_from 0 mask))) c.offsets-rows.ensures) in
-    let bytes = c.in_ok-bytes.ensures.ok ∙ (λ i. valid_values mask (c.offsets-rows.ensures i) (lent i) 0) in
+    let within : last_of c.offsets-rows.result.now ≤ length c.as_slice-values.result.now = omega (arith, c.values.ensures.within, ap last_of c.offsets-rows.ensures, ap length lent) in
+    let ends = c.in_ok-into_buffer.ensures.ok ∙ (c.in_ok-spans.ensures.ends ∙ ap (λ os. 0 ∷ ends_from 0 (map (row_length os) (places_from 0 mask))) c.offsets-rows.ensures) in
+    let bytes = c.in_ok-bytes.ensures.ok ∙ (ap (spanned c.as_slice-values.result.now) c.deref.ensures.value ∙ (c.in_ok-spans.ensures.bytes c.as_slice-values.result.now within ∙ (λ i. valid_values mask (c.offsets-rows.ensures i) (lent i) 0))) in
     kept_end p.offsets p.bytes sound c.values.ensures.within mask c.requires.lengths c.in_ok-into_buffer.field-0 c.in_ok-bytes.bytes.items ends bytes

@@ -1,12 +1,9 @@
-use Rattle.std.proofs.Common.{arith, ◌≡◌, ◌-◌, [], ◌∷◌, ◌++◌, length, refl, ap, sym, ◌∙◌}
-use Rattle.std.specs.Prelude.{bit_and}
+use Rattle.std.proofs.Common.{arith, ◌-◌, length, refl, w64}
 use Rattle.std.specs.Int.{trailing_zeros}
-use Rattle.std.proofs.Common.{w64}
-use Rattle.std.proofs.lemmas.List.{append-nil}
-use Rattle.std.proofs.lemmas.Nat.{and_le_l, and_le_r}
+use Rattle.std.specs.Vec.{vec_len, vec_capacity}
+use Rattle.std.proofs.lemmas.Nat.{and_le_r}
 use Rattle.std.proofs.lemmas.Option.{slice_get_read}
-use Rattle.arrow_select.specs.Selected.{set_in_word}
-use Rattle.arrow_select.proofs.SetLemmas.{lowest_first, lowest_within, set_in_zero, some_left, some_more}
+use Rattle.arrow_select.proofs.SetLemmas.{lowest_within, some_left, takes_all, takes_more, takes_room}
 use Rattle.arrow_select.proofs.filter.words.push_set.Goals as goal
 
 pub offset_bounds-values-left : goal.offset_bounds-values-left
@@ -23,11 +20,10 @@ push_reserved-requires g c =
     let xs = c.args.values.now in
     let some = some_left w c.loop-left-test.true in
     let small = c.loop-left.auto.left-fits.fits in
-    let i = c.loop-left.invariant in
+    let so_far = c.loop-left.invariant in
     let x = c.index-values-left.result in
-    let read = slice_get_read xs (length xs) (trailing_zeros w64 w) x refl (lowest_within w (length xs) some small i.below) c.index-values-left.is in
-    let first = lowest_first w xs x some small i.below read in
-    omega (arith, i.room, ap length first)
+    let read = slice_get_read xs (length xs) (trailing_zeros w64 w) x refl (lowest_within w (length xs) some small so_far.below) c.index-values-left.is in
+    takes_room c.args.word w xs c.args.out.now.items c.loop-left.out.items (vec_len c.args.out.now) (vec_capacity c.args.out.now) (vec_len c.loop-left.out) (vec_capacity c.loop-left.out) some small so_far x read
 
 pub loop-left-preserved : goal.loop-left-preserved
 loop-left-preserved g c =
@@ -35,18 +31,10 @@ loop-left-preserved g c =
     let xs = c.args.values.now in
     let some = some_left w c.loop-left-test.true in
     let small = c.loop-left.auto.left-fits.fits in
-    let i = c.loop-left.invariant in
+    let so_far = c.loop-left.invariant in
     let x = c.index-values-left.result in
-    let read = slice_get_read xs (length xs) (trailing_zeros w64 w) x refl (lowest_within w (length xs) some small i.below) c.index-values-left.is in
-    let first = lowest_first w xs x some small i.below read in
-    let pushed = c.push_reserved.ensures in
-    record {
-      below = omega (arith, i.below, and_le_l w (w - 1));
-      room = omega (arith, i.room, ap length first, pushed.len, pushed.capacity);
-      items = some_more c.args.out.now.items c.loop-left.out.items c.push_reserved.new.self.items (set_in_word w xs) (x ∷ []) (set_in_word (bit_and w (w - 1)) xs) (set_in_word c.args.word xs) first pushed.items i.items;
-      len = omega (arith, i.len, ap length first, pushed.len);
-      capacity = pushed.capacity ∙ i.capacity;
-    }
+    let read = slice_get_read xs (length xs) (trailing_zeros w64 w) x refl (lowest_within w (length xs) some small so_far.below) c.index-values-left.is in
+    takes_more c.args.word w xs c.args.out.now.items c.loop-left.out.items (vec_len c.args.out.now) (vec_capacity c.args.out.now) (vec_len c.loop-left.out) (vec_capacity c.loop-left.out) some small so_far x read c.push_reserved.new.self.items (vec_len c.push_reserved.new.self) (vec_capacity c.push_reserved.new.self) c.push_reserved.ensures.items c.push_reserved.ensures.len c.push_reserved.ensures.capacity
 
 pub loop-left-smaller : goal.loop-left-smaller
 loop-left-smaller g c =
@@ -54,13 +42,11 @@ loop-left-smaller g c =
 
 pub returns-clause-items : goal.returns-clause-items
 returns-clause-items g c =
-    let xs = c.args.values.now in
-    let i = c.loop-left.invariant in
-    let none : set_in_word c.loop-left.left xs ≡ [] = ap (λ w. set_in_word w xs) c.loop-left-test.false ∙ set_in_zero xs in
-    sym (append-nil c.loop-left.out.items) ∙ (ap (λ ys. c.loop-left.out.items ++ ys) (sym none) ∙ i.items)
+    (takes_all c.args.word c.loop-left.left c.args.values.now c.args.out.now.items c.loop-left.out.items (vec_len c.args.out.now) (vec_capacity c.args.out.now) (vec_len c.loop-left.out) (vec_capacity c.loop-left.out) c.loop-left-test.false c.loop-left.invariant).0
 
 pub returns-clause-len : goal.returns-clause-len
 returns-clause-len g c =
-    let xs = c.args.values.now in
-    let none : set_in_word c.loop-left.left xs ≡ [] = ap (λ w. set_in_word w xs) c.loop-left-test.false ∙ set_in_zero xs in
-    omega (arith, c.loop-left.invariant.len, ap length none)
+    (takes_all c.args.word c.loop-left.left c.args.values.now c.args.out.now.items c.loop-left.out.items (vec_len c.args.out.now) (vec_capacity c.args.out.now) (vec_len c.loop-left.out) (vec_capacity c.loop-left.out) c.loop-left-test.false c.loop-left.invariant).1
+
+pub returns-clause-capacity : goal.returns-clause-capacity
+returns-clause-capacity g c = omega (arith, c.loop-left.invariant.same)

@@ -1,17 +1,10 @@
-use Rattle.std.proofs.Common.{◌≡◌, ◌+◌, ◌^◌, ◌<◌, ◌≤◌, ◌++◌, length}
 use Rattle.std.specs.Vec.{vec_len, vec_capacity}
-use Rattle.arrow_select.specs.Selected.{set_in_word}
+use Rattle.arrow_select.proofs.SetLemmas.{TakesUpTo}
 use Rattle.arrow_select.proofs.filter.words.push_set.Given as goal
 
--- there is room for the values that are left, and those so far, with these, are all
 abbrev pub invariant-loop-left : goal.invariant-loop-left
-invariant-loop-left g l = record {
-  below : l.left < 2 ^ length l.values;
-  room : vec_len l.out + length (set_in_word l.left l.values) ≤ vec_capacity l.out;
-  items : l.out.items ++ set_in_word l.left l.values ≡ l.initial.out.items ++ set_in_word l.word l.values;
-  len : vec_len l.out + length (set_in_word l.left l.values) ≡ vec_len l.initial.out + length (set_in_word l.word l.values);
-  capacity : vec_capacity l.out ≡ vec_capacity l.initial.out;
-}
+invariant-loop-left g l =
+    TakesUpTo l.word l.left l.values l.initial.out.items l.out.items (vec_len l.initial.out) (vec_capacity l.initial.out) (vec_len l.out) (vec_capacity l.out)
 
 -- the bits that are left
 abbrev pub decreases-loop-left : goal.decreases-loop-left

@@ -6,13 +6,13 @@ use Rattle.arrow_flat.specs.Parts.{rows_by}
 use Rattle.arrow_flat.proofs.PartsLemmas.{length-masked}
 use Rattle.arrow_flat_growable.proofs.ResultLemmas.{passed_on}
 use Rattle.arrow_arrays.specs.KeyedParts.{key_in}
-use Rattle.arrow_select.specs.Taken.{ends_from, span_length, span_of, span_start}
+use Rattle.arrow_select.specs.Taken.{ends_from, span_length, span_of, taken_span}
 use Rattle.arrow_select.proofs.IndexLemmas.{gives_all, gives_next}
 use Rattle.arrow_select.proofs.TakenBytes.{offsets_next, passes_all, rows_fit}
 use Rattle.arrow_select.proofs.take.bytes.take_spans.Goals as goal
 
-pub span_at-start-requires-clause-fits : goal.span_at-start-requires-clause-fits
-span_at-start-requires-clause-fits g c =
+pub span_at-span-requires-clause-fits : goal.span_at-span-requires-clause-fits
+span_at-span-requires-clause-fits g c =
     rows_fit g.K.ByteKind.slot c.args.values.now.validity _ c.args.values.now.values.offsets _ c.args.values.now.values.bytes c.validity-validity.ensures.same c.offsets-rows.ensures c.validity-validity.ensures.fits
 
 pub returns-in_err-try_push_usize-clause-overflow : goal.returns-in_err-try_push_usize-clause-overflow
@@ -24,7 +24,7 @@ returns-in_err-try_push_usize-clause-overflow g c overflows =
     let lent = c.as_slice-stored.ensures ∙ c.values.ensures in
     let long = length-masked c.args.indices.now.validity (map slot c.args.indices.now.values) c.validity-nulls.ensures.fits ∙ (length-map c.args.indices.now.values slot ∙ sym (ap length lent)) in
     let within : c.loop-row.row < length rows = omega (arith, long, c.loop-row-test.true) in
-    let span : c.span_at-start.result ≡ span_of v os (key_in (get_or rows c.loop-row.row Null)) = c.span_at-start.ensures.span ∙ (λ i. span_of (c.validity-validity.ensures.same i) (c.offsets-rows.ensures i) (key_in (get_or (masked (c.validity-nulls.ensures.same i) (map slot (lent i))) c.loop-row.row Null))) in
+    let span : c.span_at-span.result ≡ span_of v os (key_in (get_or rows c.loop-row.row Null)) = c.span_at-span.ensures.span ∙ (λ i. span_of (c.validity-validity.ensures.same i) (c.offsets-rows.ensures i) (key_in (get_or (masked (c.validity-nulls.ensures.same i) (map slot (lent i))) c.loop-row.row Null))) in
     let over = c.in_err-try_push_usize.ensures.overflow.0 (ap Err (passed_on c.from_residual-in_err-try_push_usize.result _ _ c.from_residual-in_err-try_push_usize.ensures.1 overflows)) in
     passes_all (span_length v os) rows c.loop-row.row _ g.O.Index.greatest c.loop-row.offsets within (ap (λ s. s.1 - s.0) span) c.loop-row.invariant.offsets over
 
@@ -37,23 +37,23 @@ loop-row-preserved g c =
     let lent = c.as_slice-stored.ensures ∙ c.values.ensures in
     let long = length-masked c.args.indices.now.validity (map slot c.args.indices.now.values) c.validity-nulls.ensures.fits ∙ (length-map c.args.indices.now.values slot ∙ sym (ap length lent)) in
     let within : c.loop-row.row < length rows = omega (arith, long, c.loop-row-test.true) in
-    let span : c.span_at-start.result ≡ span_of v os (key_in (get_or rows c.loop-row.row Null)) = c.span_at-start.ensures.span ∙ (λ i. span_of (c.validity-validity.ensures.same i) (c.offsets-rows.ensures i) (key_in (get_or (masked (c.validity-nulls.ensures.same i) (map slot (lent i))) c.loop-row.row Null))) in
+    let span : c.span_at-span.result ≡ span_of v os (key_in (get_or rows c.loop-row.row Null)) = c.span_at-span.ensures.span ∙ (λ i. span_of (c.validity-validity.ensures.same i) (c.offsets-rows.ensures i) (key_in (get_or (masked (c.validity-nulls.ensures.same i) (map slot (lent i))) c.loop-row.row Null))) in
     record {
-      starts = c.push_reserved.ensures.items ∙ gives_next (span_start v os) [] c.loop-row.starts.items rows c.loop-row.row c.span_at-start.result.0 within (ap (λ s. s.0) span) c.loop-row.invariant.starts;
+      spans = c.push_reserved.ensures.items ∙ gives_next (taken_span v os) [] c.loop-row.spans.items rows c.loop-row.row c.span_at-span.result within span c.loop-row.invariant.spans;
       len = omega (arith, c.push_reserved.ensures.len, c.loop-row.invariant.len);
       capacity = c.push_reserved.ensures.capacity ∙ c.loop-row.invariant.capacity;
       offsets = offsets_next (span_length v os) rows c.loop-row.row _ c.loop-row.offsets _ within (ap (λ s. s.1 - s.0) span) c.loop-row.invariant.offsets c.in_ok-try_push_usize.ensures.ok;
     }
 
-pub returns-clause-starts : goal.returns-clause-starts
-returns-clause-starts g c =
+pub returns-clause-spans : goal.returns-clause-spans
+returns-clause-spans g c =
     let v = c.args.values.now.validity in
     let os = c.args.values.now.values.offsets in
     let slot = g.I.NativeType.slot in
     let rows = rows_by (map slot) c.args.indices.now in
     let lent = c.as_slice-stored.ensures ∙ c.values.ensures in
     let long = length-masked c.args.indices.now.validity (map slot c.args.indices.now.values) c.validity-nulls.ensures.fits ∙ (length-map c.args.indices.now.values slot ∙ sym (ap length lent)) in
-    gives_all (span_start v os) [] c.loop-row.starts.items rows c.loop-row.row (omega (arith, long, c.loop-row-test.false)) c.loop-row.invariant.starts
+    gives_all (taken_span v os) [] c.loop-row.spans.items rows c.loop-row.row (omega (arith, long, c.loop-row-test.false)) c.loop-row.invariant.spans
 
 pub returns-clause-offsets : goal.returns-clause-offsets
 returns-clause-offsets g c =

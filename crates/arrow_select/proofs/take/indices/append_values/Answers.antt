@@ -16,9 +16,9 @@ loop-row-preserved g c =
     record {
       within = omega (arith, c.min-count.ensures, c.loop-row.invariant.within);
       aligned = λ left. omega (arith, c.min-count.ensures, aligned, left);
-      items = gives_more value c.args.taken.now.items c.loop-row.taken.items c.append_word.new.taken.items rows row (64 * (row / 64)) count here c.append_word.ensures.items c.loop-row.invariant.items;
-      len = omega (arith, c.append_word.ensures.len, c.loop-row.invariant.len);
-      capacity = c.append_word.ensures.capacity ∙ c.loop-row.invariant.capacity;
+      items = gives_more value c.args.taken.now.items c.loop-row.taken.items c.append_picked.new.taken.items rows row (64 * (row / 64)) count here c.append_picked.ensures.items c.loop-row.invariant.items;
+      len = omega (arith, c.append_picked.ensures.len, c.loop-row.invariant.len);
+      capacity = c.append_picked.ensures.capacity ∙ c.loop-row.invariant.capacity;
     }
 
 pub returns : goal.returns
