@@ -8,7 +8,7 @@ use arrow_arrays_fixture::arrays::boxed;
 use arrow_flat::array::{AnyElement, BooleanArray, PrimitiveArray};
 use arrow_flat::scalar::{AnyPrimitiveScalar, AnyScalar, PrimitiveScalar};
 use arrow_flat_fixture::arrays::truths;
-use arrow_memory::bitmap::MutableBitmap;
+use arrow_memory::bitmap::{Bitmap, MutableBitmap};
 use arrow_memory::buffer::Buffer;
 use arrow_types::datatypes::DataType;
 use arrow_types::error::Error;
@@ -38,6 +38,63 @@ fn value_of<T: AnyElement>(values: &[T; 3], letter: u8) -> T {
     }
 }
 
+/// So many of these letters over and over, behind others.
+fn repeated(alloc: Global, letters: &[u8], len: usize, before: usize) -> Result<Vec<u8>, Error> {
+    let mut all = Vec::new(alloc);
+    for _ in 0..before {
+        all.push(b'2')?;
+    }
+    for letter in letters.iter().cycle().take(len) {
+        all.push(*letter)?;
+    }
+    Ok(all)
+}
+
+/// What is stored of these letters.
+fn stored_of<T: AnyElement>(
+    alloc: Global,
+    values: &[T; 3],
+    letters: &[u8],
+) -> Result<Vec<T>, Error> {
+    let mut stored = Vec::new(alloc);
+    for letter in letters {
+        stored.push(value_of(values, *letter))?;
+    }
+    Ok(stored)
+}
+
+/// Which of them are no nulls.
+fn bits_of(alloc: Global, letters: &[u8]) -> Result<Bitmap, Error> {
+    let mut bits = MutableBitmap::new(alloc);
+    for letter in letters {
+        bits.push(letter.is_ascii_digit())?;
+    }
+    bits.into_bitmap()
+}
+
+/// An array of a type by its words.
+fn array_of<T: AnyElement>(
+    alloc: Global,
+    words: &str,
+    stored: Vec<T>,
+    validity: Bitmap,
+) -> Result<Box<AnyArray>, Error> {
+    let stored = Buffer::from_vec(alloc, stored)?;
+    let array = PrimitiveArray::try_new(read(alloc, words)?, stored, Some(validity))?;
+    boxed(alloc, AnyArray::Primitive(T::to_any(&array)?))
+}
+
+/// The rows from one on, or `Failed` where there is none such.
+fn from_row(array: Box<AnyArray>, start: usize) -> Result<Box<AnyArray>, Error> {
+    let mut array = array;
+    let len = array.len();
+    if len < start {
+        return Err(Error::Failed);
+    }
+    array.slice(start, len - start);
+    Ok(array)
+}
+
 /// So many rows of these letters over and over, in an array of a type by its words. Rows stand before them that are sliced
 /// off.
 fn rows_of<T: AnyElement>(
@@ -48,26 +105,10 @@ fn rows_of<T: AnyElement>(
     len: usize,
     before: usize,
 ) -> Result<Box<AnyArray>, Error> {
-    let mut stored = Vec::new(alloc);
-    let mut validity = MutableBitmap::new(alloc);
-    for letter in b"2"
-        .iter()
-        .cycle()
-        .take(before)
-        .chain(letters.iter().cycle().take(len))
-    {
-        stored.push(value_of(values, *letter))?;
-        validity.push(letter.is_ascii_digit())?;
-    }
-    let (stored, validity) = (Buffer::from_vec(alloc, stored)?, validity.into_bitmap()?);
-    let array = PrimitiveArray::try_new(read(alloc, words)?, stored, Some(validity))?;
-    let mut array = boxed(alloc, AnyArray::Primitive(T::to_any(&array)?))?;
-    if array.len() < before {
-        return Err(Error::Failed);
-    }
-    let len = array.len() - before;
-    array.slice(before, len);
-    Ok(array)
+    let letters = repeated(alloc, letters, len, before)?;
+    let stored = stored_of(alloc, values, &letters)?;
+    let validity = bits_of(alloc, &letters)?;
+    from_row(array_of(alloc, words, stored, validity)?, before)
 }
 
 /// What a relation answers of two letters: whether it holds, and `None` for a null.
@@ -188,8 +229,9 @@ fn relate_value<T: AnyScalarElement>(
     lhs: &AnyArray,
     value: Option<T>,
 ) -> Result<BooleanArray, Error> {
-    let scalar = T::scalar(lhs.data_type().clone()?, value)?;
-    relate_scalar(alloc, asked, lhs, &AnyScalar::Primitive(scalar))
+    let scalar = AnyScalar::Primitive(T::scalar(lhs.data_type().clone()?, value)?);
+    let scalar = Box::new(alloc, scalar)?;
+    relate_scalar(alloc, asked, lhs, &scalar)
 }
 
 /// Relations of so many left rows and the scalar of a letter.
@@ -221,14 +263,26 @@ fn check_element<T: AnyScalarElement>(
     for len in &LENGTHS {
         let lhs = made!(rt; rows_of(rt.alloc(), words, values, LEFT, *len, 3));
         let rhs = made!(rt; rows_of(rt.alloc(), words, values, RIGHT, *len, 70));
-        for asked in relations {
-            let made = made!(rt; relate(rt.alloc(), *asked, &lhs, &rhs));
-            let want = made!(rt; answers(rt.alloc(), *asked, RIGHT, *len));
-            check!(rt; made == want, words);
-        }
+        check_arrays(rt, words, &lhs, &rhs, *len, relations);
         for letter in &SCALARS {
             check_scalar(rt, &lhs, values, *letter, relations);
         }
+    }
+}
+
+/// Relations of so many left rows and right ones.
+fn check_arrays(
+    rt: &(impl Abort + Alloc<A = Global>),
+    words: &str,
+    lhs: &AnyArray,
+    rhs: &AnyArray,
+    len: usize,
+    relations: &[Asked],
+) {
+    for asked in relations {
+        let made = made!(rt; relate(rt.alloc(), *asked, lhs, rhs));
+        let want = made!(rt; answers(rt.alloc(), *asked, RIGHT, len));
+        check!(rt; made == want, words);
     }
 }
 

@@ -15,27 +15,50 @@ use arrow_types_fixture::{check, made};
 use std::alloc::Global;
 use std::process::Abort;
 
-/// Numbers of 64 bits by words.
-fn numbers_of(alloc: Global, words: &str) -> Result<PrimitiveArray<i64>, Error> {
-    let (mut values, mut validity) = (Vec::new(alloc), MutableBitmap::new(alloc));
+/// The number of a word, behind others.
+fn push_word(word: &str, values: &mut Vec<i64>, validity: &mut MutableBitmap) -> Result<(), Error> {
+    let stored = word.strip_prefix('_').unwrap_or(word);
+    values.push(stored.parse().unwrap_or(0i64))?;
+    validity.push(stored.len() == word.len())?;
+    Ok(())
+}
+
+/// The numbers of words, and how many stand before a bar.
+fn push_words(
+    words: &str,
+    values: &mut Vec<i64>,
+    validity: &mut MutableBitmap,
+) -> Result<usize, Error> {
     let mut before = 0;
     for word in words.split_whitespace() {
         if word == "|" {
             before = values.len();
             continue;
         }
-        let stored = word.strip_prefix('_').unwrap_or(word);
-        values.push(stored.parse().unwrap_or(0i64))?;
-        validity.push(stored.len() == word.len())?;
+        push_word(word, values, validity)?;
     }
-    let (values, validity) = (Buffer::from_vec(alloc, values)?, validity.into_bitmap()?);
-    let mut array = PrimitiveArray::try_new(DataType::Int64, values, Some(validity))?;
-    if array.len() < before {
+    Ok(before)
+}
+
+/// The rows from one on, or `Failed` where there is none such.
+fn from_row(array: PrimitiveArray<i64>, start: usize) -> Result<PrimitiveArray<i64>, Error> {
+    let len = array.len();
+    if len < start {
         return Err(Error::Failed);
     }
-    let len = array.len() - before;
-    array.slice(before, len);
-    Ok(array)
+    Ok(array.sliced(start, len - start))
+}
+
+/// Numbers of 64 bits by words.
+fn numbers_of(alloc: Global, words: &str) -> Result<PrimitiveArray<i64>, Error> {
+    let mut values = Vec::new(alloc);
+    let mut validity = MutableBitmap::new(alloc);
+    let before = push_words(words, &mut values, &mut validity)?;
+    let (values, validity) = (Buffer::from_vec(alloc, values)?, validity.into_bitmap()?);
+    from_row(
+        PrimitiveArray::try_new(DataType::Int64, values, Some(validity))?,
+        before,
+    )
 }
 
 fn boxed_numbers(alloc: Global, array: &PrimitiveArray<i64>) -> Result<Box<AnyArray>, Error> {
@@ -121,6 +144,7 @@ fn relate_any_number(
     let lhs = boxed_numbers(alloc, lhs)?;
     let scalar = PrimitiveScalar::try_new(DataType::Int64, Some(number))?;
     let scalar = AnyScalar::Primitive(AnyPrimitiveScalar::Int64(scalar));
+    let scalar = Box::new(alloc, scalar)?;
     relate_scalar(alloc, asked, &lhs, &scalar)
 }
 
@@ -142,12 +166,7 @@ fn rising(alloc: Global, first: i64) -> Result<PrimitiveArray<i64>, Error> {
         values.push(first.saturating_add(number))?;
     }
     let values = Buffer::from_vec(alloc, values)?;
-    let mut array = PrimitiveArray::try_new(DataType::Int64, values, None)?;
-    if array.len() < 100 {
-        return Err(Error::Failed);
-    }
-    array.slice(50, 50);
-    Ok(array)
+    from_row(PrimitiveArray::try_new(DataType::Int64, values, None)?, 50)
 }
 
 /// An array of Int8 of one number.

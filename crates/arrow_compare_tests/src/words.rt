@@ -16,33 +16,66 @@ use arrow_types_fixture::{check, made};
 use std::alloc::Global;
 use std::process::Abort;
 
-/// Rows by words that are parted by commas. Those before a bar are sliced off.
-fn rows_of<O: Offset, K: ByteKind>(
-    alloc: Global,
+/// The row of a word, behind others.
+fn push_word<O: Offset>(
+    word: &str,
+    offsets: &mut Offsets<O>,
+    bytes: &mut Vec<u8>,
+    validity: &mut MutableBitmap,
+) -> Result<(), Error> {
+    let stored = word.strip_prefix('_').unwrap_or(word);
+    offsets.try_push_usize(stored.len())?;
+    bytes.extend_from_slice(stored.as_bytes())?;
+    validity.push(stored.len() == word.len())?;
+    Ok(())
+}
+
+/// The rows of words that are parted by commas, and how many stand before a bar.
+fn push_words<O: Offset>(
     words: &str,
-) -> Result<FlatArray<ByteRows<O, K>>, Error> {
-    let (mut offsets, mut bytes) = (Offsets::with_capacity(alloc, 0)?, Vec::new(alloc));
-    let mut validity = MutableBitmap::new(alloc);
+    offsets: &mut Offsets<O>,
+    bytes: &mut Vec<u8>,
+    validity: &mut MutableBitmap,
+) -> Result<usize, Error> {
     let mut before = 0;
     for word in words.split(',') {
         if word == "|" {
             before = validity.len();
             continue;
         }
-        let stored = word.strip_prefix('_').unwrap_or(word);
-        offsets.try_push_usize(stored.len())?;
-        bytes.extend_from_slice(stored.as_bytes())?;
-        validity.push(stored.len() == word.len())?;
+        push_word(word, offsets, bytes, validity)?;
     }
-    let (offsets, bytes) = (offsets.into_buffer()?, Buffer::from_vec(alloc, bytes)?);
-    let (data_type, validity) = (K::data_type(O::IS_LARGE), Some(validity.into_bitmap()?));
-    let mut rows = FlatArray::<ByteRows<O, K>>::try_new(data_type, offsets, bytes, validity)?;
-    if rows.len() < before {
+    Ok(before)
+}
+
+/// The rows from one on, or `Failed` where there is none such.
+fn from_row<O: Offset, K: ByteKind>(
+    rows: FlatArray<ByteRows<O, K>>,
+    start: usize,
+) -> Result<FlatArray<ByteRows<O, K>>, Error> {
+    let len = rows.len();
+    if len < start {
         return Err(Error::Failed);
     }
-    let len = rows.len() - before;
-    rows.slice(before, len);
-    Ok(rows)
+    Ok(rows.sliced(start, len - start))
+}
+
+/// Rows by such words. Those before a bar are sliced off.
+fn rows_of<O: Offset, K: ByteKind>(
+    alloc: Global,
+    words: &str,
+) -> Result<FlatArray<ByteRows<O, K>>, Error> {
+    let mut offsets = Offsets::with_capacity(alloc, 0)?;
+    let mut bytes = Vec::new(alloc);
+    let mut validity = MutableBitmap::new(alloc);
+    let before = push_words(words, &mut offsets, &mut bytes, &mut validity)?;
+    let (offsets, bytes) = (offsets.into_buffer()?, Buffer::from_vec(alloc, bytes)?);
+    let validity = Some(validity.into_bitmap()?);
+    let data_type = K::data_type(O::IS_LARGE);
+    from_row(
+        FlatArray::<ByteRows<O, K>>::try_new(data_type, offsets, bytes, validity)?,
+        before,
+    )
 }
 
 const ARROWS: &str = "arrow,arrow,arrow,arrow";
@@ -133,15 +166,11 @@ const FORMS: [Form; 4] = [Form::Utf8, Form::LargeUtf8, Form::Binary, Form::Large
 
 /// An array of any type, of such a form.
 fn array_of(alloc: Global, form: Form, words: &str) -> Result<Box<AnyArray>, Error> {
-    boxed(alloc, any_of(alloc, form, words)?)
-}
-
-fn any_of(alloc: Global, form: Form, words: &str) -> Result<AnyArray, Error> {
     match form {
-        Form::Utf8 => Ok(AnyArray::Utf8(rows_of(alloc, words)?)),
-        Form::LargeUtf8 => Ok(AnyArray::LargeUtf8(rows_of(alloc, words)?)),
-        Form::Binary => Ok(AnyArray::Binary(rows_of(alloc, words)?)),
-        Form::LargeBinary => Ok(AnyArray::LargeBinary(rows_of(alloc, words)?)),
+        Form::Utf8 => boxed(alloc, AnyArray::Utf8(rows_of(alloc, words)?)),
+        Form::LargeUtf8 => boxed(alloc, AnyArray::LargeUtf8(rows_of(alloc, words)?)),
+        Form::Binary => boxed(alloc, AnyArray::Binary(rows_of(alloc, words)?)),
+        Form::LargeBinary => boxed(alloc, AnyArray::LargeBinary(rows_of(alloc, words)?)),
     }
 }
 
@@ -165,7 +194,7 @@ fn relate_any_text(
     form: Form,
     text: &str,
 ) -> Result<BooleanArray, Error> {
-    let scalar = scalar_of(alloc, form, text)?;
+    let scalar = Box::new(alloc, scalar_of(alloc, form, text)?)?;
     relate_scalar(alloc, asked, lhs, &scalar)
 }
 

@@ -28,15 +28,21 @@ fn number_of(letter: u8) -> i32 {
 /// An array of these values, null where its mark is no t; without a validity where there is no mark.
 fn array_of<T: NativeType>(
     alloc: Global,
-    data_type: DataType,
+    data_type: &DataType,
     values: &[T],
     marks: &[u8],
 ) -> Result<PrimitiveArray<T>, Error> {
     let values = Buffer::from_vec(alloc, Vec::from_slice(alloc, values)?)?;
+    let validity = validity_of(alloc, marks)?;
+    PrimitiveArray::try_new(data_type.clone()?, values, validity)
+}
+
+/// The validity of such marks, if there are some.
+fn validity_of(alloc: Global, marks: &[u8]) -> Result<Option<Bitmap>, Error> {
     if marks.is_empty() {
-        return PrimitiveArray::try_new(data_type, values, None);
+        return Ok(None);
     }
-    PrimitiveArray::try_new(data_type, values, Some(bits_of(alloc, marks)?))
+    Ok(Some(bits_of(alloc, marks)?))
 }
 
 /// A bit for each letter, set at a t.
@@ -66,7 +72,7 @@ fn numbers_of(
     if !is_some_null {
         marks.clear();
     }
-    array_of(alloc, data_type.clone()?, &values, &marks)
+    array_of(alloc, data_type, &values, &marks)
 }
 
 pub fn ints(alloc: Global, letters: &[u8]) -> Result<PrimitiveArray<i32>, Error> {
@@ -113,12 +119,16 @@ const QUOTIENTS: [(&[u8], &[u8]); 5] = [
     (b"", b""),
 ];
 
+/// The quotients of ten by the rows, null where there is none.
+fn quotients(alloc: Global, array: &PrimitiveArray<i32>) -> Result<PrimitiveArray<i32>, Error> {
+    unary_checked(alloc, array, |x: i32| 10i32.checked_div(x), DataType::Int32)
+}
+
 fn check_quotients(rt: &(impl Abort + Alloc<A = Global>)) {
     for (letters, want) in &QUOTIENTS {
         let array = made!(rt; ints(rt.alloc(), letters));
         let want = made!(rt; ints(rt.alloc(), want));
-        let made =
-            made!(rt; unary_checked(rt.alloc(), &array, |x: i32| 10i32.checked_div(x), DataType::Int32));
+        let made = made!(rt; quotients(rt.alloc(), &array));
         check_rows(rt, &made, &want, letters);
     }
 }
@@ -133,13 +143,22 @@ const SUMS: [(&[u8], &[u8], &[u8]); 6] = [
     (b"", b"", b""),
 ];
 
+/// Twice the left rows and the right ones.
+fn sums(
+    rt: &(impl Abort + Alloc<A = Global>),
+    lhs: &PrimitiveArray<i32>,
+    rhs: &PrimitiveArray<i32>,
+) -> Result<PrimitiveArray<i32>, Error> {
+    check!(rt; lhs.len() == rhs.len());
+    binary(rt.alloc(), lhs, rhs, DataType::Int32, twice_and)
+}
+
 fn check_sums(rt: &(impl Abort + Alloc<A = Global>)) {
     for (left, right, want) in &SUMS {
         let lhs = made!(rt; ints(rt.alloc(), left));
         let rhs = made!(rt; ints(rt.alloc(), right));
         let want = made!(rt; ints(rt.alloc(), want));
-        check!(rt; lhs.len() == rhs.len());
-        let made = made!(rt; binary(rt.alloc(), &lhs, &rhs, DataType::Int32, twice_and));
+        let made = made!(rt; sums(rt, &lhs, &rhs));
         check_rows(rt, &made, &want, left);
     }
 }
@@ -162,11 +181,15 @@ const REFUSED: [(&[u8], Error); 5] = [
     (b"0", CALLER),
 ];
 
+/// The rows, if each of them is accepted.
+fn accepted_rows(alloc: Global, array: &PrimitiveArray<i32>) -> Result<PrimitiveArray<i32>, Error> {
+    try_unary(alloc, array, accepted, DataType::Int32)
+}
+
 fn check_refused(rt: &(impl Abort + Alloc<A = Global>)) {
     for (letters, want) in &REFUSED {
         let array = made!(rt; ints(rt.alloc(), letters));
-        let refusal =
-            made!(rt; refusal_of(try_unary(rt.alloc(), &array, accepted, DataType::Int32)));
+        let refusal = made!(rt; refusal_of(accepted_rows(rt.alloc(), &array)));
         check!(rt; refusal == *want, *letters);
     }
 }
@@ -181,12 +204,26 @@ const REFUSED_PAIRS: [(&[u8], &[u8], Error); 6] = [
     (b"ab", b"a9", CALLER),
 ];
 
+/// The right rows, if each of them is accepted.
+fn accepted_right(
+    alloc: Global,
+    lhs: &PrimitiveArray<i32>,
+    rhs: &PrimitiveArray<i32>,
+) -> Result<PrimitiveArray<i32>, Error> {
+    try_binary(
+        alloc,
+        lhs,
+        rhs,
+        DataType::Int32,
+        |_x: i32, y: i32| accepted(y),
+    )
+}
+
 fn check_refused_pairs(rt: &(impl Abort + Alloc<A = Global>)) {
     for (left, right, want) in &REFUSED_PAIRS {
         let lhs = made!(rt; ints(rt.alloc(), left));
         let rhs = made!(rt; ints(rt.alloc(), right));
-        let refusal =
-            made!(rt; refusal_of(try_binary(rt.alloc(), &lhs, &rhs, DataType::Int32, |_x: i32, y: i32| accepted(y))));
+        let refusal = made!(rt; refusal_of(accepted_right(rt.alloc(), &lhs, &rhs)));
         check!(rt; refusal == *want, *left);
     }
 }
@@ -235,59 +272,157 @@ const LEFT: &[u8; 7] = b"1b0a253";
 
 const RIGHT: &[u8; 7] = b"2a3b10c";
 
+/// What is made has seven rows over and over, from one on.
+fn check_repeated(
+    rt: &(impl Abort + Alloc<A = Global>),
+    made: &PrimitiveArray<i32>,
+    data_type: &DataType,
+    pattern: &[u8; 7],
+    rows: (usize, usize),
+    case: &[u8],
+) {
+    let want = rows_from(rt, data_type, pattern, rows.0, rows.1);
+    check_rows(rt, made, &want, case);
+}
+
+/// One more than each row, as dates.
+fn one_more(alloc: Global, array: &PrimitiveArray<i32>) -> Result<PrimitiveArray<i32>, Error> {
+    unary(alloc, array, |x: i32| x.wrapping_add(1), DataType::Date32)
+}
+
+/// The same by the call that may refuse.
+fn try_one_more(alloc: Global, array: &PrimitiveArray<i32>) -> Result<PrimitiveArray<i32>, Error> {
+    try_unary(
+        alloc,
+        array,
+        |x: i32| Ok(x.wrapping_add(1)),
+        DataType::Date32,
+    )
+}
+
+/// The rows, and which of them are 0.
+fn with_zeros(
+    alloc: Global,
+    array: &PrimitiveArray<i32>,
+) -> Result<(PrimitiveArray<i32>, Bitmap), Error> {
+    unary_with_bitmap(alloc, array, |x: i32| (x, x == 0), DataType::Int32)
+}
+
+fn check_zeros(
+    rt: &(impl Abort + Alloc<A = Global>),
+    array: &PrimitiveArray<i32>,
+    start: usize,
+    count: usize,
+) {
+    let (made, bits) = made!(rt; with_zeros(rt.alloc(), array));
+    check_rows(rt, &made, array, b"unary_with_bitmap");
+    check!(rt; bits == bits_from(rt, b"ffttfff", start, count), count);
+}
+
 /// So many rows, from one on, of one array.
 fn check_one(rt: &(impl Abort + Alloc<A = Global>), start: usize, count: usize) {
+    let rows = (start, count);
     let array = rows_from(rt, &DataType::Int32, LEFT, start, count);
-    let made = made!(rt; unary(rt.alloc(), &array, |x: i32| x.wrapping_add(1), DataType::Date32));
-    check_rows(
+    let made = made!(rt; one_more(rt.alloc(), &array));
+    check_repeated(rt, &made, &DataType::Date32, b"2c1b364", rows, b"unary");
+    let made = made!(rt; quotients(rt.alloc(), &array));
+    check_repeated(
         rt,
         &made,
-        &rows_from(rt, &DataType::Date32, b"2c1b364", start, count),
-        b"unary",
-    );
-    let made =
-        made!(rt; unary_checked(rt.alloc(), &array, |x: i32| 10i32.checked_div(x), DataType::Int32));
-    check_rows(
-        rt,
-        &made,
-        &rows_from(rt, &DataType::Int32, b":kaa523", start, count),
+        &DataType::Int32,
+        b":kaa523",
+        rows,
         b"unary_checked",
     );
-    let made =
-        made!(rt; try_unary(rt.alloc(), &array, |x: i32| Ok(x.wrapping_add(1)), DataType::Date32));
-    check_rows(
+    let made = made!(rt; try_one_more(rt.alloc(), &array));
+    check_repeated(rt, &made, &DataType::Date32, b"2c1b364", rows, b"try_unary");
+    check_zeros(rt, &array, start, count);
+}
+
+/// Twice the left rows and the right ones, by the call that may refuse.
+fn try_sums(
+    alloc: Global,
+    lhs: &PrimitiveArray<i32>,
+    rhs: &PrimitiveArray<i32>,
+) -> Result<PrimitiveArray<i32>, Error> {
+    try_binary(
+        alloc,
+        lhs,
+        rhs,
+        DataType::Int32,
+        |x: i32, y: i32| Ok(twice_and(x, y)),
+    )
+}
+
+/// The same, and in which rows the left one is less.
+fn sums_with_less(
+    rt: &(impl Abort + Alloc<A = Global>),
+    lhs: &PrimitiveArray<i32>,
+    rhs: &PrimitiveArray<i32>,
+) -> Result<(PrimitiveArray<i32>, Bitmap), Error> {
+    check!(rt; lhs.len() == rhs.len());
+    binary_with_bitmap(
+        rt.alloc(),
+        lhs,
+        rhs,
+        DataType::Int32,
+        |x: i32, y: i32| (twice_and(x, y), x < y),
+    )
+}
+
+/// The quotients of the left rows by the right ones, null where there is none.
+fn quotients_of_two(
+    rt: &(impl Abort + Alloc<A = Global>),
+    lhs: &PrimitiveArray<i32>,
+    rhs: &PrimitiveArray<i32>,
+) -> Result<PrimitiveArray<i32>, Error> {
+    check!(rt; lhs.len() == rhs.len());
+    binary_checked(
+        rt.alloc(),
+        lhs,
+        rhs,
+        DataType::Int32,
+        |x: i32, y: i32| x.checked_div(y),
+    )
+}
+
+/// Sums with a bit each.
+fn check_less(
+    rt: &(impl Abort + Alloc<A = Global>),
+    lhs: &PrimitiveArray<i32>,
+    rhs: &PrimitiveArray<i32>,
+    start: usize,
+    count: usize,
+) {
+    let (made, bits) = made!(rt; sums_with_less(rt, lhs, rhs));
+    check_repeated(
         rt,
         &made,
-        &rows_from(rt, &DataType::Date32, b"2c1b364", start, count),
-        b"try_unary",
+        &DataType::Int32,
+        b"4c3b5:i",
+        (start, count),
+        b"binary_with_bitmap",
     );
-    let (made, bits) =
-        made!(rt; unary_with_bitmap(rt.alloc(), &array, |x: i32| (x, x == 0), DataType::Int32));
-    check_rows(rt, &made, &array, b"unary_with_bitmap");
-    check!(rt; bits == bits_from(rt, b"ffttfff", start, count), count);
+    check!(rt; bits == bits_from(rt, b"tfttfff", start, count), count);
 }
 
 /// So many rows, from one on, of two arrays.
 fn check_two(rt: &(impl Abort + Alloc<A = Global>), start: usize, count: usize) {
+    let rows = (start, count);
     let lhs = rows_from(rt, &DataType::Int32, LEFT, start, count);
     let rhs = rows_from(rt, &DataType::Int32, RIGHT, start, count);
-    let want = rows_from(rt, &DataType::Int32, b"4c3b5:i", start, count);
-    check!(rt; lhs.len() == rhs.len());
-    let made = made!(rt; binary(rt.alloc(), &lhs, &rhs, DataType::Int32, twice_and));
-    check_rows(rt, &made, &want, b"binary");
-    let made =
-        made!(rt; try_binary(rt.alloc(), &lhs, &rhs, DataType::Int32, |x: i32, y: i32| Ok(twice_and(x, y))));
-    check_rows(rt, &made, &want, b"try_binary");
-    let (made, bits) =
-        made!(rt; binary_with_bitmap(rt.alloc(), &lhs, &rhs, DataType::Int32, |x: i32, y: i32| (twice_and(x, y), x < y)));
-    check_rows(rt, &made, &want, b"binary_with_bitmap");
-    check!(rt; bits == bits_from(rt, b"tfttfff", start, count), count);
-    let made =
-        made!(rt; binary_checked(rt.alloc(), &lhs, &rhs, DataType::Int32, |x: i32, y: i32| x.checked_div(y)));
-    check_rows(
+    let made = made!(rt; sums(rt, &lhs, &rhs));
+    check_repeated(rt, &made, &DataType::Int32, b"4c3b5:i", rows, b"binary");
+    let made = made!(rt; try_sums(rt.alloc(), &lhs, &rhs));
+    check_repeated(rt, &made, &DataType::Int32, b"4c3b5:i", rows, b"try_binary");
+    check_less(rt, &lhs, &rhs, start, count);
+    let made = made!(rt; quotients_of_two(rt, &lhs, &rhs));
+    check_repeated(
         rt,
         &made,
-        &rows_from(rt, &DataType::Int32, b"0a0a2ab", start, count),
+        &DataType::Int32,
+        b"0a0a2ab",
+        rows,
         b"binary_checked",
     );
 }
@@ -305,28 +440,53 @@ const COUNTS: [(usize, usize); 9] = [
     (66, 130),
 ];
 
-/// Numbers of 256 bits, of 64 bits and days.
+/// Numbers of 256 bits whose bits are all turned.
+fn turned(alloc: Global, array: &PrimitiveArray<i256>) -> Result<PrimitiveArray<i256>, Error> {
+    unary(
+        alloc,
+        array,
+        |x: i256| i256::new(!x.high(), !x.low()),
+        DataType::Decimal256(76, 2),
+    )
+}
+
 fn check_wide(rt: &(impl Abort + Alloc<A = Global>)) {
     let wide = [i256::new(0, 5), i256::new(-1, 0), i256::new(7, u128::MAX)];
-    let turned = [
+    let other = [
         i256::new(-1, u128::MAX - 5),
         i256::new(0, u128::MAX),
         i256::new(-8, 0),
     ];
-    let array = made!(rt; array_of(rt.alloc(), DataType::Decimal256(76, 2), &wide, b"tft"));
-    let want = made!(rt; array_of(rt.alloc(), DataType::Decimal256(76, 2), &turned, b"tft"));
-    let made =
-        made!(rt; unary(rt.alloc(), &array, |x: i256| i256::new(!x.high(), !x.low()), DataType::Decimal256(76, 2)));
+    let array = made!(rt; array_of(rt.alloc(), &DataType::Decimal256(76, 2), &wide, b"tft"));
+    let want = made!(rt; array_of(rt.alloc(), &DataType::Decimal256(76, 2), &other, b"tft"));
+    let made = made!(rt; turned(rt.alloc(), &array));
     check!(rt; made == want);
     check!(rt; *made.values() == *want.values());
-    let days = [days_ms::new(1, 0), days_ms::new(-2, 5), days_ms::new(3, 0)];
-    let lhs = made!(rt; array_of(rt.alloc(), DataType::Int64, &[10i64, 20, i64::MAX], b""));
-    let rhs =
-        made!(rt; array_of(rt.alloc(), DataType::Interval(IntervalUnit::DayTime), &days, b"ttf"));
-    let want = made!(rt; array_of(rt.alloc(), DataType::Int64, &[11i64, 18, 0], b"ttf"));
+}
+
+/// Numbers of 64 bits with the days of intervals added.
+fn later(
+    rt: &(impl Abort + Alloc<A = Global>),
+    lhs: &PrimitiveArray<i64>,
+    rhs: &PrimitiveArray<days_ms>,
+) -> Result<PrimitiveArray<i64>, Error> {
     check!(rt; lhs.len() == rhs.len());
-    let made =
-        made!(rt; binary_checked(rt.alloc(), &lhs, &rhs, DataType::Int64, |x: i64, y: days_ms| x.checked_add(i64::from(y.days()))));
+    binary_checked(
+        rt.alloc(),
+        lhs,
+        rhs,
+        DataType::Int64,
+        |x: i64, y: days_ms| x.checked_add(i64::from(y.days())),
+    )
+}
+
+fn check_days(rt: &(impl Abort + Alloc<A = Global>)) {
+    let days = [days_ms::new(1, 0), days_ms::new(-2, 5), days_ms::new(3, 0)];
+    let lhs = made!(rt; array_of(rt.alloc(), &DataType::Int64, &[10i64, 20, i64::MAX], b""));
+    let rhs =
+        made!(rt; array_of(rt.alloc(), &DataType::Interval(IntervalUnit::DayTime), &days, b"ttf"));
+    let want = made!(rt; array_of(rt.alloc(), &DataType::Int64, &[11i64, 18, 0], b"ttf"));
+    let made = made!(rt; later(rt, &lhs, &rhs));
     check!(rt; made == want);
     check!(rt; *made.values() == *want.values());
 }
@@ -342,4 +502,5 @@ fn arity(rt: HostRuntime) {
         check_two(&rt, *start, *count);
     }
     check_wide(&rt);
+    check_days(&rt);
 }

@@ -1,6 +1,6 @@
 //! How many bytes texts have.
 
-use crate::types::TYPES;
+use crate::types::{TYPES, type_of};
 use crate::words::{named_texts, words_of};
 use arrow_arrays::array::AnyArray;
 use arrow_arrays_fixture::arrays::{Shape, array_of, boxed};
@@ -11,7 +11,6 @@ use arrow_memory::bitmap::Bitmap;
 use arrow_memory::buffer::Buffer;
 use arrow_types::datatypes::DataType;
 use arrow_types::error::{ArgumentFault, Error};
-use arrow_types_fixture::read::read;
 use arrow_types_fixture::{check, made};
 use std::alloc::Global;
 use std::process::Abort;
@@ -40,11 +39,12 @@ fn length_of(alloc: Global, array: &AnyArray) -> Result<Box<AnyArray>, Error> {
 
 fn numbers_of<T: AnyElement>(
     alloc: Global,
-    data_type: DataType,
+    data_type: &DataType,
     values: Vec<T>,
     validity: Option<Bitmap>,
 ) -> Result<Box<AnyArray>, Error> {
-    let array = PrimitiveArray::try_new(data_type, Buffer::from_vec(alloc, values)?, validity)?;
+    let values = Buffer::from_vec(alloc, values)?;
+    let array = PrimitiveArray::try_new(data_type.clone()?, values, validity)?;
     boxed(alloc, AnyArray::Primitive(T::to_any(&array)?))
 }
 
@@ -58,13 +58,13 @@ fn wanted(
     if shape == Shape::Utf8 {
         let mut values = Vec::new(alloc);
         values.extend_from_slice(numbers)?;
-        return numbers_of(alloc, DataType::Int32, values, validity);
+        return numbers_of(alloc, &DataType::Int32, values, validity);
     }
     let mut values = Vec::new(alloc);
     for &number in numbers {
         values.push(i64::from(number))?;
     }
-    numbers_of(alloc, DataType::Int64, values, validity)
+    numbers_of(alloc, &DataType::Int64, values, validity)
 }
 
 /// Whether these numbers are stored, beneath nulls too.
@@ -84,12 +84,21 @@ fn stores(array: &AnyArray, numbers: &[i32]) -> bool {
     }
 }
 
+/// The same, those valid that have a mark.
+fn wanted_by(
+    alloc: Global,
+    shape: Shape,
+    numbers: &[i32],
+    marks: &str,
+) -> Result<Box<AnyArray>, Error> {
+    wanted(alloc, shape, numbers, marks_of(alloc, marks)?)
+}
+
 fn check_words(rt: &(impl Abort + Alloc<A = Global>), shape: Shape) {
     for (words, start, numbers, marks) in &CASES {
         let array = made!(rt; words_of(rt.alloc(), shape, words, *start));
         let lengths = made!(rt; length_of(rt.alloc(), &array));
-        let want =
-            made!(rt; marks_of(rt.alloc(), marks).and_then(|v| wanted(rt.alloc(), shape, numbers, v)));
+        let want = made!(rt; wanted_by(rt.alloc(), shape, numbers, marks));
         check!(rt; *lengths == *want, *words);
         check!(rt; stores(&lengths, numbers), *words);
     }
@@ -104,14 +113,28 @@ fn lengths_by_letters(alloc: Global, letters: &[u8]) -> Result<Vec<i32>, Error> 
     Ok(lengths)
 }
 
+/// The lengths of the long rows are these.
+fn check_lengths(
+    rt: &(impl Abort + Alloc<A = Global>),
+    shape: Shape,
+    lengths: &AnyArray,
+    numbers: &[i32],
+) {
+    let want = made!(rt; long_wanted(rt.alloc(), shape, numbers));
+    check!(rt; *lengths == *want, shape);
+    check!(rt; stores(lengths, numbers), shape);
+}
+
+/// The numbers, null where the long rows are.
+fn long_wanted(alloc: Global, shape: Shape, numbers: &[i32]) -> Result<Box<AnyArray>, Error> {
+    wanted(alloc, shape, numbers, validity_of(alloc, LONG)?)
+}
+
 fn check_long(rt: &(impl Abort + Alloc<A = Global>), shape: Shape) {
     let array = made!(rt; array_of(rt.alloc(), shape, LONG));
     let lengths = made!(rt; length_of(rt.alloc(), &array));
     let numbers = made!(rt; lengths_by_letters(rt.alloc(), LONG));
-    let want =
-        made!(rt; validity_of(rt.alloc(), LONG).and_then(|v| wanted(rt.alloc(), shape, &numbers, v)));
-    check!(rt; *lengths == *want, shape);
-    check!(rt; stores(&lengths, &numbers), shape);
+    check_lengths(rt, shape, &lengths, &numbers);
 }
 
 /// What `length` refuses: numbers, bytes, and texts under a name of their own.
@@ -125,14 +148,13 @@ fn check_refused(rt: &(impl Abort + Alloc<A = Global>)) {
         let array = made!(rt; array_of(rt.alloc(), *shape, b"ab"));
         check!(rt; length_of(rt.alloc(), &array).err() == Some(REFUSED), *shape);
     }
-    let array =
-        made!(rt; read(rt.alloc(), "utf8 extension:a").and_then(|t| named_texts(rt.alloc(), t)));
+    let array = made!(rt; named_texts(rt.alloc(), "utf8 extension:a"));
     check!(rt; length_of(rt.alloc(), &array).err() == Some(REFUSED));
 }
 
 fn check_types(rt: &(impl Abort + Alloc<A = Global>)) {
     for text in &TYPES {
-        let data_type = made!(rt; read(rt.alloc(), text));
+        let data_type = made!(rt; type_of(rt.alloc(), text));
         let want = *text == "utf8" || *text == "large_utf8";
         check!(rt; can_length(&data_type) == want, *text);
     }

@@ -2,7 +2,7 @@
 //! letter a null over a number, from `a` on, which is a null over 0.
 
 use crate::arity::{check_rows, ints};
-use crate::types::TYPES;
+use crate::types::{TYPES, type_of};
 use arrow_arrays::array::AnyArray;
 use arrow_arrays_fixture::arrays::boxed;
 use arrow_flat::array::{AnyElement, AnyPrimitive, PrimitiveArray};
@@ -10,7 +10,7 @@ use arrow_flat::scalar::{AnyPrimitiveScalar, AnyScalar, PrimitiveScalar};
 use arrow_logic::nullif::{
     can_nullif, nullif, nullif_scalar, primitive_nullif, primitive_nullif_scalar,
 };
-use arrow_memory::bitmap::MutableBitmap;
+use arrow_memory::bitmap::{Bitmap, MutableBitmap};
 use arrow_memory::buffer::Buffer;
 use arrow_types::datatypes::DataType;
 use arrow_types::error::Error;
@@ -176,6 +176,64 @@ fn letters_left(alloc: Global, right: &[u8], len: usize) -> Result<Vec<u8>, Erro
     Ok(letters)
 }
 
+/// So many of these letters over and over, behind others.
+fn repeated(alloc: Global, letters: &[u8], len: usize, before: usize) -> Result<Vec<u8>, Error> {
+    let mut all = Vec::new(alloc);
+    for _ in 0..before {
+        all.push(b'1')?;
+    }
+    for letter in letters.iter().cycle().take(len) {
+        all.push(*letter)?;
+    }
+    Ok(all)
+}
+
+/// What is stored of these letters.
+fn stored_of<T: AnyElement>(
+    alloc: Global,
+    values: &[T; 2],
+    letters: &[u8],
+) -> Result<Vec<T>, Error> {
+    let mut stored = Vec::new(alloc);
+    for letter in letters {
+        let place = if matches!(letter, b'0' | b'a') { 0 } else { 1 };
+        stored.push(values[place])?;
+    }
+    Ok(stored)
+}
+
+/// Which of them are no nulls.
+fn bits_of(alloc: Global, letters: &[u8]) -> Result<Bitmap, Error> {
+    let mut bits = MutableBitmap::new(alloc);
+    for letter in letters {
+        bits.push(letter.is_ascii_digit())?;
+    }
+    bits.into_bitmap()
+}
+
+/// An array of a type by its words.
+fn array_of<T: AnyElement>(
+    alloc: Global,
+    words: &str,
+    stored: Vec<T>,
+    validity: Bitmap,
+) -> Result<Box<AnyArray>, Error> {
+    let stored = Buffer::from_vec(alloc, stored)?;
+    let array = PrimitiveArray::try_new(read(alloc, words)?, stored, Some(validity))?;
+    boxed(alloc, AnyArray::Primitive(T::to_any(&array)?))
+}
+
+/// The rows from one on, or `Failed` where there is none such.
+fn from_row(array: Box<AnyArray>, start: usize) -> Result<Box<AnyArray>, Error> {
+    let mut array = array;
+    let len = array.len();
+    if len < start {
+        return Err(Error::Failed);
+    }
+    array.slice(start, len - start);
+    Ok(array)
+}
+
 /// So many rows of these letters over and over, in an array of a type by its words. Rows stand before them that are sliced
 /// off.
 fn rows_of<T: AnyElement>(
@@ -186,30 +244,10 @@ fn rows_of<T: AnyElement>(
     len: usize,
     before: usize,
 ) -> Result<Box<AnyArray>, Error> {
-    let mut stored = Vec::new(alloc);
-    let mut validity = MutableBitmap::new(alloc);
-    for letter in [b'1']
-        .iter()
-        .cycle()
-        .take(before)
-        .chain(letters.iter().cycle().take(len))
-    {
-        stored.push(if matches!(letter, b'0' | b'a') {
-            values[0]
-        } else {
-            values[1]
-        })?;
-        validity.push(letter.is_ascii_digit())?;
-    }
-    let (stored, validity) = (Buffer::from_vec(alloc, stored)?, validity.into_bitmap()?);
-    let array = PrimitiveArray::try_new(read(alloc, words)?, stored, Some(validity))?;
-    let mut array = boxed(alloc, AnyArray::Primitive(T::to_any(&array)?))?;
-    if array.len() < before {
-        return Err(Error::Failed);
-    }
-    let len = array.len() - before;
-    array.slice(before, len);
-    Ok(array)
+    let letters = repeated(alloc, letters, len, before)?;
+    let stored = stored_of(alloc, values, &letters)?;
+    let validity = bits_of(alloc, &letters)?;
+    from_row(array_of(alloc, words, stored, validity)?, before)
 }
 
 /// The answer in a box; `Failed` where the kernel can't be called.
@@ -220,6 +258,18 @@ fn nullif_of(alloc: Global, lhs: &AnyArray, rhs: &AnyArray) -> Result<Box<AnyArr
     boxed(alloc, nullif(alloc, lhs, rhs)?)
 }
 
+/// The same of a scalar.
+fn nullif_scalar_of(
+    alloc: Global,
+    lhs: &AnyArray,
+    scalar: &AnyScalar,
+) -> Result<Box<AnyArray>, Error> {
+    if !scalar.is_valid() || !can_nullif(lhs.data_type(), scalar.data_type()) {
+        return Err(Error::Failed);
+    }
+    boxed(alloc, nullif_scalar(alloc, lhs, scalar)?)
+}
+
 /// The same of a value of a type by its words.
 fn nullif_value_of<T: AnyValue>(
     alloc: Global,
@@ -228,24 +278,44 @@ fn nullif_value_of<T: AnyValue>(
     value: T,
 ) -> Result<Box<AnyArray>, Error> {
     let scalar = AnyScalar::Primitive(T::any_scalar(read(alloc, words)?, value)?);
-    if !scalar.is_valid() || !can_nullif(lhs.data_type(), scalar.data_type()) {
-        return Err(Error::Failed);
-    }
-    boxed(alloc, nullif_scalar(alloc, lhs, &scalar)?)
+    let scalar = Box::new(alloc, scalar)?;
+    nullif_scalar_of(alloc, lhs, &scalar)
+}
+
+/// The left rows that are left, in an array.
+fn rows_left<T: AnyElement>(
+    alloc: Global,
+    words: &str,
+    values: &[T; 2],
+    right: &[u8],
+    len: usize,
+) -> Result<Box<AnyArray>, Error> {
+    let letters = letters_left(alloc, right, len)?;
+    rows_of(alloc, words, values, &letters, len, 0)
+}
+
+/// The left rows that are left by an array, and by a value.
+fn check_left<T: AnyValue>(
+    rt: &(impl Abort + Alloc<A = Global>),
+    words: &str,
+    values: &[T; 2],
+    lhs: &AnyArray,
+    rhs: &AnyArray,
+    len: usize,
+) {
+    let made = made!(rt; nullif_of(rt.alloc(), lhs, rhs));
+    let want = made!(rt; rows_left(rt.alloc(), words, values, RIGHT, len));
+    check!(rt; *made == *want, words);
+    let made = made!(rt; nullif_value_of(rt.alloc(), lhs, words, values[1]));
+    let want = made!(rt; rows_left(rt.alloc(), words, values, b"1", len));
+    check!(rt; *made == *want, words);
 }
 
 fn check_element<T: AnyValue>(rt: &(impl Abort + Alloc<A = Global>), words: &str, values: &[T; 2]) {
     for len in &LENGTHS {
         let lhs = made!(rt; rows_of(rt.alloc(), words, values, LEFT, *len, 3));
         let rhs = made!(rt; rows_of(rt.alloc(), words, values, RIGHT, *len, 70));
-        let made = made!(rt; nullif_of(rt.alloc(), &lhs, &rhs));
-        let letters = made!(rt; letters_left(rt.alloc(), RIGHT, *len));
-        let want = made!(rt; rows_of(rt.alloc(), words, values, &letters, *len, 0));
-        check!(rt; *made == *want, words);
-        let made = made!(rt; nullif_value_of(rt.alloc(), &lhs, words, values[1]));
-        let letters = made!(rt; letters_left(rt.alloc(), b"1", *len));
-        let want = made!(rt; rows_of(rt.alloc(), words, values, &letters, *len, 0));
-        check!(rt; *made == *want, words);
+        check_left(rt, words, values, &lhs, &rhs, *len);
     }
 }
 
@@ -297,9 +367,9 @@ const OFFERED: [&str; 21] = [
 
 fn check_types(rt: &(impl Abort + Alloc<A = Global>)) {
     for text in &TYPES {
-        let left = made!(rt; read(rt.alloc(), text));
+        let left = made!(rt; type_of(rt.alloc(), text));
         for other in &TYPES {
-            let right = made!(rt; read(rt.alloc(), other));
+            let right = made!(rt; type_of(rt.alloc(), other));
             let want = *text == *other && OFFERED.contains(text);
             check!(rt; can_nullif(&left, &right) == want, *text);
         }

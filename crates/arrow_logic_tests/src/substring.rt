@@ -1,12 +1,11 @@
 //! Parts of texts and of bytes.
 
-use crate::types::TYPES;
+use crate::types::{TYPES, type_of};
 use crate::words::{SHAPES, named_texts, words_of};
 use arrow_arrays::array::AnyArray;
 use arrow_arrays_fixture::arrays::{Shape, array_of, boxed};
 use arrow_logic::substring::{can_substring, substring};
 use arrow_types::error::{ArgumentFault, Error};
-use arrow_types_fixture::read::read;
 use arrow_types_fixture::{check, made};
 use std::alloc::Global;
 use std::process::Abort;
@@ -98,6 +97,12 @@ fn spelt(alloc: Global, characters: &[char]) -> Result<String, Error> {
     Ok(text)
 }
 
+/// The text of these, in an array.
+fn text_of(alloc: Global, characters: &[char]) -> Result<Box<AnyArray>, Error> {
+    let text = spelt(alloc, characters)?;
+    words_of(alloc, Shape::Utf8, &text, 0)
+}
+
 /// The characters from one on, or so many of them at most.
 fn from_character(characters: &[char], begin: usize, length: i128) -> &[char] {
     let rest = &characters[begin.min(characters.len())..];
@@ -109,11 +114,9 @@ fn from_character(characters: &[char], begin: usize, length: i128) -> &[char] {
 
 /// A part of all characters, against those that the test counts itself.
 fn check_cut(rt: &(impl Abort + Alloc<A = Global>), begin: usize, start: i64, length: i128) {
-    let text = made!(rt; spelt(rt.alloc(), &CHARACTERS));
-    let array = made!(rt; words_of(rt.alloc(), Shape::Utf8, &text, 0));
+    let array = made!(rt; text_of(rt.alloc(), &CHARACTERS));
     let parts = made!(rt; part_of(rt.alloc(), &array, start, length));
-    let want = made!(rt; spelt(rt.alloc(), from_character(&CHARACTERS, begin, length)));
-    let want = made!(rt; words_of(rt.alloc(), Shape::Utf8, &want, 0));
+    let want = made!(rt; text_of(rt.alloc(), from_character(&CHARACTERS, begin, length)));
     check!(rt; *parts == *want, (start, length));
 }
 
@@ -138,14 +141,13 @@ fn check_refused(rt: &(impl Abort + Alloc<A = Global>)) {
         let array = made!(rt; array_of(rt.alloc(), *shape, b"ab"));
         check!(rt; part_of(rt.alloc(), &array, 0, NONE).err() == Some(REFUSED), *shape);
     }
-    let array =
-        made!(rt; read(rt.alloc(), "utf8 extension:a").and_then(|t| named_texts(rt.alloc(), t)));
+    let array = made!(rt; named_texts(rt.alloc(), "utf8 extension:a"));
     check!(rt; part_of(rt.alloc(), &array, 0, NONE).err() == Some(REFUSED));
 }
 
 fn check_types(rt: &(impl Abort + Alloc<A = Global>)) {
     for text in &TYPES {
-        let data_type = made!(rt; read(rt.alloc(), text));
+        let data_type = made!(rt; type_of(rt.alloc(), text));
         let want = ["utf8", "large_utf8", "binary", "large_binary"].contains(text);
         check!(rt; can_substring(&data_type) == want, *text);
     }

@@ -1,5 +1,15 @@
 //! The data types that the tests of every `can_` function go over.
 
+use arrow_types::datatypes::DataType;
+use arrow_types::error::Error;
+use arrow_types_fixture::read::read;
+use std::alloc::Global;
+
+/// A data type by its words, in a box.
+pub fn type_of(alloc: Global, words: &str) -> Result<Box<DataType>, Error> {
+    Ok(Box::new(alloc, read(alloc, words)?)?)
+}
+
 /// By their words.
 pub const TYPES: [&str; 48] = [
     "null",

@@ -24,9 +24,15 @@ fn check_rows(
     are_not_null: &[u8],
 ) {
     let answer = made!(rt; is_null(rt.alloc(), &array));
-    check!(rt; answer == made!(rt; truths(rt.alloc(), are_null)));
+    check_letters(rt, &answer, are_null);
     let answer = made!(rt; is_not_null(rt.alloc(), &array));
-    check!(rt; answer == made!(rt; truths(rt.alloc(), are_not_null)));
+    check_letters(rt, &answer, are_not_null);
+}
+
+/// An answer has these letters.
+fn check_letters(rt: &(impl Abort + Alloc<A = Global>), answer: &BooleanArray, letters: &[u8]) {
+    let want = made!(rt; truths(rt.alloc(), letters));
+    check!(rt; *answer == want);
 }
 
 /// Row by row what `is_valid` says; no row of the answer is null.
@@ -48,31 +54,56 @@ fn check_shape(rt: &(impl Abort + Alloc<A = Global>), shape: Shape) {
     let len = array.len();
     assert!(rt; len == 12);
     array.slice(1, len - 1);
-    let nulls = made!(rt; is_null(rt.alloc(), &array));
-    let valid = made!(rt; is_not_null(rt.alloc(), &array));
-    check_valid(rt, &array, &nulls, &valid);
+    check_both(rt, &array);
 }
 
-/// The keys 0, null over 0, and 1 over the values a and null.
-fn null_value(alloc: Global) -> Result<Box<AnyArray>, Error> {
+/// The rows of an array that are null, and those that are not.
+fn check_both(rt: &(impl Abort + Alloc<A = Global>), array: &AnyArray) {
+    let nulls = made!(rt; is_null(rt.alloc(), array));
+    let valid = made!(rt; is_not_null(rt.alloc(), array));
+    check_valid(rt, array, &nulls, &valid);
+}
+
+/// The keys 0, null over 0, and 1.
+fn keys_of(alloc: Global) -> Result<PrimitiveArray<i8>, Error> {
     let keys = Buffer::from_vec(alloc, vec![in alloc; 0i8, 0i8, 1i8]?)?;
-    let keys = PrimitiveArray::<i8>::try_new(DataType::Int8, keys, marks_of(alloc, "tft")?)?;
+    PrimitiveArray::<i8>::try_new(DataType::Int8, keys, marks_of(alloc, "tft")?)
+}
+
+/// These over the values a and null.
+fn null_value(alloc: Global) -> Result<Box<AnyArray>, Error> {
+    let keys = keys_of(alloc)?;
     let values = flat(alloc, Shape::Utf8, b"a_")?;
     let data_type = read(alloc, "utf8 dictionary:i8")?;
     let array = DictionaryArray::try_new(data_type, AnyKeys::Int8(keys), values)?;
     boxed(alloc, AnyArray::Dictionary(array))
 }
 
+/// The same of rows by their letters.
+fn check_letters_of(
+    rt: &(impl Abort + Alloc<A = Global>),
+    shape: Shape,
+    letters: &[u8],
+    are_null: &[u8],
+    are_not_null: &[u8],
+) {
+    let array = made!(rt; array_of(rt.alloc(), shape, letters));
+    check_rows(rt, array, are_null, are_not_null);
+}
+
+/// Unions of each mode, of which no row is null, and structs.
+fn check_pairs(rt: &(impl Abort + Alloc<A = Global>)) {
+    let (sparse, dense) = (UnionMode::Sparse, UnionMode::Dense);
+    check_letters_of(rt, Shape::Pairs(Some(sparse)), b"aB_", b"fff", b"ttt");
+    check_letters_of(rt, Shape::Pairs(Some(dense)), b"aB_", b"fff", b"ttt");
+    check_letters_of(rt, Shape::Pairs(None), b"aBc", b"ftf", b"tft");
+}
+
 pub fn check_nulls(rt: &(impl Abort + Alloc<A = Global>)) {
     check_rows(rt, made!(rt; nulls(rt.alloc(), 2)), b"tt", b"ff");
     check_rows(rt, made!(rt; nulls(rt.alloc(), 0)), b"", b"");
     check_rows(rt, made!(rt; null_value(rt.alloc())), b"ftf", b"tft");
-    for mode in [UnionMode::Sparse, UnionMode::Dense] {
-        let array = made!(rt; array_of(rt.alloc(), Shape::Pairs(Some(mode)), b"aB_"));
-        check_rows(rt, array, b"fff", b"ttt");
-    }
-    let array = made!(rt; array_of(rt.alloc(), Shape::Pairs(None), b"aBc"));
-    check_rows(rt, array, b"ftf", b"tft");
+    check_pairs(rt);
     for shape in FLATS.iter().chain(&NESTED) {
         check_shape(rt, *shape);
     }

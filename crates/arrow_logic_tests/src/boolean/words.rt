@@ -83,12 +83,18 @@ fn check_rows(
 ) {
     check!(rt; *answer.data_type() == DataType::Boolean);
     check!(rt; answer.len() == len, starts);
-    let left = sides.0.iter().cycle().skip(starts.0);
-    let right = sides.1.iter().cycle().skip(starts.1);
-    let mut row = 0usize;
-    for (left, right) in left.zip(right).take(len) {
-        check!(rt; letter_at(answer, row) == looked_up(table, *left, *right), starts);
-        row = row.saturating_add(1);
+    for row in 0..len {
+        let left = repeated_at(sides.0, starts.0.saturating_add(row));
+        let right = repeated_at(sides.1, starts.1.saturating_add(row));
+        check!(rt; letter_at(answer, row) == looked_up(table, left, right), starts);
+    }
+}
+
+/// The letter of a row where some stand over and over.
+fn repeated_at(letters: &[u8], row: usize) -> u8 {
+    match row.checked_rem(letters.len()) {
+        Some(place) => letters.get(place).copied().unwrap_or(b'-'),
+        None => b'-',
     }
 }
 
