@@ -6,9 +6,9 @@ ghost use Rattle.std.specs.List.{All, AllZip, zip};
 ghost use Rattle.arrow_types.specs.declared.datatypes.physical_type.PhysicalType.TheVariants as physical;
 ghost use Rattle.arrow_types.specs.declared.error.ArgumentFault.{ArgumentFault};
 ghost use Rattle.arrow_types.specs.declared.error.Error.{Error};
+ghost use Rattle.arrow_types.specs.Physical.{physical_type_of};
 ghost use Rattle.arrow_types.specs.TypeOf.{type_of};
 ghost use Rattle.arrow_memory.specs.Bits.{either_bits};
-ghost use Rattle.arrow_flat.specs.Faults.{IsCarriedAs};
 ghost use Rattle.arrow_flat.specs.Parts.{FitsRows, rows_by};
 ghost use Rattle.arrow_logic.specs.Answers.{AnswersSome, RefusesFirst, answers_ok, nulls, to_pair};
 ghost use Rattle.arrow_logic.specs.Gathered.{answers_at, answers_parts, parts_of};
@@ -28,7 +28,7 @@ use std::alloc::Global;
 /// What `op` answers to each stored value, null where the array is.
 ///
 /// # Requires
-/// The data type is carried, and its arrays store values of `O`. `op` may be called on each stored value, also beneath a
+/// Arrays of the data type store values of `O` (`DataType::to_physical_type`). `op` may be called on each stored value, also beneath a
 /// null.
 ///
 /// # Errors
@@ -41,7 +41,7 @@ pub fn unary<I: NativeType, F: Fn(I) -> O, O: NativeType>(
     op: F,
     data_type: DataType,
 ) -> Result<PrimitiveArray<O>, Error>
-    requires carried { IsCarriedAs (physical.Primitive O.PRIMITIVE) (type_of data_type) }
+    requires layout { physical_type_of (type_of data_type) ≡ physical.Primitive O.PRIMITIVE }
     requires callable { All (F.pre op) array.now.values }
     ensures array_type { IfOk result (λ made. made.arrow_type ≡ type_of data_type) }
     ensures answers { IfOk result (λ made. AllZip (F.post op) array.now.values made.values) }
@@ -68,7 +68,7 @@ pub fn try_unary<I: NativeType, F: Fn(I) -> Result<O, Error>, O: NativeType>(
     op: F,
     data_type: DataType,
 ) -> Result<PrimitiveArray<O>, Error>
-    requires carried { IsCarriedAs (physical.Primitive O.PRIMITIVE) (type_of data_type) }
+    requires layout { physical_type_of (type_of data_type) ≡ physical.Primitive O.PRIMITIVE }
     requires callable { All (F.pre op) array.now.values }
     ensures array_type { IfOk result (λ made. made.arrow_type ≡ type_of data_type) }
     ensures answers { IfOk result (λ made. AllZip (answers_ok (F.post op)) array.now.values made.values) }
@@ -95,7 +95,7 @@ pub fn unary_with_bitmap<I: NativeType, F: Fn(I) -> (O, bool), O: NativeType>(
     op: F,
     data_type: DataType,
 ) -> Result<(PrimitiveArray<O>, Bitmap), Error>
-    requires carried { IsCarriedAs (physical.Primitive O.PRIMITIVE) (type_of data_type) }
+    requires layout { physical_type_of (type_of data_type) ≡ physical.Primitive O.PRIMITIVE }
     requires callable { All (F.pre op) array.now.values }
     ensures array_type { IfOk result (λ made. made.0.arrow_type ≡ type_of data_type) }
     ensures answers { IfOk result (λ made. AllZip (F.post op) array.now.values (zip made.0.values made.1)) }
@@ -124,7 +124,7 @@ pub fn unary_checked<I: NativeType, F: Fn(I) -> Option<O>, O: NativeType>(
     op: F,
     data_type: DataType,
 ) -> Result<PrimitiveArray<O>, Error>
-    requires carried { IsCarriedAs (physical.Primitive O.PRIMITIVE) (type_of data_type) }
+    requires layout { physical_type_of (type_of data_type) ≡ physical.Primitive O.PRIMITIVE }
     requires callable { All (F.pre op) array.now.values }
     ensures array_type { IfOk result (λ made. made.arrow_type ≡ type_of data_type) }
     ensures answers { IfOk result (λ made. AnswersSome (F.post op) O.zero array.now.values (nulls (rows_by (map I.slot) array.now)) made.values (rows_by (map O.slot) made)) }
@@ -143,7 +143,7 @@ pub fn unary_checked<I: NativeType, F: Fn(I) -> Option<O>, O: NativeType>(
 /// What `op` answers to the stored values of two arrays row by row, null where one of them is.
 ///
 /// # Requires
-/// The data type is carried, and its arrays store values of `T`. The arrays have as many rows. `op` may be called on the
+/// Arrays of the data type store values of `T` (`DataType::to_physical_type`). The arrays have as many rows. `op` may be called on the
 /// stored values of each row, also beneath nulls.
 ///
 /// # Errors
@@ -157,7 +157,7 @@ pub fn binary<T: NativeType, D: NativeType, F: Fn(T, D) -> T>(
     data_type: DataType,
     op: F,
 ) -> Result<PrimitiveArray<T>, Error>
-    requires carried { IsCarriedAs (physical.Primitive T.PRIMITIVE) (type_of data_type) }
+    requires layout { physical_type_of (type_of data_type) ≡ physical.Primitive T.PRIMITIVE }
     requires lengths { length lhs.now.values ≡ length rhs.now.values }
     requires callable { All (λ pair. F.pre op pair.0 pair.1) (zip lhs.now.values rhs.now.values) }
     ensures array_type { IfOk result (λ made. made.arrow_type ≡ type_of data_type) }
@@ -183,7 +183,7 @@ pub fn binary<T: NativeType, D: NativeType, F: Fn(T, D) -> T>(
 /// The same where `op` may answer an error: the first one ends it.
 ///
 /// # Requires
-/// The data type is carried, and its arrays store values of `T`. `op` may be called on the stored values of each row,
+/// Arrays of the data type store values of `T` (`DataType::to_physical_type`). `op` may be called on the stored values of each row,
 /// also beneath nulls.
 ///
 /// # Errors
@@ -198,7 +198,7 @@ pub fn try_binary<T: NativeType, D: NativeType, F: Fn(T, D) -> Result<T, Error>>
     data_type: DataType,
     op: F,
 ) -> Result<PrimitiveArray<T>, Error>
-    requires carried { IsCarriedAs (physical.Primitive T.PRIMITIVE) (type_of data_type) }
+    requires layout { physical_type_of (type_of data_type) ≡ physical.Primitive T.PRIMITIVE }
     requires callable { All (λ pair. F.pre op pair.0 pair.1) (zip lhs.now.values rhs.now.values) }
     ensures lengths { length lhs.now.values ≢ length rhs.now.values → result ≡ Err (Error.InvalidArgumentError ArgumentFault.Lengths) }
     ensures equal_lengths { OnOk result (length lhs.now.values ≡ length rhs.now.values) }
@@ -241,7 +241,7 @@ pub fn binary_with_bitmap<T: NativeType, D: NativeType, F: Fn(T, D) -> (T, bool)
     data_type: DataType,
     op: F,
 ) -> Result<(PrimitiveArray<T>, Bitmap), Error>
-    requires carried { IsCarriedAs (physical.Primitive T.PRIMITIVE) (type_of data_type) }
+    requires layout { physical_type_of (type_of data_type) ≡ physical.Primitive T.PRIMITIVE }
     requires lengths { length lhs.now.values ≡ length rhs.now.values }
     requires callable { All (λ pair. F.pre op pair.0 pair.1) (zip lhs.now.values rhs.now.values) }
     ensures array_type { IfOk result (λ made. made.0.arrow_type ≡ type_of data_type) }
@@ -282,7 +282,7 @@ pub fn binary_checked<T: NativeType, D: NativeType, F: Fn(T, D) -> Option<T>>(
     data_type: DataType,
     op: F,
 ) -> Result<PrimitiveArray<T>, Error>
-    requires carried { IsCarriedAs (physical.Primitive T.PRIMITIVE) (type_of data_type) }
+    requires layout { physical_type_of (type_of data_type) ≡ physical.Primitive T.PRIMITIVE }
     requires lengths { length lhs.now.values ≡ length rhs.now.values }
     requires callable { All (λ pair. F.pre op pair.0 pair.1) (zip lhs.now.values rhs.now.values) }
     ensures array_type { IfOk result (λ made. made.arrow_type ≡ type_of data_type) }
@@ -348,7 +348,7 @@ fn parts<O: NativeType>(answer: Option<O>) -> (O, bool)
 /// An array of these values, null where another array is.
 ///
 /// # Requires
-/// The data type is carried, and its arrays store values of `O`. The other array has as many rows.
+/// Arrays of the data type store values of `O`. The other array has as many rows.
 ///
 /// # Errors
 /// `OutOfMemory` where memory is refused.
@@ -358,7 +358,7 @@ fn make_of_one<I: NativeType, O: NativeType>(
     values: Vec<O>,
     array: &PrimitiveArray<I>,
 ) -> Result<PrimitiveArray<O>, Error>
-    requires carried { IsCarriedAs (physical.Primitive O.PRIMITIVE) (type_of data_type) }
+    requires layout { physical_type_of (type_of data_type) ≡ physical.Primitive O.PRIMITIVE }
     requires lengths { length values.items ≡ length array.now.values }
     ensures array_type { IfOk result (λ made. made.arrow_type ≡ type_of data_type) }
     ensures values { IfOk result (λ made. made.values ≡ values.items) }
@@ -372,7 +372,7 @@ fn make_of_one<I: NativeType, O: NativeType>(
 /// An array of these values, null where one of two others is.
 ///
 /// # Requires
-/// The data type is carried, and its arrays store values of `T`. The other arrays have as many rows.
+/// Arrays of the data type store values of `T`. The other arrays have as many rows.
 ///
 /// # Errors
 /// `OutOfMemory` where memory is refused.
@@ -383,7 +383,7 @@ fn make_of_two<T: NativeType, D: NativeType>(
     lhs: &PrimitiveArray<T>,
     rhs: &PrimitiveArray<D>,
 ) -> Result<PrimitiveArray<T>, Error>
-    requires carried { IsCarriedAs (physical.Primitive T.PRIMITIVE) (type_of data_type) }
+    requires layout { physical_type_of (type_of data_type) ≡ physical.Primitive T.PRIMITIVE }
     requires left { length values.items ≡ length lhs.now.values }
     requires right { length values.items ≡ length rhs.now.values }
     ensures array_type { IfOk result (λ made. made.arrow_type ≡ type_of data_type) }
@@ -420,7 +420,7 @@ fn valid_where_set<O: NativeType>(
 /// An array of these values. It takes the memory of one shared owner.
 ///
 /// # Requires
-/// The data type is carried, and its arrays store values of `O`. A validity has a bit for each value.
+/// Arrays of the data type store values of `O`. A validity has a bit for each value.
 ///
 /// # Errors
 /// `OutOfMemory` where that is refused.
@@ -430,7 +430,7 @@ fn make<O: NativeType>(
     values: Vec<O>,
     validity: Option<Bitmap>,
 ) -> Result<PrimitiveArray<O>, Error>
-    requires carried { IsCarriedAs (physical.Primitive O.PRIMITIVE) (type_of data_type) }
+    requires layout { physical_type_of (type_of data_type) ≡ physical.Primitive O.PRIMITIVE }
     requires fits { FitsRows validity (length values.items) }
     ensures ok { IfOk result (λ made. made ≡ record { arrow_type = type_of data_type; values = values.items; validity = validity }) }
     ensures err { IsOkUnless result Error.OutOfMemory }

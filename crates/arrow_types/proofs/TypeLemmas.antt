@@ -1,11 +1,15 @@
 -- What the types of src/ stand for, lists of fields, and what makes a type carried.
 use Rattle.std.proofs.Common.{◌≡◌, ◌↔◌, ℕ, zero, suc, ◌+◌, ◌<◌, List, [], ◌∷◌, length, take, get_or, refl, ap, sym, ◌∙◌, subst, arith, rules, Vec, Global, Option, ℤ}
-use Rattle.arrow_types.specs.ArrowType.{ArrowField, ArrowFields, field, no_fields, more_fields, struct, union, type_in, to_fields, from_fields}
-use Rattle.arrow_types.specs.Carried.{HasField, IsPair, AreTypeIds, IsCarried, AreCarried}
+use Rattle.arrow_types.specs.ArrowType.{ArrowType, ArrowField, ArrowFields, PlainType, plain, list, struct, union, dictionary, extension, float16, float32, float64, fixed_size_binary, small, large, fixed_size, mapped, field, no_fields, more_fields, type_in, to_fields, from_fields}
+use Rattle.arrow_types.specs.Carried.{HasField, IsPair, AreTypeIds, IsCarried, IsCarriedPlain, IsCarriedElement, AreCarried}
+use Rattle.arrow_types.specs.Physical.{physical_type_of, plain_physical_type}
 use Rattle.arrow_types.specs.TypeOf.{type_of, field_of, fields_of, ids_of}
 use Rattle.arrow_types.specs.declared.datatypes.Field.{Field}
 use Rattle.arrow_types.specs.declared.datatypes.DataType.{Struct, Union, the_lemmas}
 use Rattle.arrow_types.specs.declared.datatypes.UnionMode.{UnionMode}
+use Rattle.arrow_types.specs.declared.datatypes.physical_type.PhysicalType.{PhysicalType}
+use Rattle.arrow_types.specs.declared.datatypes.physical_type.PhysicalType.TheVariants as physical
+use Rattle.arrow_types.specs.declared.types.PrimitiveType.{PrimitiveType}
 
 -- what some values of `DataType` and `Field` stand for
 pub type_of-Struct : (fs : Vec Field Global) → type_of (Struct fs) ≡ struct (fields_of fs.items)
@@ -69,6 +73,33 @@ length-fields_of (f ∷ fs) = ap suc (length-fields_of fs)
 -- a union, by the number of its fields
 pub IsCarried-union : (mode : UnionMode) (ids : Option (List ℤ)) (fs : List Field) (count : ℕ) → count ≡ length fs → IsCarried (union mode ids (fields_of fs)) ↔ (AreTypeIds ids count × (HasField (fields_of fs) × AreCarried (fields_of fs)))
 IsCarried-union mode ids fs count is = rw (is ∙ sym (length-fields_of fs)) (λ h. h, λ h. h)
+
+-- a type lies as values of one element type, which is no float
+abbrev IsOfElement : PhysicalType → Type 0
+IsOfElement (physical.Primitive element) = IsCarriedElement element
+IsOfElement _ = ⊥
+
+plain_of_element : (p : PlainType) → IsOfElement (plain_physical_type p) → IsCarriedPlain p
+plain_of_element float16 h = h
+plain_of_element float32 h = h
+plain_of_element float64 h = h
+plain_of_element (fixed_size_binary size) h = absurd h
+plain_of_element _ h = tt
+
+of_element : (t : ArrowType) → IsOfElement (physical_type_of t) → IsCarried t
+of_element (plain p) h = plain_of_element p h
+of_element (list small f) h = absurd h
+of_element (list large f) h = absurd h
+of_element (list (fixed_size size) f) h = absurd h
+of_element (list (mapped sorted) f) h = absurd h
+of_element (struct fs) h = absurd h
+of_element (union mode ids fs) h = absurd h
+of_element (dictionary keys ordered t) h = absurd h
+of_element (extension name metadata t) h = of_element t h
+
+-- then it is carried
+pub carried_as_element : (element : PrimitiveType) (t : ArrowType) → IsCarriedElement element → physical_type_of t ≡ physical.Primitive element → IsCarried t
+carried_as_element element t carried same = of_element t (subst IsOfElement (sym same) carried)
 
 -- lists of fields that stand for the same have the same length, and the same fields at each place
 pub length_same : (fs gs : List Field) → fields_of fs ≡ fields_of gs → length fs ≡ length gs

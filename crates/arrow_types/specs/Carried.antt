@@ -1,5 +1,7 @@
 -- The types whose arrays are carried: those of Arrow's columnar format without floats, without nested types that have no field, and without sizes of 0.
 use Rattle.std.specs.Prelude.{◌≡◌, ◌≢◌, ℕ, ◌≤◌, ◌<◌, ℤ, pos, ◌≤ℤ◌, Option, Some, None, List, length, All, AllPairs}
+use Rattle.arrow_types.specs.declared.types.PrimitiveType.{PrimitiveType}
+use Rattle.arrow_types.specs.declared.types.PrimitiveType.TheVariants as primitive
 use Rattle.arrow_types.specs.ArrowType.{ArrowType, ArrowFields, PlainType, ListForm, plain, list, struct, union, dictionary, extension, field, no_fields, more_fields, float16, float32, float64, fixed_size_binary, fixed_size, mapped, from_fields, logical}
 
 -- no float, and no bytes of a fixed size of 0
@@ -9,6 +11,13 @@ IsCarriedPlain float32 = ⊥
 IsCarriedPlain float64 = ⊥
 IsCarriedPlain (fixed_size_binary size) = 0 < size
 IsCarriedPlain _ = Unit {0}
+
+-- an element type that is no float: of these there are arrays
+abbrev pub IsCarriedElement : PrimitiveType → Type 0
+IsCarriedElement primitive.Float16 = ⊥
+IsCarriedElement primitive.Float32 = ⊥
+IsCarriedElement primitive.Float64 = ⊥
+IsCarriedElement _ = Unit {0}
 
 -- a struct of two fields, as the entries of a map are: a key and a value
 abbrev pub IsPair : ArrowType → Type 0

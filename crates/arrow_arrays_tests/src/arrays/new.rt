@@ -1,9 +1,8 @@
 //! Arrays of nulls and arrays without rows.
 
 use crate::lent::check_same;
-use arrow_arrays::array::AnyArray;
+use arrow_arrays::array::{AnyArray, new_empty_array, new_null_array};
 use arrow_arrays_fixture::arrays::{Shape, both, boxed, flat, make_union};
-use arrow_new_arrays::array::{new_empty_array, new_null_array};
 use arrow_types::datatypes::DataType;
 use arrow_types::error::{Error, SpecPart};
 use arrow_types_fixture::read::read;

@@ -5,10 +5,9 @@ ghost use Rattle.arrow_arrays.specs.Any.{any_array_type, layout_of};
 ghost use Rattle.arrow_growable.specs.AnyGrowable.{grown_of};
 
 use crate::lent::from_row;
-use arrow_arrays::array::AnyArray;
+use arrow_arrays::array::{AnyArray, new_null_array};
 use arrow_arrays_fixture::arrays::{FLATS, NESTED, Shape, array_of, boxed};
 use arrow_growable::growable::{AnyGrowable, Growable, make_growable};
-use arrow_new_arrays::array::new_null_array;
 use arrow_types::datatypes::{DataType, IntervalUnit};
 use arrow_types::error::Error;
 use arrow_types_fixture::{check, made};

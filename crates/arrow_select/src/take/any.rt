@@ -14,9 +14,8 @@ ghost use Rattle.arrow_select.specs.Taken.{HasTake, MayTake};
 
 use crate::take::structure::take_struct;
 use crate::take::{binary, boolean, dict, fixed_size_list, list, primitive, utf8};
-use arrow_arrays::array::AnyArray;
+use arrow_arrays::array::{AnyArray, new_empty_array};
 use arrow_flat::array::{AnyPrimitive, NullArray, PrimitiveArray};
-use arrow_new_arrays::array::new_empty_array;
 use arrow_types::error::Error;
 use arrow_types::types::Index;
 use std::alloc::Global;

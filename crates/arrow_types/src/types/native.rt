@@ -2,6 +2,7 @@
 
 ghost use Rattle.std.specs.Prelude.{◌≡◌, ◌↔◌, IsTrue, pos};
 ghost use Rattle.std.proofs.Common.{rules};
+ghost use Rattle.arrow_types.specs.Carried.{IsCarriedElement};
 ghost use Rattle.arrow_types.specs.declared.types.PrimitiveType.{PrimitiveType};
 ghost use Rattle.arrow_types.specs.declared.types.PrimitiveType.TheVariants as primitive;
 ghost use Rattle.arrow_types.specs.NumberSlots.{equal_ints, equal_nats, equal_triples};
@@ -25,6 +26,9 @@ pub trait NativeType: Copy + Eq + Default {
     /// The element type of a primitive array that holds this type.
     const PRIMITIVE: PrimitiveType;
 
+    // no float, so each type whose arrays hold this one is carried
+    ghost carried: { IsCarriedElement PRIMITIVE };
+
     // `==` is equality of values
     ghost values: { (x y : Self) → IsTrue (Self.eq x y) ↔ (x ≡ y) };
 
@@ -43,6 +47,8 @@ impl NativeType for i8 {
 
     const PRIMITIVE: PrimitiveType = PrimitiveType::Int8;
 
+    ghost carried = { tt };
+
     ghost values = { Prim.search rules };
 
     ghost slots = { equal_ints };
@@ -58,6 +64,8 @@ impl NativeType for i16 {
     ghost zero = { pos 0 };
 
     const PRIMITIVE: PrimitiveType = PrimitiveType::Int16;
+
+    ghost carried = { tt };
 
     ghost values = { Prim.search rules };
 
@@ -75,6 +83,8 @@ impl NativeType for i32 {
 
     const PRIMITIVE: PrimitiveType = PrimitiveType::Int32;
 
+    ghost carried = { tt };
+
     ghost values = { Prim.search rules };
 
     ghost slots = { equal_ints };
@@ -90,6 +100,8 @@ impl NativeType for i64 {
     ghost zero = { pos 0 };
 
     const PRIMITIVE: PrimitiveType = PrimitiveType::Int64;
+
+    ghost carried = { tt };
 
     ghost values = { Prim.search rules };
 
@@ -107,6 +119,8 @@ impl NativeType for i128 {
 
     const PRIMITIVE: PrimitiveType = PrimitiveType::Int128;
 
+    ghost carried = { tt };
+
     ghost values = { Prim.search rules };
 
     ghost slots = { equal_ints };
@@ -122,6 +136,8 @@ impl NativeType for i256 {
     ghost zero = { pos 0 };
 
     const PRIMITIVE: PrimitiveType = PrimitiveType::Int256;
+
+    ghost carried = { tt };
 
     ghost values = { Prim.search rules };
 
@@ -139,6 +155,8 @@ impl NativeType for u8 {
 
     const PRIMITIVE: PrimitiveType = PrimitiveType::UInt8;
 
+    ghost carried = { tt };
+
     ghost values = { Prim.search rules };
 
     ghost slots = { equal_nats };
@@ -154,6 +172,8 @@ impl NativeType for u16 {
     ghost zero = { 0 };
 
     const PRIMITIVE: PrimitiveType = PrimitiveType::UInt16;
+
+    ghost carried = { tt };
 
     ghost values = { Prim.search rules };
 
@@ -171,6 +191,8 @@ impl NativeType for u32 {
 
     const PRIMITIVE: PrimitiveType = PrimitiveType::UInt32;
 
+    ghost carried = { tt };
+
     ghost values = { Prim.search rules };
 
     ghost slots = { equal_nats };
@@ -186,6 +208,8 @@ impl NativeType for u64 {
     ghost zero = { 0 };
 
     const PRIMITIVE: PrimitiveType = PrimitiveType::UInt64;
+
+    ghost carried = { tt };
 
     ghost values = { Prim.search rules };
 
@@ -203,6 +227,8 @@ impl NativeType for days_ms {
 
     const PRIMITIVE: PrimitiveType = PrimitiveType::DaysMs;
 
+    ghost carried = { tt };
+
     ghost values = { Prim.search rules };
 
     ghost slots = { Prim.search rules };
@@ -218,6 +244,8 @@ impl NativeType for months_days_ns {
     ghost zero = { (pos 0, pos 0, pos 0) };
 
     const PRIMITIVE: PrimitiveType = PrimitiveType::MonthDayNano;
+
+    ghost carried = { tt };
 
     ghost values = { equal_triples };
 
