@@ -3,3 +3,4 @@ pub mod Compared
 pub mod Examples
 pub mod Filled
 pub mod Kinds
+pub mod Laws

@@ -5,7 +5,7 @@ ghost use Rattle.std.specs.Prelude.{◌≡◌, false, length, map, replicate, Al
 ghost use Rattle.arrow_types.specs.ArrowType.{ArrowType, logical};
 ghost use Rattle.arrow_types.specs.Logic.{negated};
 ghost use Rattle.arrow_types.specs.Physical.{physical_type_of};
-ghost use Rattle.arrow_types.specs.Relation.{is_null, nulled, related, through};
+ghost use Rattle.arrow_types.specs.Relation.{is_null, nulled, related};
 ghost use Rattle.arrow_types.specs.Relation as relation;
 ghost use Rattle.arrow_types.specs.Rows.{chosen};
 ghost use Rattle.arrow_types.specs.Slot.{Null};
@@ -18,6 +18,7 @@ ghost use Rattle.arrow_relate.specs.Related.{relation_of};
 ghost use Rattle.arrow_relate.specs.Same.{differs, is_same};
 ghost use Rattle.arrow_compare.specs.Can.{CanEqual, CanEqualScalar, CanOrder, CanOrderScalar};
 ghost use Rattle.arrow_compare.specs.Compared.{HasEquality, HasEqualityThrough, HasOrder, HasOrderThrough};
+ghost use Rattle.arrow_compare.specs.Laws.{ComparesAsRepeated};
 
 use crate::kinds::scalar_has_kind;
 use arrow_arrays::array::AnyArray;
@@ -63,7 +64,8 @@ pub fn gt_eq_is_negated_lt(lhs: &AnyArray, rhs: &AnyArray)
     ensures { row_by_row (related relation.gt_eq) (any_array_rows lhs.now) (any_array_rows rhs.now) ≡ map negated (row_by_row (related relation.lt) (any_array_rows lhs.now) (any_array_rows rhs.now)) }
 {}
 
-/// A scalar, a null one too, compares as an array that repeats it: each relation, and whether rows are the same.
+/// A scalar, a null one too, compares as an array that repeats it: by each relation, by `eq_and_validity` and by
+/// `neq_and_validity`.
 ///
 /// # Requires
 /// The data types of both are equal, extensions around each apart, and are those of rows that are equal or not, without
@@ -71,8 +73,9 @@ pub fn gt_eq_is_negated_lt(lhs: &AnyArray, rhs: &AnyArray)
 pub fn scalar_is_repeated(by: Relation, lhs: &AnyArray, rhs: &AnyScalar)
     requires one_type { logical (any_array_type lhs.now) ≡ logical (meaning_of rhs.now).0 }
     requires has_equality { HasEquality (physical_type_of (any_array_type lhs.now)) }
-    ensures related { map (λ s. related (relation_of by) (through s) (through (meaning_of rhs.now).1)) (any_array_rows lhs.now) ≡ row_by_row (related (relation_of by)) (any_array_rows lhs.now) (replicate (length (any_array_rows lhs.now)) (meaning_of rhs.now).1) }
-    ensures same { map (λ s. is_same (through s) (through (meaning_of rhs.now).1)) (any_array_rows lhs.now) ≡ row_by_row is_same (any_array_rows lhs.now) (replicate (length (any_array_rows lhs.now)) (meaning_of rhs.now).1) }
+    ensures related { ComparesAsRepeated (related (relation_of by)) (any_array_rows lhs.now) (meaning_of rhs.now).1 }
+    ensures same { ComparesAsRepeated is_same (any_array_rows lhs.now) (meaning_of rhs.now).1 }
+    ensures differs { ComparesAsRepeated differs (any_array_rows lhs.now) (meaning_of rhs.now).1 }
 {
     // The kind of both follows from their data types.
     let _ = lhs.data_type();

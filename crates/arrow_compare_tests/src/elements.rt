@@ -1,13 +1,12 @@
-//! Relations of every element type, over words of bits and at unequal offsets, beside a plain loop over letters. A digit
-//! is one of three values that rise, and a small letter from `a` on a null over one of them. The right side is an array, or a
-//! scalar of one letter.
+//! Relations of every element type, over words of bits and at unequal offsets, beside a plain loop over letters. The right
+//! side is an array, or a scalar of one letter.
 
 use crate::asked::{ALL, Asked, EQUALITY, relate, relate_scalar};
+use crate::letters::{LEFT, LENGTHS, RIGHT, answers, repeated, value_of};
 use arrow_arrays::array::AnyArray;
 use arrow_arrays_fixture::arrays::boxed;
 use arrow_flat::array::{AnyElement, BooleanArray, PrimitiveArray};
 use arrow_flat::scalar::{AnyPrimitiveScalar, AnyScalar, PrimitiveScalar};
-use arrow_flat_fixture::arrays::truths;
 use arrow_memory::bitmap::{Bitmap, MutableBitmap};
 use arrow_memory::buffer::Buffer;
 use arrow_types::datatypes::DataType;
@@ -18,37 +17,8 @@ use arrow_types_fixture::{check, made};
 use std::alloc::Global;
 use std::process::Abort;
 
-/// Letters of the left rows, and of the right ones, over and over.
-const LEFT: &[u8] = b"012a0b1";
-
-const RIGHT: &[u8] = b"0120a2b11";
-
 /// Letters of scalars.
 const SCALARS: [u8; 4] = *b"012a";
-
-/// How many rows are tried, about the words of bits.
-const LENGTHS: [usize; 9] = [0, 1, 7, 8, 9, 63, 64, 65, 130];
-
-/// The value that a letter stands for, or lies over.
-fn value_of<T: AnyElement>(values: &[T; 3], letter: u8) -> T {
-    match letter {
-        b'0' | b'a' => values[0],
-        b'1' | b'b' => values[1],
-        _ => values[2],
-    }
-}
-
-/// So many of these letters over and over, behind others.
-fn repeated(alloc: Global, letters: &[u8], len: usize, before: usize) -> Result<Vec<u8>, Error> {
-    let mut all = Vec::new(alloc);
-    for _ in 0..before {
-        all.push(b'2')?;
-    }
-    for letter in letters.iter().cycle().take(len) {
-        all.push(*letter)?;
-    }
-    Ok(all)
-}
 
 /// What is stored of these letters.
 fn stored_of<T: AnyElement>(
@@ -109,36 +79,6 @@ fn rows_of<T: AnyElement>(
     let stored = stored_of(alloc, values, &letters)?;
     let validity = bits_of(alloc, &letters)?;
     from_row(array_of(alloc, words, stored, validity)?, before)
-}
-
-/// What a relation answers of two letters: whether it holds, and `None` for a null.
-fn answer_of(asked: Asked, left: u8, right: u8) -> Option<bool> {
-    let (is_valid, other_is_valid) = (left.is_ascii_digit(), right.is_ascii_digit());
-    let is_same = (!is_valid && !other_is_valid) || left == right;
-    match asked {
-        Asked::EqAndValidity => Some(is_same),
-        Asked::NeqAndValidity => Some(!is_same),
-        _ if !is_valid || !other_is_valid => None,
-        Asked::Eq => Some(left == right),
-        Asked::Neq => Some(left != right),
-        Asked::Lt => Some(left < right),
-        Asked::LtEq => Some(left <= right),
-        Asked::Gt => Some(left > right),
-        Asked::GtEq => Some(left >= right),
-    }
-}
-
-/// The answers by letters: by those of the right side, over and over.
-fn answers(alloc: Global, asked: Asked, rights: &[u8], len: usize) -> Result<BooleanArray, Error> {
-    let mut letters = Vec::new(alloc);
-    for (left, right) in LEFT.iter().cycle().zip(rights.iter().cycle()).take(len) {
-        letters.push(match answer_of(asked, *left, *right) {
-            Some(true) => b't',
-            Some(false) => b'f',
-            None => b'_',
-        })?;
-    }
-    truths(alloc, &letters)
 }
 
 /// An element type of scalars of any element type.
@@ -249,7 +189,7 @@ fn check_scalar<T: AnyScalarElement>(
     };
     for asked in relations {
         let made = made!(rt; relate_value(rt.alloc(), *asked, lhs, value));
-        let want = made!(rt; answers(rt.alloc(), *asked, &[letter], lhs.len()));
+        let want = made!(rt; answers(rt.alloc(), *asked, LEFT, &[letter], lhs.len()));
         check!(rt; made == want, *asked);
     }
 }
@@ -281,7 +221,7 @@ fn check_arrays(
 ) {
     for asked in relations {
         let made = made!(rt; relate(rt.alloc(), *asked, lhs, rhs));
-        let want = made!(rt; answers(rt.alloc(), *asked, RIGHT, len));
+        let want = made!(rt; answers(rt.alloc(), *asked, LEFT, RIGHT, len));
         check!(rt; made == want, words);
     }
 }

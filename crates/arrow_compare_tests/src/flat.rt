@@ -1,11 +1,22 @@
 //! Relations of truth values, numbers, texts and bytes, by the calls for arrays of each kind.
 
 use crate::asked::Asked;
-use arrow_flat::array::{BinaryArray, BooleanArray, PrimitiveArray, Utf8Array};
+use arrow_flat::array::{
+    BinaryArray, BooleanArray, FlatArray, PrimitiveArray, Utf8Array, Values,
+};
 use arrow_relate::comparison::{binary, boolean, primitive, utf8};
 use arrow_types::error::Error;
 use arrow_types::types::{NativeOrd, Offset};
 use std::alloc::Global;
+
+/// The rows from one on, or `Failed` where there is none such.
+pub fn from_row<V: Values>(array: FlatArray<V>, start: usize) -> Result<FlatArray<V>, Error> {
+    let len = array.len();
+    if len < start {
+        return Err(Error::Failed);
+    }
+    Ok(array.sliced(start, len - start))
+}
 
 /// What a relation answers of two arrays of truth values; `Failed` where it can't be called.
 pub fn relate_truths(

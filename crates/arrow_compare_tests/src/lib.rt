@@ -4,6 +4,8 @@
 #[cfg(test)]
 mod asked;
 #[cfg(test)]
+mod by_relation;
+#[cfg(test)]
 mod can;
 #[cfg(test)]
 mod check;
@@ -15,6 +17,8 @@ mod elements;
 mod finish;
 #[cfg(test)]
 mod flat;
+#[cfg(test)]
+mod letters;
 #[cfg(test)]
 mod numbers;
 #[cfg(test)]

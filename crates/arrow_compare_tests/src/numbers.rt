@@ -1,7 +1,7 @@
 //! Relations of numbers by words: `_` is a null, `_7` a null over 7, and rows before a bar are sliced off.
 
 use crate::asked::{Asked, relate, relate_scalar};
-use crate::flat::{relate_number, relate_numbers};
+use crate::flat::{from_row, relate_number, relate_numbers};
 use arrow_arrays::array::AnyArray;
 use arrow_arrays_fixture::arrays::boxed;
 use arrow_flat::array::{AnyElement, BooleanArray, PrimitiveArray};
@@ -38,15 +38,6 @@ fn push_words(
         push_word(word, values, validity)?;
     }
     Ok(before)
-}
-
-/// The rows from one on, or `Failed` where there is none such.
-fn from_row(array: PrimitiveArray<i64>, start: usize) -> Result<PrimitiveArray<i64>, Error> {
-    let len = array.len();
-    if len < start {
-        return Err(Error::Failed);
-    }
-    Ok(array.sliced(start, len - start))
 }
 
 /// Numbers of 64 bits by words.

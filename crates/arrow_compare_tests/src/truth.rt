@@ -1,7 +1,8 @@
 //! Relations of truth values, of two arrays and of an array and a scalar.
 
-use crate::asked::Asked;
+use crate::asked::{ALL, Asked};
 use crate::flat::{relate_truth, relate_truths};
+use crate::letters::{LENGTHS, answers, truths_of};
 use arrow_flat_fixture::arrays::truths;
 use arrow_types_fixture::{check, made};
 use std::alloc::Global;
@@ -40,7 +41,32 @@ fn check_cases(rt: &(impl Abort + Alloc<A = Global>)) {
     }
 }
 
+/// Letters of both sides over and over: `A` is a null over true, and `B` one over false.
+const LEFTS: &[u8] = b"01A0B11";
+
+const RIGHTS: &[u8] = b"0110A1B10";
+
+/// So many rows, where each side begins within a word of bits of its own.
+fn check_len(rt: &(impl Abort + Alloc<A = Global>), len: usize) {
+    let lhs = made!(rt; truths_of(rt.alloc(), LEFTS, len, 3));
+    let rhs = made!(rt; truths_of(rt.alloc(), RIGHTS, len, 70));
+    for asked in &ALL {
+        let want = made!(rt; answers(rt.alloc(), *asked, LEFTS, RIGHTS, len));
+        let made = made!(rt; relate_truths(rt.alloc(), *asked, &lhs, &rhs));
+        check!(rt; made == want, (*asked, len));
+        let want = made!(rt; answers(rt.alloc(), *asked, LEFTS, b"1", len));
+        let made = made!(rt; relate_truth(rt.alloc(), *asked, &lhs, true));
+        check!(rt; made == want, (*asked, len));
+        let want = made!(rt; answers(rt.alloc(), *asked, LEFTS, b"0", len));
+        let made = made!(rt; relate_truth(rt.alloc(), *asked, &lhs, false));
+        check!(rt; made == want, (*asked, len));
+    }
+}
+
 #[test]
 fn truth_values(rt: HostRuntime) {
     check_cases(&rt);
+    for len in &LENGTHS {
+        check_len(&rt, *len);
+    }
 }

@@ -1,7 +1,8 @@
 //! Relations of texts and bytes by words: one that begins with `_` is null, and the rest of it lies beneath.
 
-use crate::asked::{Asked, relate, relate_scalar};
-use crate::flat::{relate_bytes, relate_row, relate_text, relate_texts};
+use crate::asked::{ALL, Asked, relate, relate_scalar};
+use crate::flat::{from_row, relate_bytes, relate_row, relate_text, relate_texts};
+use crate::letters::{LEFT, LENGTHS, RIGHT, answers, value_of};
 use arrow_arrays::array::AnyArray;
 use arrow_arrays_fixture::arrays::boxed;
 use arrow_flat::array::{BinaryArray, BooleanArray, ByteKind, ByteRows, FlatArray, Utf8Array};
@@ -46,18 +47,6 @@ fn push_words<O: Offset>(
         push_word(word, offsets, bytes, validity)?;
     }
     Ok(before)
-}
-
-/// The rows from one on, or `Failed` where there is none such.
-fn from_row<O: Offset, K: ByteKind>(
-    rows: FlatArray<ByteRows<O, K>>,
-    start: usize,
-) -> Result<FlatArray<ByteRows<O, K>>, Error> {
-    let len = rows.len();
-    if len < start {
-        return Err(Error::Failed);
-    }
-    Ok(rows.sliced(start, len - start))
 }
 
 /// Rows by such words. Those before a bar are sliced off.
@@ -153,6 +142,72 @@ fn check_values<O: Offset>(rt: &(impl Abort + Alloc<A = Global>)) {
     }
 }
 
+/// Texts that rise by their bytes, two of them as long.
+const RISING: [&str; 3] = ["ab", "b", "é"];
+
+/// So many words of letters over and over: a digit is one of these texts, and a letter from `a` on a null over one. Rows stand
+/// before them that are sliced off.
+fn words_of(alloc: Global, letters: &[u8], len: usize, before: usize) -> Result<String, Error> {
+    let mut words = String::new(alloc);
+    for _ in 0..before {
+        words.push_str("é,")?;
+    }
+    words.push_str("|")?;
+    for letter in letters.iter().cycle().take(len) {
+        words.push_str(if letter.is_ascii_digit() { "," } else { ",_" })?;
+        words.push_str(value_of(&RISING, *letter))?;
+    }
+    Ok(words)
+}
+
+/// Texts by words of so many letters.
+fn check_texts<O: Offset>(
+    rt: &(impl Abort + Alloc<A = Global>),
+    left: &str,
+    right: &str,
+    len: usize,
+) {
+    let lhs: Utf8Array<O> = made!(rt; rows_of(rt.alloc(), left));
+    let rhs: Utf8Array<O> = made!(rt; rows_of(rt.alloc(), right));
+    for asked in &ALL {
+        let want = made!(rt; answers(rt.alloc(), *asked, LEFT, RIGHT, len));
+        let made = made!(rt; relate_texts(rt.alloc(), *asked, &lhs, &rhs));
+        check!(rt; made == want, (*asked, len));
+        let want = made!(rt; answers(rt.alloc(), *asked, LEFT, b"1", len));
+        let made = made!(rt; relate_text(rt.alloc(), *asked, &lhs, RISING[1]));
+        check!(rt; made == want, (*asked, len));
+    }
+}
+
+/// The same of bytes.
+fn check_bytes<O: Offset>(
+    rt: &(impl Abort + Alloc<A = Global>),
+    left: &str,
+    right: &str,
+    len: usize,
+) {
+    let lhs: BinaryArray<O> = made!(rt; rows_of(rt.alloc(), left));
+    let rhs: BinaryArray<O> = made!(rt; rows_of(rt.alloc(), right));
+    for asked in &ALL {
+        let want = made!(rt; answers(rt.alloc(), *asked, LEFT, RIGHT, len));
+        let made = made!(rt; relate_bytes(rt.alloc(), *asked, &lhs, &rhs));
+        check!(rt; made == want, (*asked, len));
+        let want = made!(rt; answers(rt.alloc(), *asked, LEFT, b"1", len));
+        let made = made!(rt; relate_row(rt.alloc(), *asked, &lhs, RISING[1].as_bytes()));
+        check!(rt; made == want, (*asked, len));
+    }
+}
+
+/// Rows of each length, where each side begins within a word of bits of its own.
+fn check_lengths<O: Offset>(rt: &(impl Abort + Alloc<A = Global>)) {
+    for len in &LENGTHS {
+        let left = made!(rt; words_of(rt.alloc(), LEFT, *len, 3));
+        let right = made!(rt; words_of(rt.alloc(), RIGHT, *len, 70));
+        check_texts::<O>(rt, &left, &right, *len);
+        check_bytes::<O>(rt, &left, &right, *len);
+    }
+}
+
 /// The forms of texts and of bytes.
 #[derive(Clone, Copy, Debug, PartialEq, Eq)]
 enum Form {
@@ -220,6 +275,8 @@ fn texts_and_bytes(rt: HostRuntime) {
     check_pairs::<i64>(&rt);
     check_values::<i32>(&rt);
     check_values::<i64>(&rt);
+    check_lengths::<i32>(&rt);
+    check_lengths::<i64>(&rt);
     for form in &FORMS {
         check_form(&rt, *form);
     }

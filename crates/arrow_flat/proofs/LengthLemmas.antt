@@ -4,7 +4,7 @@ use Rattle.std.specs.Bool.{Decides}
 use Rattle.std.specs.List.{concat}
 use Rattle.std.proofs.Math.Seq.{take-add}
 use Rattle.std.proofs.lemmas.Int.{ints}
-use Rattle.std.proofs.lemmas.List.{drop-drop, drop_at, ext_get_or, length-map, take_at}
+use Rattle.std.proofs.lemmas.List.{drop-drop, drop_at, length-map, take_at}
 use Rattle.std.proofs.lemmas.List.Concat.{concat_is, flat_map-cons}
 use Rattle.arrow_memory.specs.Offsets.{RisesFrom, IsOffsets, last_of}
 use Rattle.arrow_memory.specs.Sliced.{sliced}

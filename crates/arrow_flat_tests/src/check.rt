@@ -2,6 +2,7 @@
 
 ghost use Rattle.std.specs.Prelude.{IsTrue};
 
+use arrow_types_fixture::RefusedMemory;
 use std::fmt::Debug;
 use std::process::Abort;
 
@@ -19,14 +20,18 @@ pub fn check_case(rt: &impl Abort, holds: bool, case: impl Copy + Debug)
     assert!(rt; holds, "{case:?}");
 }
 
-/// The first of two that were made alike or, where a request for memory was refused then, the second.
-pub fn either<T: Drop, E: Debug + Drop>(
+/// The first of two that were made alike or, where a request for memory was refused then, the second. Any other error
+/// of the first ends the test.
+pub fn either<T: Drop, E: RefusedMemory + Debug + Drop>(
     rt: &impl Abort,
     first: Result<T, E>,
     second: Result<T, E>,
 ) -> T {
     match first {
         Ok(made) => made,
-        Err(_) => second.expect(rt, "it is made where memory is there"),
+        Err(error) => {
+            assert!(rt; error.is_refused_memory(), "{error:?}");
+            second.expect(rt, "it is made where memory is there")
+        }
     }
 }

@@ -2,6 +2,7 @@
 
 mod any;
 mod dictionary;
+mod handed_out;
 mod typed;
 mod unions;
 
@@ -14,5 +15,6 @@ fn growables(rt: HostRuntime) {
     typed::check_null_arrays(&rt);
     typed::check_nested(&rt);
     typed::check_refused(&rt);
+    handed_out::check_handed_out(&rt);
     dictionary::check_keys(&rt);
 }

@@ -1,16 +1,22 @@
--- Which arrays and scalars have a primitive layout.
+-- Which arrays and scalars have a primitive layout, and which types are carried as they lie.
 use Rattle.std.proofs.Common.{◌≡◌, ◌≢◌, ◌∙◌, refl, sym}
 use Rattle.arrow_types.specs.declared.datatypes.physical_type.PhysicalType.{PhysicalType}
 use Rattle.arrow_types.specs.declared.datatypes.physical_type.PhysicalType.TheVariants as physical
 use Rattle.arrow_types.specs.declared.types.PrimitiveType.{PrimitiveType}
-use Rattle.arrow_types.specs.ArrowType.{ArrowType, plain, list, struct, union, dictionary, extension}
+use Rattle.arrow_types.specs.declared.types.PrimitiveType.TheVariants as element
+use Rattle.arrow_types.specs.ArrowType.{ArrowType, plain, list, struct, union, dictionary, extension, utf8, large_utf8, binary, large_binary}
+use Rattle.arrow_types.specs.Carried.{IsCarried, IsCarriedElement}
 use Rattle.arrow_types.specs.Physical.{physical_type_of}
+use Rattle.arrow_types.proofs.TypeLemmas.{carried_as_element}
 use Rattle.arrow_flat.specs.declared.array.any_primitive.AnyPrimitive.{AnyPrimitive}
 use Rattle.arrow_flat.specs.DictionaryScalar.{HasDictionary}
 use Rattle.arrow_arrays.specs.Any.{kind_in, kind_of, primitive_kind}
 use Rattle.arrow_arrays.specs.declared.array.any.AnyArray.{AnyArray}
 use Rattle.arrow_arrays.specs.declared.array.any.AnyArray.TheVariants.{Null, Boolean, Primitive, Utf8, LargeUtf8, Binary, LargeBinary, FixedSizeBinary, List, FixedSizeList, Struct, Union, Map, Dictionary}
-use Rattle.arrow_logic.specs.Nullif.{IsPrimitive}
+use Rattle.arrow_logic.specs.Laws.{AreTexts, AreTextsOrBytes}
+use Rattle.arrow_logic.specs.Length.{HasLength}
+use Rattle.arrow_logic.specs.Nullif.{IsFloat, IsPrimitive}
+use Rattle.arrow_logic.specs.Substring.{HasParts}
 
 primitive_in : (p : PhysicalType) → IsPrimitive p → (e : PrimitiveType) × (kind_in p ≡ primitive_kind e)
 primitive_in (physical.Primitive e) is = (e, refl)
@@ -59,3 +65,37 @@ no_keys (struct fs) has is = has
 no_keys (union mode ids fs) has is = has
 no_keys (dictionary keys ordered t) has is = is
 no_keys (extension name metadata t) has is = no_keys t has is
+
+-- texts and bytes are carried
+pub lengths_supported : (t : ArrowType) → HasLength t → AreTexts t
+lengths_supported (plain utf8) has = (tt, tt)
+lengths_supported (plain large_utf8) has = (tt, tt)
+lengths_supported (plain _) has = absurd has
+lengths_supported (list form f) has = absurd has
+lengths_supported (struct fs) has = absurd has
+lengths_supported (union mode ids fs) has = absurd has
+lengths_supported (dictionary keys ordered t) has = absurd has
+lengths_supported (extension name metadata t) has = absurd has
+
+pub parts_supported : (t : ArrowType) → HasParts t → AreTextsOrBytes t
+parts_supported (plain utf8) has = (tt, tt)
+parts_supported (plain large_utf8) has = (tt, tt)
+parts_supported (plain binary) has = (tt, tt)
+parts_supported (plain large_binary) has = (tt, tt)
+parts_supported (plain _) has = absurd has
+parts_supported (list form f) has = absurd has
+parts_supported (struct fs) has = absurd has
+parts_supported (union mode ids fs) has = absurd has
+parts_supported (dictionary keys ordered t) has = absurd has
+parts_supported (extension name metadata t) has = absurd has
+
+-- and so are numbers and intervals
+no_float : (e : PrimitiveType) → (IsFloat (physical.Primitive e) → ⊥) → IsCarriedElement e
+no_float element.Float16 other = other tt
+no_float element.Float32 other = other tt
+no_float element.Float64 other = other tt
+no_float _ other = tt
+
+pub carried_layout : (p : PhysicalType) (t : ArrowType) → physical_type_of t ≡ p → IsPrimitive p → (IsFloat p → ⊥) → IsCarried t
+carried_layout (physical.Primitive e) t same is other = carried_as_element e t (no_float e other) same
+carried_layout _ t same is other = absurd is

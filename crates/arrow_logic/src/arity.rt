@@ -28,8 +28,8 @@ use std::alloc::Global;
 /// What `op` answers to each stored value, null where the array is.
 ///
 /// # Requires
-/// Arrays of the data type store values of `O` (`DataType::to_physical_type`). `op` may be called on each stored value, also beneath a
-/// null.
+/// Arrays of the data type store values of `O` (`DataType::to_physical_type`). `op` may be called on each stored value,
+/// also beneath a null.
 ///
 /// # Errors
 /// `OutOfMemory` where memory is refused.
@@ -143,8 +143,8 @@ pub fn unary_checked<I: NativeType, F: Fn(I) -> Option<O>, O: NativeType>(
 /// What `op` answers to the stored values of two arrays row by row, null where one of them is.
 ///
 /// # Requires
-/// Arrays of the data type store values of `T` (`DataType::to_physical_type`). The arrays have as many rows. `op` may be called on the
-/// stored values of each row, also beneath nulls.
+/// Arrays of the data type store values of `T` (`DataType::to_physical_type`). The arrays have as many rows. `op` may be
+/// called on the stored values of each row, also beneath nulls.
 ///
 /// # Errors
 /// `OutOfMemory` where memory is refused.
@@ -183,8 +183,8 @@ pub fn binary<T: NativeType, D: NativeType, F: Fn(T, D) -> T>(
 /// The same where `op` may answer an error: the first one ends it.
 ///
 /// # Requires
-/// Arrays of the data type store values of `T` (`DataType::to_physical_type`). `op` may be called on the stored values of each row,
-/// also beneath nulls.
+/// Arrays of the data type store values of `T` (`DataType::to_physical_type`). `op` may be called on the stored values
+/// of each row, also beneath nulls.
 ///
 /// # Errors
 /// `Lengths` where the arrays differ in length. Else the first that `op` answers to the stored values of a row, also

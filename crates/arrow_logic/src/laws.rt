@@ -1,4 +1,4 @@
-//! The laws of logic and of parts: each is the contract of a function over what is handed in, and says of the definitions
+//! The laws of logic, of parts, and of the types that the calls named `can_` list: each is the contract of a function over what is handed in, and says of the definitions
 //! that the kernels' contracts cite what a caller may replace by what. None makes an array.
 
 ghost use Rattle.std.specs.Prelude.{◌≡◌, ◌+◌, map, pos, not};
@@ -6,13 +6,18 @@ ghost use Rattle.arrow_types.specs.Logic.{both, either, kleene_both, kleene_eith
 ghost use Rattle.arrow_types.specs.Part.{part};
 ghost use Rattle.arrow_types.specs.Relation.{is_null};
 ghost use Rattle.arrow_types.specs.Slot.{Boolean, Bytes, Text};
+ghost use Rattle.arrow_types.specs.TypeOf.{type_of};
 ghost use Rattle.arrow_flat.specs.Parts.{boolean_rows};
 ghost use Rattle.arrow_arrays.specs.Any.{any_array_rows};
-ghost use Rattle.arrow_logic.specs.Laws.{length_within};
+ghost use Rattle.arrow_logic.specs.Laws.{AreTexts, AreTextsOrBytes, MeetNullif, length_within};
+ghost use Rattle.arrow_logic.specs.Length.{HasLength};
+ghost use Rattle.arrow_logic.specs.Nullif.{CanNullif};
 ghost use Rattle.arrow_logic.specs.RowByRow.{row_by_row};
+ghost use Rattle.arrow_logic.specs.Substring.{HasParts};
 
 use arrow_arrays::array::AnyArray;
 use arrow_flat::array::BooleanArray;
+use arrow_types::datatypes::DataType;
 
 /// It makes no difference which side of an `and` is the left one.
 pub fn both_is_commutative(lhs: &BooleanArray, rhs: &BooleanArray)
@@ -99,4 +104,19 @@ pub fn part_of_part_of_bytes(
     next_len: Option<u64>,
 )
     ensures { part (pos next_start) next_len (part (pos start) len (Bytes bytes.now)) ≡ part (pos (start + next_start)) (length_within len next_start next_len) (Bytes bytes.now) }
+{}
+
+/// A type that `can_length` lists is carried, and its arrays are texts. So `length` refuses none of them.
+pub fn can_length_is_supported(data_type: &DataType)
+    ensures { HasLength (type_of data_type.now) → AreTexts (type_of data_type.now) }
+{}
+
+/// A type that `can_substring` lists is carried, and its arrays are texts or bytes. So `substring` refuses none of them.
+pub fn can_substring_is_supported(data_type: &DataType)
+    ensures { HasParts (type_of data_type.now) → AreTextsOrBytes (type_of data_type.now) }
+{}
+
+/// Types that `can_nullif` lists are one carried type of a primitive layout, which is what `nullif` asks of them.
+pub fn can_nullif_is_supported(lhs: &DataType, rhs: &DataType)
+    ensures { CanNullif (type_of lhs.now) (type_of rhs.now) → MeetNullif (type_of lhs.now) (type_of rhs.now) }
 {}

@@ -319,6 +319,14 @@ fn check_zeros(
     check!(rt; bits == bits_from(rt, b"ffttfff", start, count), count);
 }
 
+/// A number that is not 0, and a null over one that is.
+fn check_zero_beneath_null(rt: &(impl Abort + Alloc<A = Global>)) {
+    let array = made!(rt; ints(rt.alloc(), b"1a"));
+    let (made, bits) = made!(rt; with_zeros(rt.alloc(), &array));
+    check_rows(rt, &made, &array, b"1a");
+    check!(rt; bits == made!(rt; bits_of(rt.alloc(), b"ft")));
+}
+
 /// So many rows, from one on, of one array.
 fn check_one(rt: &(impl Abort + Alloc<A = Global>), start: usize, count: usize) {
     let rows = (start, count);
@@ -501,6 +509,7 @@ fn arity(rt: HostRuntime) {
         check_one(&rt, *start, *count);
         check_two(&rt, *start, *count);
     }
+    check_zero_beneath_null(&rt);
     check_wide(&rt);
     check_days(&rt);
 }

@@ -241,9 +241,8 @@ impl<O: Offset> Offsets<O> {
         ensures unchanged { OnErr result (self.new ≡ self.old) }
     {
         let offset = *self.last();
-        let Some(len) = self.offsets.len().checked_add(additional) else {
-            return Err(Error::OutOfMemory);
-        };
+        self.offsets.reserve(additional)?;
+        let len = self.offsets.len() + additional;
         self.offsets.resize(len, offset)?;
         Ok(())
     }

@@ -8,6 +8,7 @@ mod offsets;
 #[test]
 fn bits_values_and_offsets(rt: HostRuntime) {
     bitmaps::check_runs(&rt);
+    bitmaps::check_ones(&rt);
     bitmaps::check_example(&rt);
     bitmaps::check_words(&rt);
     bitmaps::check_room(&rt);

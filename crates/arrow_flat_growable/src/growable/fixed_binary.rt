@@ -105,9 +105,7 @@ impl GrowableValues for GrowableFixedRows {
         // That rows of the type are stored so, and their size, follow from the array.
         let _ = array.data_type();
         let size = array.size();
-        let Some(room) = capacity.checked_mul(size) else {
-            return Err(Error::OutOfMemory);
-        };
+        let room = capacity.saturating_mul(size);
         Ok(GrowableFixedRows {
             size,
             count: 0,

@@ -289,8 +289,8 @@ fn wide_structs(alloc: Global) -> Result<Box<AnyArray>, Error> {
     make_structs(alloc, b"a", numbers, lists)
 }
 
-/// A growable whose second child refuses, at the second row or, for want of memory, at either: its rows are those of
-/// before, and it has failed.
+/// A growable of a null and a row, whose second child refuses that row once more or, for want of memory, at once: it
+/// counts the rows of before, and it has failed.
 fn check_failed(
     rt: &impl Abort,
     growable: &mut GrowableStruct,
@@ -299,9 +299,11 @@ fn check_failed(
     requires { growable.old.sources ≡ Some (struct_layout array.now ∷ []) }
 {
     assert!(rt; array.len() == 1);
+    growable.extend_validity(1)?;
     let mut refused = growable.extend(0, 0, 1);
-    let count = usize::from(refused.is_ok());
-    if count == 1 {
+    let mut count = 1;
+    if refused.is_ok() {
+        count = 2;
         refused = growable.extend(0, 0, 1);
     }
     check!(rt; growable.len() == count);
@@ -312,6 +314,7 @@ fn check_failed(
         return refused;
     }
     check!(rt; refused == Err(Error::Overflow));
+    check!(rt; count == 2);
     Ok(())
 }
 

@@ -5,7 +5,7 @@ ghost use Rattle.arrow_arrays.specs.UnionParts.{union_layout, union_rows};
 
 use crate::lent::from_row;
 use arrow_arrays::array::{AnyArray, UnionArray};
-use arrow_arrays_fixture::arrays::{Shape, array_of, both, make_union, pair_type};
+use arrow_arrays_fixture::arrays::{Shape, array_of, both, boxed, make_union, pair_type};
 use arrow_growable::growable::{Growable, GrowableUnion};
 use arrow_types::datatypes::UnionMode;
 use arrow_types::error::Error;
@@ -36,7 +36,7 @@ struct Case<'a> {
     want_others: &'a [u8],
 }
 
-const CASES: [Case<'static>; 8] = [
+const CASES: [Case<'static>; 9] = [
     // a slice of a sparse union: its rows do not begin where those of its children do
     Case {
         is_dense: false,
@@ -83,6 +83,22 @@ const CASES: [Case<'static>; 8] = [
         want_offsets: &[0, 0, 1],
         want_letters: b"bA",
         want_others: b"d",
+    },
+    // the second of two rows, of the second field
+    Case {
+        is_dense: false,
+        offsets: &[],
+        types: &[5, 7],
+        letters: b"1b",
+        others: b"ba",
+        from: 0,
+        start: 1,
+        len: 1,
+        nulls: 0,
+        want_types: &[7],
+        want_offsets: &[],
+        want_letters: b"A",
+        want_others: b"a",
     },
     // a run of each field, and null slots of the first
     Case {
@@ -187,7 +203,29 @@ fn union_of(
     make_union(alloc, data_type, types, both(alloc, left, right)?, offsets)
 }
 
-/// Some rows of a union and null slots behind them.
+/// Hands out all rows of the array that is bound, and is left without rows.
+fn hand_out_all(
+    rt: &(impl Abort + Alloc<A = Global>),
+    growable: &mut GrowableUnion,
+    array: &UnionArray,
+) -> Result<(), Error>
+    requires { growable.old.sources ≡ Some (union_layout array.now ∷ []) }
+    ensures { growable.new.sources ≡ growable.old.sources }
+{
+    growable.extend(0, 0, array.len())?;
+    let all = boxed(rt.alloc(), growable.as_box()?)?;
+    check!(rt; growable.len() == 0);
+    match &*all {
+        AnyArray::Union(all) => {
+            check!(rt; *all == *array);
+            check!(rt; all.types().as_slice() == array.types().as_slice());
+        }
+        _ => panic!(rt; "no union"),
+    }
+    Ok(())
+}
+
+/// Some rows of a union and null slots behind them, once all of its rows are handed out.
 fn grow(
     rt: &(impl Abort + Alloc<A = Global>),
     array: &UnionArray,
@@ -198,6 +236,7 @@ fn grow(
     let rows = array.len();
     assert!(rt; start <= rows && len <= rows - start);
     let mut growable = GrowableUnion::new(rt.alloc(), vec![in rt.alloc(); array]?, 0)?;
+    hand_out_all(rt, &mut growable, array)?;
     growable.extend(0, start, len)?;
     growable.extend_validity(nulls)?;
     check!(rt; growable.len() == len + nulls);

@@ -248,6 +248,15 @@ pub fn check_runs(rt: &(impl Abort + Alloc<A = Global>)) {
     }
 }
 
+/// The words of 66 bits that are all set, from the fourth of 70 on: a full one, one of two bits, and none.
+pub fn check_ones(rt: &(impl Abort + Alloc<A = Global>)) {
+    let whole = made!(rt; Bitmap::from_bools(rt.alloc(), &[true; 70]));
+    let ones = part_of(rt, &whole, 3, 66);
+    for (j, want) in [(0, u64::MAX), (1, 3), (2, 0), (usize::MAX, 0)] {
+        check!(rt; ones.word(j) == want, j);
+    }
+}
+
 /// The validity of [0, 1, null, 2, null, 3], after the example of Arrow's format.
 pub fn check_example(rt: &(impl Abort + Alloc<A = Global>)) {
     let alloc = rt.alloc();

@@ -6,9 +6,11 @@ use crate::select::keyed::hundred;
 use crate::select::{refusal_of, try_letters};
 use arrow_arrays::array::AnyArray;
 use arrow_arrays_fixture::arrays::{FLATS, NESTED, Shape, array_of, boxed};
-use arrow_flat::array::BooleanArray;
+use arrow_flat::array::{AnyPrimitive, BooleanArray, PrimitiveArray};
 use arrow_flat_fixture::arrays::truths;
+use arrow_memory::buffer::Buffer;
 use arrow_select::if_then_else::if_then_else;
+use arrow_types::datatypes::DataType;
 use arrow_types::error::{ArgumentFault, Error};
 use arrow_types_fixture::{check, made};
 use std::alloc::Global;
@@ -94,6 +96,22 @@ fn check_crowded(
     check!(rt; answer == refusal);
 }
 
+/// Three numbers of 64 bits.
+fn longs(alloc: Global) -> Result<Box<AnyArray>, Error> {
+    let values = Buffer::from_vec(alloc, Vec::from_slice(alloc, &[4, 5, 6])?)?;
+    let array = PrimitiveArray::<i64>::try_new(DataType::Int64, values, None)?;
+    boxed(alloc, AnyArray::Primitive(AnyPrimitive::Int64(array)))
+}
+
+/// Numbers of 32 bits and of 64 bits are of two types.
+fn try_widths(rt: &(impl Abort + Alloc<A = Global>)) -> Result<(), Error> {
+    let predicate = truths(rt.alloc(), b"tft")?;
+    let lhs = array_of(rt.alloc(), Shape::Number, b"123")?;
+    let rhs = longs(rt.alloc())?;
+    let types = Err(Error::InvalidArgumentError(ArgumentFault::IfThenElseTypes));
+    try_letters(rt, choose(rt.alloc(), &predicate, &lhs, &rhs), Shape::Number, types)
+}
+
 /// A letter for each row of the long predicate, by what it is.
 fn long_letters(alloc: Global, is_true: u8, is_false: u8, is_null: u8) -> Result<Vec<u8>, Error> {
     let mut letters = Vec::new(alloc);
@@ -128,6 +146,7 @@ pub fn check_choice(rt: &(impl Abort + Alloc<A = Global>)) {
     let lengths = Err(Error::InvalidArgumentError(ArgumentFault::IfThenElseLengths));
     let right: Case = (0, b"ttt", 0, b"123", b"45", b"");
     check_case(rt, [Shape::Number, Shape::Date], right, types);
+    tried!(rt; try_widths(rt));
     check_case(rt, [Shape::Number, Shape::Number], right, lengths);
     let left: Case = (0, b"ttt", 0, b"12", b"456", b"");
     check_case(rt, [Shape::Number, Shape::Number], left, lengths);

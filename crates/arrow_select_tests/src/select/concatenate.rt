@@ -185,6 +185,26 @@ fn check_deep(rt: &(impl Abort + Alloc<A = Global>)) {
     }
 }
 
+/// Lists of numbers, from each end to the next.
+fn number_lists(
+    alloc: Global,
+    ends: &[usize],
+    digits: &[u8],
+    marks: &str,
+) -> Result<Box<AnyArray>, Error> {
+    let items = array_of(alloc, Shape::Number, digits)?;
+    lists_of(alloc, ListKind::Small, ends, items, marks_of(alloc, marks)?)
+}
+
+/// A null over an item, and a list of two, joined with themselves.
+fn check_beneath_null(rt: &(impl Abort + Alloc<A = Global>)) {
+    let whole = made!(rt; number_lists(rt.alloc(), &[0, 2, 3, 5], b"12945", "tft"));
+    let array = from_row(rt, whole, 1);
+    let twice = made!(rt; join_two(rt.alloc(), &array, &array));
+    let want = made!(rt; number_lists(rt.alloc(), &[0, 0, 2, 2, 4], b"4545", "ftft"));
+    check!(rt; *twice == *want);
+}
+
 /// Items that two rows can't have: none of theirs is named where they are null.
 fn check_wide(rt: &(impl Abort + Alloc<A = Global>)) {
     let array = made!(rt; wide_lists(rt.alloc(), &[0, MOST_ITEMS], "-"));
@@ -216,6 +236,7 @@ pub fn check_concatenate(rt: &(impl Abort + Alloc<A = Global>)) {
     let most = made!(rt; nulls(rt.alloc(), usize::MAX));
     let one = made!(rt; nulls(rt.alloc(), 1));
     check_two(rt, &most, &one, Shape::Null, Err(Error::Overflow));
+    check_beneath_null(rt);
     check_wide(rt);
     check_widest(rt);
     check_deep(rt);

@@ -25,13 +25,14 @@ const CASES: [Case<'static>; 6] = [
     (0, b"", 0, b"", b""),
 ];
 
-/// Values, a mask, and what stands behind a 7 then.
-const WORDS: [(&[i32], u64, &[i32]); 5] = [
-    (&[10, 11, 12, 13], 0b1010, &[7, 11, 13]),
-    (&[10, 11, 12], 0b1111_1001, &[7, 10]),
-    (&[10, 11, 12], 0, &[7]),
-    (&[10, 11, 12], u64::MAX, &[7, 10, 11, 12]),
-    (&[], u64::MAX, &[7]),
+/// Values, a mask, and what stands behind a 9 then.
+const WORDS: [(&[i32], u64, &[i32]); 6] = [
+    (&[1, 2, 3], 13, &[9, 1, 3]),
+    (&[10, 11, 12, 13], 0b1010, &[9, 11, 13]),
+    (&[10, 11, 12], 0b1111_1001, &[9, 10]),
+    (&[10, 11, 12], 0, &[9]),
+    (&[10, 11, 12], u64::MAX, &[9, 10, 11, 12]),
+    (&[], u64::MAX, &[9]),
 ];
 
 /// The bits from one on.
@@ -193,11 +194,11 @@ fn extended(
     mask: u64,
 ) -> Result<Vec<i32>, Error> {
     assert!(rt; values.len() <= 64);
-    let mut out = Vec::from_slice(rt.alloc(), &[7])?;
+    let mut out = Vec::from_slice(rt.alloc(), &[9])?;
     match extend_from_word(&mut out, values, mask) {
         Ok(()) => Ok(out),
         Err(refusal) => {
-            check!(rt; out.as_slice() == [7].as_slice());
+            check!(rt; out.as_slice() == [9].as_slice());
             Err(refusal)
         }
     }
@@ -212,7 +213,7 @@ fn check_words(rt: &(impl Abort + Alloc<A = Global>)) {
     let all = made!(rt; extended(rt, &[5; 64], u64::MAX));
     check!(rt; all.len() == 65 && all.iter().skip(1).all(|value| *value == 5));
     let last = made!(rt; extended(rt, &[5; 64], 1 << 63 | 1 << 62));
-    check!(rt; last.as_slice() == [7, 5, 5].as_slice());
+    check!(rt; last.as_slice() == [9, 5, 5].as_slice());
 }
 
 pub fn check_filter(rt: &(impl Abort + Alloc<A = Global>)) {

@@ -1,6 +1,4 @@
-use Rattle.std.proofs.Common.{◌≡◌, ◌+◌, ◌≤◌, true, false, replicate, refl, ap, ◌∙◌, take, arith}
-use Rattle.arrow_types.specs.Rows.{mask}
-use Rattle.arrow_memory.specs.Sliced.{sliced}
+use Rattle.std.proofs.Common.{◌≡◌, ◌+◌, ◌≤◌, true, replicate, refl, ap, ◌∙◌, arith}
 use Rattle.arrow_flat.specs.Parts.{bits_of_slice}
 use Rattle.arrow_flat.proofs.RunLemmas.{more_values, more_nulls, run_same, runs_all}
 use Rattle.arrow_flat.proofs.array.equal_runs.Goals as goal

@@ -1,4 +1,4 @@
-use Rattle.std.proofs.Common.{◌≡◌, ◌+◌, ◌*◌, ◌/◌, ◌%◌, ◌^◌, ◌<◌, ◌≤◌, length, ap, ◌∙◌, arith}
+use Rattle.std.proofs.Common.{◌*◌, ◌/◌, ◌%◌, ◌^◌, ◌<◌, length, ap, ◌∙◌, arith}
 use Rattle.std.specs.Prelude.{bit_or, set}
 use Rattle.std.proofs.lemmas.Grind.{get_or_default_zero}
 use Rattle.arrow_memory.proofs.AppendLemmas.{one_word}

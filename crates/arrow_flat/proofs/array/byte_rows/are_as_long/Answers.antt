@@ -1,4 +1,4 @@
-use Rattle.std.proofs.Common.{◌≡◌, ◌+◌, ◌<◌, length, slice_index, refl, sym, ◌∙◌, arith}
+use Rattle.std.proofs.Common.{◌≡◌, ◌+◌, ◌<◌, length, slice_index, sym, ◌∙◌, arith}
 use Rattle.arrow_flat.specs.Pieces.{lengths}
 use Rattle.arrow_flat.proofs.LengthLemmas.{length-lengths, row_of_part}
 use Rattle.arrow_flat.proofs.PartsLemmas.{sliced_next}

@@ -1,4 +1,4 @@
-use Rattle.std.proofs.Common.{◌≡◌, ◌++◌, length, replicate, arith, rules}
+use Rattle.std.proofs.Common.{◌≡◌, ◌∙◌, ◌+◌, ◌++◌, ◌-◌, length, replicate, take, ap, arith, rules, sym}
 use Rattle.std.specs.Vec.{vec_len}
 use Rattle.arrow_memory.specs.Offsets.{last_of}
 use Rattle.arrow_memory.proofs.OffsetLemmas.{StoredAs, stored_constant}
@@ -7,8 +7,11 @@ use Rattle.arrow_memory.proofs.offset.Offsets.extend_constant.Goals as goal
 
 stored : (g : Over) (c : goal.In_ok-resize g) → StoredAs g.O.NativeOrd.number c.resize.new.self.items (c.args.self.now ++ replicate c.args.additional (last_of c.args.self.now))
 stored g c =
-    let long : length c.self.inside.offsets.items ≡ vec_len c.self.inside.offsets = search rules in
-    stored_constant g.O.NativeOrd.number c.self.inside.offsets.items c.resize.new.self.items c.args.self.now c.last-offset.result.now (vec_len c.self.inside.offsets) c.in-Some.len c.args.additional c.self.invariant c.self.view_is c.in_ok-resize.ensures.items long (omega (arith, c.in-Some.ensures.1, c.len.ensures)) c.last-offset.ensures
+    let room = c.reserve.new.self in
+    let count = c.len.result + c.args.additional in
+    let long : length c.self.inside.offsets.items ≡ vec_len room = ap length (sym c.reserve.ensures.items) ∙ (search rules) in
+    let items = c.in_ok-resize.ensures.items ∙ ap (λ xs. take count xs ++ replicate (count - vec_len room) c.last-offset.result.now) c.reserve.ensures.items in
+    stored_constant g.O.NativeOrd.number c.self.inside.offsets.items c.resize.new.self.items c.args.self.now c.last-offset.result.now (vec_len room) count c.args.additional c.self.invariant c.self.view_is items long (omega (arith, c.len.ensures)) c.last-offset.ensures
 
 pub invariant_of-self-2 : goal.invariant_of-self-2
 invariant_of-self-2 g c = (stored g c).held

@@ -1,8 +1,6 @@
-use Rattle.std.proofs.Common.{◌+◌, ◌≤◌, ◌<◌, length, pos, refl, sym, subst, ap, ◌∙◌, arith}
-use Rattle.std.proofs.lemmas.List.{length-map}
-use Rattle.std.specs.Bool.{Decides}
+use Rattle.std.proofs.Common.{◌+◌, ◌<◌, length, refl, sym, subst, ap, ◌∙◌}
 use Rattle.std.specs.List.{concat}
-use Rattle.arrow_flat.specs.ByteRows.{ByteParts, byte_slots, byte_slice, row_bytes}
+use Rattle.arrow_flat.specs.ByteRows.{ByteParts, byte_slice, row_bytes}
 use Rattle.arrow_flat.proofs.LengthLemmas.{part_decides, part_lengths_same}
 use Rattle.arrow_flat.proofs.PieceLemmas.{bytes_decide, rows_before}
 use Rattle.arrow_flat.proofs.array.byte_rows.ByteRowsValues.equal_range.Goals as goal

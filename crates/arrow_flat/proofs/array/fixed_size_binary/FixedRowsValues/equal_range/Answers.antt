@@ -1,4 +1,4 @@
-use Rattle.std.proofs.Common.{◌≡◌, ◌+◌, ◌≤◌, arith}
+use Rattle.std.proofs.Common.{◌≡◌, arith}
 use Rattle.std.specs.Bool.{Decides}
 use Rattle.arrow_flat.specs.FixedRows.{fixed_slice}
 use Rattle.arrow_flat.proofs.PieceLemmas.{bytes_decide}

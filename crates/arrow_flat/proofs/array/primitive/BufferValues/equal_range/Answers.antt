@@ -1,7 +1,5 @@
 use Rattle.std.proofs.Common.{◌≡◌, ◌+◌, ◌-◌, arith}
-use Rattle.std.specs.Bool.{Decides}
 use Rattle.std.proofs.lemmas.Slice.Eq.{slice_eq-Decides}
-use Rattle.arrow_memory.specs.Sliced.{sliced}
 use Rattle.arrow_flat.proofs.StoredLemmas.{slots_same, sliced-decides}
 use Rattle.arrow_flat.proofs.array.primitive.BufferValues.equal_range.Goals as goal
 

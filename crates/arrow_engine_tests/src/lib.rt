@@ -1,9 +1,0 @@
-//! Tests of `arrow_engine`, by its public calls alone.
-#![tactic(auto)]
-
-#[cfg(test)]
-mod check;
-#[cfg(test)]
-mod engine;
-#[cfg(test)]
-mod stream;

@@ -1,0 +1,6 @@
+use Rattle.arrow_types.specs.TypeOf.{type_of}
+use Rattle.arrow_logic.proofs.LayoutLemmas.{parts_supported}
+use Rattle.arrow_logic.proofs.laws.can_substring_is_supported.Goals as goal
+
+pub returns : goal.returns
+returns c has = parts_supported (type_of c.args.data_type.now) has
