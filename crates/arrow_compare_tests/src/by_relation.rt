@@ -16,8 +16,10 @@ const LEFT: &[u8] = b"ffttTfF_";
 
 const RIGHT: &[u8] = b"ftftfTFt";
 
-/// What the fixture makes of `f` and of `t` as a number.
-const NUMBERS: [i32; 2] = [54, 68];
+/// The numbers of `f` and of `t`: how far they stand behind `0`.
+const F: i32 = 54;
+
+const T: i32 = 68;
 
 /// A relation, and its answers: of both sides, and of the left one with `t` and with `f`.
 const CASES: [(Relation, &str, &str, &str); 6] = [
@@ -55,10 +57,10 @@ fn check_numbers(rt: &(impl Abort + Alloc<A = Global>)) {
         let made = made!(rt; primitive::relate(rt.alloc(), *by, &lhs, &rhs));
         check!(rt; made == want, *pairs);
         let want = made!(rt; truths(rt.alloc(), with_t.as_bytes()));
-        let made = made!(rt; primitive::relate_scalar(rt.alloc(), *by, &lhs, NUMBERS[1]));
+        let made = made!(rt; primitive::relate_scalar(rt.alloc(), *by, &lhs, T));
         check!(rt; made == want, *pairs);
         let want = made!(rt; truths(rt.alloc(), with_f.as_bytes()));
-        let made = made!(rt; primitive::relate_scalar(rt.alloc(), *by, &lhs, NUMBERS[0]));
+        let made = made!(rt; primitive::relate_scalar(rt.alloc(), *by, &lhs, F));
         check!(rt; made == want, *pairs);
     }
 }

@@ -80,7 +80,8 @@ fn marks_from(
     if letters.contains(&b'-') {
         return Ok(None);
     }
-    Ok(Some(truths_of(alloc, letters, len, before)?.values().clone()?))
+    let rows = truths_of(alloc, letters, len, before)?;
+    Ok(Some(rows.values().clone()?))
 }
 
 /// What is finished of so many rows: each of the three begins within a word of bits of its own.
@@ -116,6 +117,14 @@ fn finished_letter(of_equal: bool, out: u8, left: u8, right: u8) -> u8 {
     }
 }
 
+/// The letter of a row where some stand over and over.
+fn letter_at(letters: &[u8], row: usize) -> u8 {
+    match row.checked_rem(letters.len()) {
+        Some(place) => letters.get(place).copied().unwrap_or(b'-'),
+        None => b'-',
+    }
+}
+
 /// The rows by these letters.
 fn wanted(
     alloc: Global,
@@ -126,9 +135,9 @@ fn wanted(
     len: usize,
 ) -> Result<BooleanArray, Error> {
     let mut letters = Vec::new(alloc);
-    let sides = left.iter().cycle().zip(right.iter().cycle());
-    for (out, (left, right)) in out.iter().cycle().zip(sides).take(len) {
-        letters.push(finished_letter(of_equal, *out, *left, *right))?;
+    for row in 0..len {
+        let (lhs, rhs) = (letter_at(left, row), letter_at(right, row));
+        letters.push(finished_letter(of_equal, letter_at(out, row), lhs, rhs))?;
     }
     truths(alloc, &letters)
 }
@@ -138,7 +147,7 @@ fn check_rows(rt: &(impl Abort + Alloc<A = Global>), of_equal: bool) {
         for len in &LENGTHS {
             let want = made!(rt; wanted(rt.alloc(), of_equal, out, left, right, *len));
             let made = made!(rt; finished_rows(rt.alloc(), of_equal, out, left, right, *len));
-            check!(rt; made == want, *len);
+            check!(rt; made == want, (*left, *len));
         }
     }
 }

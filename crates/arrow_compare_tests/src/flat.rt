@@ -1,9 +1,7 @@
 //! Relations of truth values, numbers, texts and bytes, by the calls for arrays of each kind.
 
 use crate::asked::Asked;
-use arrow_flat::array::{
-    BinaryArray, BooleanArray, FlatArray, PrimitiveArray, Utf8Array, Values,
-};
+use arrow_flat::array::{BinaryArray, BooleanArray, FlatArray, PrimitiveArray, Utf8Array, Values};
 use arrow_relate::comparison::{binary, boolean, primitive, utf8};
 use arrow_types::error::Error;
 use arrow_types::types::{NativeOrd, Offset};

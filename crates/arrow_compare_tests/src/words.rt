@@ -169,12 +169,13 @@ fn check_texts<O: Offset>(
 ) {
     let lhs: Utf8Array<O> = made!(rt; rows_of(rt.alloc(), left));
     let rhs: Utf8Array<O> = made!(rt; rows_of(rt.alloc(), right));
+    let text = RISING[1];
     for asked in &ALL {
         let want = made!(rt; answers(rt.alloc(), *asked, LEFT, RIGHT, len));
         let made = made!(rt; relate_texts(rt.alloc(), *asked, &lhs, &rhs));
         check!(rt; made == want, (*asked, len));
         let want = made!(rt; answers(rt.alloc(), *asked, LEFT, b"1", len));
-        let made = made!(rt; relate_text(rt.alloc(), *asked, &lhs, RISING[1]));
+        let made = made!(rt; relate_text(rt.alloc(), *asked, &lhs, text));
         check!(rt; made == want, (*asked, len));
     }
 }
@@ -188,12 +189,13 @@ fn check_bytes<O: Offset>(
 ) {
     let lhs: BinaryArray<O> = made!(rt; rows_of(rt.alloc(), left));
     let rhs: BinaryArray<O> = made!(rt; rows_of(rt.alloc(), right));
+    let row = RISING[1].as_bytes();
     for asked in &ALL {
         let want = made!(rt; answers(rt.alloc(), *asked, LEFT, RIGHT, len));
         let made = made!(rt; relate_bytes(rt.alloc(), *asked, &lhs, &rhs));
         check!(rt; made == want, (*asked, len));
         let want = made!(rt; answers(rt.alloc(), *asked, LEFT, b"1", len));
-        let made = made!(rt; relate_row(rt.alloc(), *asked, &lhs, RISING[1].as_bytes()));
+        let made = made!(rt; relate_row(rt.alloc(), *asked, &lhs, row));
         check!(rt; made == want, (*asked, len));
     }
 }
