@@ -1,5 +1,5 @@
 -- Keys of dictionaries under construction: those of an array grow by the values of the dictionaries before its own ("Dictionary-encoded Layout").
-use Rattle.std.specs.Prelude.{ℕ, ◌≡◌, ◌+◌, ◌<◌, ◌≤◌, pos, List, map, slice_index_or}
+use Rattle.std.specs.Prelude.{ℕ, ◌+◌, ◌<◌, ◌≤◌, pos, List, map, slice_index_or}
 use Rattle.arrow_types.specs.declared.datatypes.IntegerType.{IntegerType}
 use Rattle.arrow_types.specs.declared.datatypes.IntegerType.TheVariants as integer
 use Rattle.arrow_types.specs.Slot.{Slot, Null, Number}
