@@ -109,7 +109,12 @@ fn try_widths(rt: &(impl Abort + Alloc<A = Global>)) -> Result<(), Error> {
     let lhs = array_of(rt.alloc(), Shape::Number, b"123")?;
     let rhs = longs(rt.alloc())?;
     let types = Err(Error::InvalidArgumentError(ArgumentFault::IfThenElseTypes));
-    try_letters(rt, choose(rt.alloc(), &predicate, &lhs, &rhs), Shape::Number, types)
+    try_letters(
+        rt,
+        choose(rt.alloc(), &predicate, &lhs, &rhs),
+        Shape::Number,
+        types,
+    )
 }
 
 /// A letter for each row of the long predicate, by what it is.
