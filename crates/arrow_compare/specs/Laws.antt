@@ -5,6 +5,6 @@ use Rattle.arrow_types.specs.Slot.{Slot}
 use Rattle.arrow_logic.specs.RowByRow.{row_by_row}
 
 -- what a comparison makes of each row and a scalar, both read through dictionaries, it makes of the rows and those of an array that repeats the scalar
-abbrev pub ComparesAsRepeated : (Slot → Slot → Slot) → List Slot → Slot → Type 0
-ComparesAsRepeated compare rows scalar =
+abbrev pub IsAsRepeated : (Slot → Slot → Slot) → List Slot → Slot → Type 0
+IsAsRepeated compare rows scalar =
     map (λ s. compare (through s) (through scalar)) rows ≡ row_by_row compare rows (replicate (length rows) scalar)

@@ -18,7 +18,7 @@ ghost use Rattle.arrow_relate.specs.Related.{relation_of};
 ghost use Rattle.arrow_relate.specs.Same.{differs, is_same};
 ghost use Rattle.arrow_compare.specs.Can.{CanEqual, CanEqualScalar, CanOrder, CanOrderScalar};
 ghost use Rattle.arrow_compare.specs.Compared.{HasEquality, HasEqualityThrough, HasOrder, HasOrderThrough};
-ghost use Rattle.arrow_compare.specs.Laws.{ComparesAsRepeated};
+ghost use Rattle.arrow_compare.specs.Laws.{IsAsRepeated};
 
 use crate::kinds::scalar_has_kind;
 use arrow_arrays::array::AnyArray;
@@ -73,9 +73,9 @@ pub fn gt_eq_is_negated_lt(lhs: &AnyArray, rhs: &AnyArray)
 pub fn scalar_is_repeated(by: Relation, lhs: &AnyArray, rhs: &AnyScalar)
     requires one_type { logical (any_array_type lhs.now) ≡ logical (meaning_of rhs.now).0 }
     requires has_equality { HasEquality (physical_type_of (any_array_type lhs.now)) }
-    ensures related { ComparesAsRepeated (related (relation_of by)) (any_array_rows lhs.now) (meaning_of rhs.now).1 }
-    ensures same { ComparesAsRepeated is_same (any_array_rows lhs.now) (meaning_of rhs.now).1 }
-    ensures differs { ComparesAsRepeated differs (any_array_rows lhs.now) (meaning_of rhs.now).1 }
+    ensures related { IsAsRepeated (related (relation_of by)) (any_array_rows lhs.now) (meaning_of rhs.now).1 }
+    ensures same { IsAsRepeated is_same (any_array_rows lhs.now) (meaning_of rhs.now).1 }
+    ensures differs { IsAsRepeated differs (any_array_rows lhs.now) (meaning_of rhs.now).1 }
 {
     // The kind of both follows from their data types.
     let _ = lhs.data_type();
