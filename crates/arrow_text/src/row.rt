@@ -1,0 +1,163 @@
+//! Rows as text: their validity, what is stored, and the rows of children that they name.
+
+use crate::bits::read_slice;
+use crate::fault::Fault;
+use crate::number::Element;
+use crate::piece::Piece;
+use arrow_memory::bitmap::{Bitmap, MutableBitmap};
+use std::alloc::Global;
+
+/// How many rows one text may stand for.
+const MOST: usize = 1 << 24;
+
+/// Rows parted by commas; `row*3` stands for three such rows.
+pub fn rows_in<'a>(alloc: Global, piece: Piece<'a>) -> Result<Vec<Piece<'a>>, Fault> {
+    let mut rows = Vec::new(alloc);
+    for item in piece.items(alloc, ',')? {
+        let parts = item.split(alloc, '*')?;
+        match parts.as_slice() {
+            [row] => rows.push(*row)?,
+            [row, count] => push_often(&mut rows, *row, count.integer()?)?,
+            _ => return Err(item.fault()),
+        }
+    }
+    Ok(rows)
+}
+
+/// Appends a row so often.
+pub(crate) fn push_often<'a>(
+    rows: &mut Vec<Piece<'a>>,
+    row: Piece<'a>,
+    count: usize,
+) -> Result<(), Fault> {
+    if count > MOST {
+        return Err(Fault::Usage);
+    }
+    for _ in 0..count {
+        rows.push(row)?;
+    }
+    Ok(())
+}
+
+impl<'a> Piece<'a> {
+    /// Whether the row is null: an underscore, behind which what is stored may stand.
+    pub fn is_null(self) -> bool {
+        self.text().starts_with('_')
+    }
+
+    /// What is stored in the row, if the text says it.
+    pub fn stored(self) -> Option<Piece<'a>> {
+        match self.strip_prefix("_") {
+            None => Some(self),
+            Some(rest) if rest.is_empty() => None,
+            Some(rest) => Some(rest),
+        }
+    }
+
+    /// The element that is stored in the row; zero where the text says none.
+    pub fn element<T: Element>(self) -> Result<T, Fault> {
+        match self.stored() {
+            Some(stored) => T::read(stored),
+            None => Ok(T::default()),
+        }
+    }
+
+    /// The null row that stores nothing, where this row stands.
+    pub fn nothing(self) -> Piece<'a> {
+        self.renamed("_")
+    }
+}
+
+/// A bit for each row, set where it is not null; none where no row is null, unless one is asked for.
+pub fn validity_of(
+    alloc: Global,
+    rows: &[Piece<'_>],
+    is_kept: bool,
+) -> Result<Option<Bitmap>, Fault> {
+    if !is_kept && !rows.iter().any(|row| row.is_null()) {
+        return Ok(None);
+    }
+    let mut bits = MutableBitmap::new(alloc);
+    for row in rows {
+        bits.push(!row.is_null())?;
+    }
+    Ok(Some(bits.into_bitmap()?))
+}
+
+/// The bytes that a text says: characters in quotes, or pairs of digits behind an `x`.
+pub fn read_bytes(alloc: Global, piece: Piece<'_>) -> Result<Vec<u8>, Fault> {
+    let mut bytes = Vec::new(alloc);
+    push_bytes(&mut bytes, piece)?;
+    Ok(bytes)
+}
+
+/// Appends the bytes that a text says.
+pub fn push_bytes(bytes: &mut Vec<u8>, piece: Piece<'_>) -> Result<(), Fault> {
+    match piece.strip_prefix("x") {
+        Some(digits) => push_pairs(bytes, digits),
+        None => push_quoted(bytes, piece.between("\"", "\"")?),
+    }
+}
+
+/// Appends a byte for each pair of digits to the base of 16.
+fn push_pairs(bytes: &mut Vec<u8>, digits: Piece<'_>) -> Result<(), Fault> {
+    let mut first = None;
+    for digit in digits.text().chars() {
+        let value = digit.to_digit(16).ok_or(digits.fault())?;
+        match first {
+            None => first = Some(value),
+            Some(high) => {
+                let byte = u8::try_from(high.saturating_mul(16).saturating_add(value));
+                bytes.push(byte.unwrap_or(u8::MAX))?;
+                first = None;
+            }
+        }
+    }
+    match first {
+        None => Ok(()),
+        Some(_) => Err(digits.fault()),
+    }
+}
+
+/// Appends the characters of a text that stood in quotes.
+fn push_quoted(bytes: &mut Vec<u8>, quoted: Piece<'_>) -> Result<(), Fault> {
+    let mut is_escaped = false;
+    for byte in quoted.text().bytes() {
+        match byte {
+            b'\\' if !is_escaped => {
+                is_escaped = true;
+                continue;
+            }
+            b'n' if is_escaped => bytes.push(b'\n')?,
+            b'"' | b'\\' if is_escaped => bytes.push(byte)?,
+            b'"' => return Err(quoted.fault()),
+            _ if is_escaped => return Err(quoted.fault()),
+            _ => bytes.push(byte)?,
+        }
+        is_escaped = false;
+    }
+    if is_escaped {
+        return Err(quoted.fault());
+    }
+    Ok(())
+}
+
+/// Whether a slice lies within so many rows, and where it begins and how long it is.
+pub fn slice_within(piece: Piece<'_>, len: usize) -> Result<(usize, usize), Fault> {
+    let (offset, count) = read_slice(piece)?;
+    if offset > len || count > len - offset {
+        return Err(Fault::Usage);
+    }
+    Ok((offset, count))
+}
+
+/// Appends so many zeros.
+pub(crate) fn push_zeros(bytes: &mut Vec<u8>, count: usize) -> Result<(), Fault> {
+    if count > MOST {
+        return Err(Fault::Usage);
+    }
+    for _ in 0..count {
+        bytes.push(0)?;
+    }
+    Ok(())
+}

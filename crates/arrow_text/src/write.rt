@@ -1,0 +1,307 @@
+//! Arrays, scalars and bitmaps as they are printed: by their type and rows alone.
+
+use crate::fault::Fault;
+use crate::number::Element;
+use crate::types::{DEEPEST, write_type};
+use arrow_arrays::array::{
+    AnyArray, DictionaryArray, FixedSizeListArray, ListArray, MapArray, StructArray, UnionArray,
+};
+use arrow_flat::array::{AnyPrimitive, PrimitiveArray};
+use arrow_flat::scalar::{AnyPrimitiveScalar, AnyScalar, PrimitiveScalar};
+use arrow_memory::bitmap::Bitmap;
+use std::fmt::Write;
+
+/// Appends an array's type and rows.
+pub fn write_array(out: &mut String, array: &AnyArray) -> Result<(), Fault> {
+    write_type(out, array.data_type())?;
+    write_items(out, array, (0, array.len()), DEEPEST)
+}
+
+/// Appends rows from one on to another, in brackets.
+fn write_items(
+    out: &mut String,
+    array: &AnyArray,
+    span: (usize, usize),
+    depth: usize,
+) -> Result<(), Fault> {
+    let (start, end) = span;
+    out.push('[')?;
+    for i in start..end {
+        if i > start {
+            out.push(',')?;
+        }
+        write_row(out, array, i, depth)?;
+    }
+    Ok(out.push(']')?)
+}
+
+/// Appends row `i`.
+fn write_row(out: &mut String, array: &AnyArray, i: usize, depth: usize) -> Result<(), Fault> {
+    if depth == 0 || i >= array.len() {
+        return Err(Fault::Usage);
+    }
+    match array {
+        AnyArray::Union(array) => write_variant(out, array, i, depth - 1),
+        array if !array.is_valid(i) => Ok(out.push('_')?),
+        AnyArray::List(array) => write_list(out, array, i, depth - 1),
+        AnyArray::Map(array) => write_map(out, array, i, depth - 1),
+        AnyArray::FixedSizeList(array) => write_fixed_list(out, array, i, depth - 1),
+        AnyArray::Struct(array) => write_struct(out, array, i, depth - 1),
+        AnyArray::Dictionary(array) => write_entry(out, array, i, depth - 1),
+        array => write_flat(out, array, i),
+    }
+}
+
+/// Appends a row of an array without children, which is not null.
+fn write_flat(out: &mut String, array: &AnyArray, i: usize) -> Result<(), Fault> {
+    match array {
+        AnyArray::Boolean(array) if i < array.len() => write_truth(out, array.value(i)),
+        AnyArray::Primitive(array) => write_any_number(out, array, i),
+        AnyArray::Utf8(array) if i < array.len() => write_text(out, array.value(i)),
+        AnyArray::LargeUtf8(array) if i < array.len() => write_text(out, array.value(i)),
+        AnyArray::Binary(array) if i < array.len() => write_bytes(out, array.value(i)),
+        AnyArray::LargeBinary(array) if i < array.len() => write_bytes(out, array.value(i)),
+        AnyArray::FixedSizeBinary(array) if i < array.len() => write_bytes(out, array.value(i)),
+        _ => Err(Fault::Usage),
+    }
+}
+
+/// Appends `t` or `f`.
+fn write_truth(out: &mut String, truth: bool) -> Result<(), Fault> {
+    Ok(out.push(if truth { 't' } else { 'f' })?)
+}
+
+/// What an expression says of the array, whatever its element type.
+macro_rules! of_any {
+    ($kind:ident, $any:expr, $array:ident => $result:expr) => {
+        match $any {
+            $kind::Int8($array) => $result,
+            $kind::Int16($array) => $result,
+            $kind::Int32($array) => $result,
+            $kind::Int64($array) => $result,
+            $kind::Int128($array) => $result,
+            $kind::Int256($array) => $result,
+            $kind::UInt8($array) => $result,
+            $kind::UInt16($array) => $result,
+            $kind::UInt32($array) => $result,
+            $kind::UInt64($array) => $result,
+            $kind::DaysMs($array) => $result,
+            $kind::MonthDayNano($array) => $result,
+        }
+    };
+}
+
+/// Appends an element.
+fn write_any_number(out: &mut String, array: &AnyPrimitive, i: usize) -> Result<(), Fault> {
+    of_any!(AnyPrimitive, array, array => write_number(out, array, i))
+}
+
+/// The same of one element type.
+fn write_number<T: Element>(
+    out: &mut String,
+    array: &PrimitiveArray<T>,
+    i: usize,
+) -> Result<(), Fault> {
+    if i < array.len() {
+        array.value(i).write(out)
+    } else {
+        Err(Fault::Usage)
+    }
+}
+
+/// Appends a text in quotes, with a backslash before each quote and backslash, and `\n` for a line feed.
+fn write_text(out: &mut String, text: &str) -> Result<(), Fault> {
+    out.push('"')?;
+    for c in text.chars() {
+        match c {
+            '"' => out.push_str("\\\"")?,
+            '\\' => out.push_str("\\\\")?,
+            '\n' => out.push_str("\\n")?,
+            c => out.push(c)?,
+        }
+    }
+    Ok(out.push('"')?)
+}
+
+/// Appends an `x` and two digits to the base of 16 for each byte.
+pub fn write_bytes(out: &mut String, bytes: &[u8]) -> Result<(), Fault> {
+    out.push('x')?;
+    for byte in bytes {
+        write!(out, "{byte:02x}")?;
+    }
+    Ok(())
+}
+
+/// Appends the items of a list.
+fn write_list(out: &mut String, array: &ListArray, i: usize, depth: usize) -> Result<(), Fault> {
+    if i >= array.len() {
+        return Err(Fault::Usage);
+    }
+    write_items(out, array.values(), array.offsets().start_end(i), depth)
+}
+
+/// Appends the entries of a map.
+fn write_map(out: &mut String, array: &MapArray, i: usize, depth: usize) -> Result<(), Fault> {
+    if i >= array.len() {
+        return Err(Fault::Usage);
+    }
+    write_items(out, array.field(), array.offsets().start_end(i), depth)
+}
+
+/// Appends the items of a list of a fixed size.
+fn write_fixed_list(
+    out: &mut String,
+    array: &FixedSizeListArray,
+    i: usize,
+    depth: usize,
+) -> Result<(), Fault> {
+    let size = array.size();
+    let start = i.saturating_mul(size);
+    write_items(
+        out,
+        array.values(),
+        (start, start.saturating_add(size)),
+        depth,
+    )
+}
+
+/// Appends the row of each field of a struct.
+fn write_struct(
+    out: &mut String,
+    array: &StructArray,
+    i: usize,
+    depth: usize,
+) -> Result<(), Fault> {
+    out.push('(')?;
+    for (place, child) in array.values().iter().enumerate() {
+        if place > 0 {
+            out.push(',')?;
+        }
+        write_row(out, child, i, depth)?;
+    }
+    Ok(out.push(')')?)
+}
+
+/// Appends the type id of a row of a union, and the row of its field.
+fn write_variant(
+    out: &mut String,
+    array: &UnionArray,
+    i: usize,
+    depth: usize,
+) -> Result<(), Fault> {
+    if i >= array.len() {
+        return Err(Fault::Usage);
+    }
+    let (field, place) = array.index(i);
+    let id = array.types().as_slice().get(i).copied().unwrap_or(-1);
+    write!(out, "{id}:")?;
+    match array.fields().get(field) {
+        Some(child) => write_row(out, child, place, depth),
+        None => Err(Fault::Usage),
+    }
+}
+
+/// Appends the value that a key names. An ampersand stands before a value that would read as a null.
+fn write_entry(
+    out: &mut String,
+    array: &DictionaryArray,
+    i: usize,
+    depth: usize,
+) -> Result<(), Fault> {
+    let keys = array.keys();
+    let key = if i < keys.len() { keys.key(i) } else { None };
+    let Some(key) = key else {
+        return Err(Fault::Usage);
+    };
+    let values = array.values();
+    if reads_as_null(values, key) {
+        out.push('&')?;
+    }
+    write_row(out, values, key, depth)
+}
+
+/// Whether the text of a row begins as that of a null or of a dictionary's null value does.
+fn reads_as_null(values: &AnyArray, i: usize) -> bool {
+    match values {
+        AnyArray::Union(_) => false,
+        values => i < values.len() && !values.is_valid(i),
+    }
+}
+
+/// Appends a bitmap.
+pub fn write_bits(out: &mut String, bits: &Bitmap) -> Result<(), Fault> {
+    out.push_str("bits[")?;
+    for i in 0..bits.len() {
+        write_truth(out, bits.get_bit(i))?;
+    }
+    Ok(out.push(']')?)
+}
+
+/// Appends a validity, or `none`.
+pub fn write_validity(out: &mut String, validity: Option<&Bitmap>) -> Result<(), Fault> {
+    match validity {
+        Some(bits) => write_bits(out, bits),
+        None => Ok(out.push_str("none")?),
+    }
+}
+
+/// Appends a scalar's type and its row.
+pub fn write_scalar(out: &mut String, scalar: &AnyScalar) -> Result<(), Fault> {
+    write_type(out, scalar.data_type())?;
+    out.push('(')?;
+    write_value(out, scalar, DEEPEST)?;
+    Ok(out.push(')')?)
+}
+
+/// Appends the row of a scalar.
+fn write_value(out: &mut String, scalar: &AnyScalar, depth: usize) -> Result<(), Fault> {
+    if depth == 0 {
+        return Err(Fault::Usage);
+    }
+    match scalar {
+        AnyScalar::Boolean(scalar) => match scalar.value() {
+            Some(truth) => write_truth(out, truth),
+            None => Ok(out.push('_')?),
+        },
+        AnyScalar::Primitive(scalar) => {
+            of_any!(AnyPrimitiveScalar, scalar, scalar => write_element(out, scalar))
+        }
+        AnyScalar::Utf8(scalar) => write_optional_text(out, scalar.value()),
+        AnyScalar::LargeUtf8(scalar) => write_optional_text(out, scalar.value()),
+        AnyScalar::Binary(scalar) => write_optional_bytes(out, scalar.value()),
+        AnyScalar::LargeBinary(scalar) => write_optional_bytes(out, scalar.value()),
+        AnyScalar::Dictionary(scalar) => match scalar.value() {
+            Some(value) => {
+                if !value.is_valid() {
+                    out.push('&')?;
+                }
+                write_value(out, value, depth - 1)
+            }
+            None => Ok(out.push('_')?),
+        },
+    }
+}
+
+/// Appends an element, or an underscore.
+fn write_element<T: Element>(out: &mut String, scalar: &PrimitiveScalar<T>) -> Result<(), Fault> {
+    match scalar.value() {
+        Some(value) => value.write(out),
+        None => Ok(out.push('_')?),
+    }
+}
+
+/// Appends a text, or an underscore.
+fn write_optional_text(out: &mut String, text: Option<&str>) -> Result<(), Fault> {
+    match text {
+        Some(text) => write_text(out, text),
+        None => Ok(out.push('_')?),
+    }
+}
+
+/// Appends bytes, or an underscore.
+fn write_optional_bytes(out: &mut String, bytes: Option<&[u8]>) -> Result<(), Fault> {
+    match bytes {
+        Some(bytes) => write_bytes(out, bytes),
+        None => Ok(out.push('_')?),
+    }
+}

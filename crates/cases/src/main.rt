@@ -1,0 +1,53 @@
+//! The program `cases`: answers the lines of standard input on standard output.
+#![tactic(auto)]
+
+use arrow_text::call::Call;
+use arrow_text::fault::Fault;
+use arrow_text::write::write_array;
+use std::alloc::Global;
+use std::io;
+use std::io::{BufWriter, Read, Write};
+
+/// Appends the answer to a line.
+fn answer(alloc: Global, line: &str, out: &mut String) -> Result<bool, Fault> {
+    let call = Call::read(alloc, line)?;
+    match call.name {
+        "try_new" => {
+            let array = call.array(alloc, 0)?;
+            write_array(out, &array)?;
+            Ok(true)
+        }
+        _ => Ok(false),
+    }
+}
+
+/// Writes the answer to a line: the line itself where it is a comment.
+fn answer_line(alloc: Global, line: &str, out: &mut String) -> Result<(), Fault> {
+    out.clear();
+    if line.is_empty() || line.starts_with('#') {
+        out.push_str(line)?;
+        return Ok(());
+    }
+    match answer(alloc, line, out) {
+        Ok(true) => Ok(()),
+        Ok(false) => Ok(out.push_str("unknown")?),
+        Err(fault) => {
+            out.clear();
+            Ok(write!(out, "{fault}")?)
+        }
+    }
+}
+
+fn main(rt: HostRuntime) -> io::Result<()> {
+    let mut text = String::new(rt.alloc());
+    rt.stdin().read_to_string(&mut text)?;
+    let mut writer = BufWriter::new(rt.alloc(), rt.stdout())?;
+    let mut out = String::new(rt.alloc());
+    for line in text.lines() {
+        if answer_line(rt.alloc(), line, &mut out).is_err() {
+            out.clear();
+        }
+        writeln!(&mut writer, "{out}")?;
+    }
+    writer.flush()
+}
