@@ -125,6 +125,7 @@ pub fn read_offsets<O: Integer>(alloc: Global, piece: Piece<'_>) -> Result<Vec<O
 }
 
 /// The array that a constructor makes of these parts: that of the data type, or one that is named.
+#[cycle(parts)]
 pub(crate) fn array_of_parts(
     alloc: Global,
     data_type: &DataType,
@@ -244,11 +245,13 @@ fn bytes_of<O: Offset + Integer, K: ByteKind>(
 }
 
 /// The child.
+#[cycle(parts)]
 fn child_of(alloc: Global, parts: &Parts<'_>, depth: usize) -> Result<Box<AnyArray>, Fault> {
     nested_array(alloc, parts.part("values")?, depth)
 }
 
 /// The children, parted by bars.
+#[cycle(parts)]
 fn children_of(alloc: Global, parts: &Parts<'_>, depth: usize) -> Result<Vec<AnyArray>, Fault> {
     let mut children = Vec::new(alloc);
     for child in parts.part("values")?.items(alloc, '|')? {
@@ -259,6 +262,7 @@ fn children_of(alloc: Global, parts: &Parts<'_>, depth: usize) -> Result<Vec<Any
 }
 
 /// Lists, with offsets of this kind's width.
+#[cycle(parts)]
 fn list_of(
     alloc: Global,
     data_type: &DataType,
@@ -286,6 +290,7 @@ fn any_offsets(
 }
 
 /// Lists of a fixed size.
+#[cycle(parts)]
 fn fixed_list_of(
     alloc: Global,
     data_type: &DataType,
@@ -299,6 +304,7 @@ fn fixed_list_of(
 }
 
 /// Maps.
+#[cycle(parts)]
 fn map_of(
     alloc: Global,
     data_type: &DataType,
@@ -313,6 +319,7 @@ fn map_of(
 }
 
 /// Structs.
+#[cycle(parts)]
 fn struct_of(
     alloc: Global,
     data_type: &DataType,
@@ -326,6 +333,7 @@ fn struct_of(
 }
 
 /// Unions: with offsets where these are given.
+#[cycle(parts)]
 fn union_of(
     alloc: Global,
     data_type: &DataType,
@@ -348,6 +356,7 @@ fn buffer_of<T: Integer>(alloc: Global, piece: Piece<'_>) -> Result<Buffer<T>, F
 }
 
 /// Dictionaries.
+#[cycle(parts)]
 fn dictionary_of(
     alloc: Global,
     data_type: &DataType,

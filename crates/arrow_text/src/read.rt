@@ -30,6 +30,7 @@ pub(crate) fn boxed(alloc: Global, array: AnyArray) -> Result<Box<AnyArray>, Fau
 }
 
 /// The array that a text says, whose parts nest at most so deep.
+#[cycle(parts)]
 pub(crate) fn nested_array(
     alloc: Global,
     piece: Piece<'_>,
@@ -56,6 +57,7 @@ fn take_slice(array: &mut AnyArray, slice: Piece<'_>) -> Result<(), Fault> {
 }
 
 /// The array that a text without slices says.
+#[cycle(parts)]
 fn whole_array(alloc: Global, body: Piece<'_>, depth: usize) -> Result<Box<AnyArray>, Fault> {
     if depth == 0 {
         return Err(body.fault());
@@ -77,6 +79,7 @@ fn whole_array(alloc: Global, body: Piece<'_>, depth: usize) -> Result<Box<AnyAr
 }
 
 /// An array of these rows, with a validity where a row is null or one is asked for.
+#[cycle(rows)]
 fn array_of_rows(
     alloc: Global,
     data_type: &DataType,
@@ -116,6 +119,7 @@ fn array_of_rows(
 }
 
 /// Lists of an item.
+#[cycle(rows)]
 fn lists(
     alloc: Global,
     data_type: &DataType,
@@ -133,6 +137,7 @@ fn lists(
 }
 
 /// Maps of entries.
+#[cycle(rows)]
 fn maps(
     alloc: Global,
     data_type: &DataType,
@@ -198,6 +203,7 @@ fn list_offsets(
 }
 
 /// Lists of so many items each.
+#[cycle(rows)]
 fn fixed_lists(
     alloc: Global,
     data_type: &DataType,
@@ -235,6 +241,7 @@ fn items_of_size<'a>(
 }
 
 /// Structs of fields.
+#[cycle(rows)]
 fn structs(
     alloc: Global,
     data_type: &DataType,
@@ -342,6 +349,7 @@ fn variant_of<'a>(
 }
 
 /// Unions of fields.
+#[cycle(rows)]
 fn unions(
     alloc: Global,
     data_type: &DataType,
@@ -390,6 +398,7 @@ fn places_of(alloc: Global, rows: &[(i8, Piece<'_>)]) -> Result<Buffer<i32>, Fau
 }
 
 /// Dictionaries whose values are the rows' own, in the order in which they come first.
+#[cycle(rows)]
 fn dictionaries(
     alloc: Global,
     data_type: &DataType,

@@ -20,6 +20,7 @@ pub fn read_scalar(alloc: Global, piece: Piece<'_>) -> Result<Box<AnyScalar>, Fa
 }
 
 /// A scalar whose parts nest at most so deep.
+#[cycle(scalar)]
 fn scalar_of(alloc: Global, piece: Piece<'_>, depth: usize) -> Result<Box<AnyScalar>, Fault> {
     if depth == 0 {
         return Err(piece.fault());
@@ -181,6 +182,7 @@ fn element<T: Element>(
 }
 
 /// A scalar by its value as it is: of a dictionary a scalar, or an element of a kind that is named.
+#[cycle(scalar)]
 fn scalar_of_parts(
     alloc: Global,
     data_type: &DataType,

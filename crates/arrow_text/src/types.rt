@@ -79,6 +79,7 @@ const INTERVALS: [(&str, IntervalUnit); 3] = [
 ];
 
 /// The type that a text says, nested at most so deep.
+#[cycle(read_type)]
 fn type_of(alloc: Global, piece: Piece<'_>, depth: usize) -> Result<DataType, Fault> {
     if depth == 0 {
         return Err(piece.fault());
@@ -104,11 +105,13 @@ fn type_of(alloc: Global, piece: Piece<'_>, depth: usize) -> Result<DataType, Fa
 }
 
 /// The type of a last part, in a box.
+#[cycle(read_type)]
 fn boxed_type(alloc: Global, piece: Piece<'_>, depth: usize) -> Result<Box<DataType>, Fault> {
     Ok(Box::new(alloc, type_of(alloc, piece, depth)?)?)
 }
 
 /// A field: a type that may stand behind a name, and before an exclamation mark where no row is null.
+#[cycle(read_type)]
 fn field_of(alloc: Global, piece: Piece<'_>, depth: usize) -> Result<Field, Fault> {
     let (piece, is_nullable) = match piece.strip_suffix("!") {
         Some(piece) => (piece, false),
@@ -125,6 +128,7 @@ fn field_of(alloc: Global, piece: Piece<'_>, depth: usize) -> Result<Field, Faul
 }
 
 /// The fields that stand behind one another.
+#[cycle(read_type)]
 fn fields_of(alloc: Global, parts: &[Piece<'_>], depth: usize) -> Result<Vec<Field>, Fault> {
     let mut fields = Vec::new(alloc);
     for part in parts {
@@ -134,6 +138,7 @@ fn fields_of(alloc: Global, parts: &[Piece<'_>], depth: usize) -> Result<Vec<Fie
 }
 
 /// A union of fields, each of which may have its type id before it.
+#[cycle(read_type)]
 fn union_of(
     alloc: Global,
     parts: &[Piece<'_>],
@@ -167,6 +172,7 @@ fn id_and_field(piece: Piece<'_>) -> Result<(Option<i32>, Piece<'_>), Fault> {
 }
 
 /// Lists of an item.
+#[cycle(read_type)]
 fn list_of(
     alloc: Global,
     word: Piece<'_>,
@@ -189,6 +195,7 @@ fn list_of(
 }
 
 /// A dictionary: the type of its keys and that of its values.
+#[cycle(read_type)]
 fn dictionary_of(
     alloc: Global,
     word: Piece<'_>,
@@ -204,6 +211,7 @@ fn dictionary_of(
 }
 
 /// A type by a name of its own, with metadata or none.
+#[cycle(read_type)]
 fn extension_of(
     alloc: Global,
     word: Piece<'_>,
@@ -278,6 +286,7 @@ fn word_of<T: PartialEq>(table: &[(&'static str, T)], value: &T) -> &'static str
 }
 
 /// Appends a data type that nests at most so deep.
+#[cycle(push_type)]
 fn push_type(out: &mut String, data_type: &DataType, depth: usize) -> Result<(), Fault> {
     if depth == 0 {
         return Err(Fault::Usage);
@@ -325,6 +334,7 @@ fn push_type(out: &mut String, data_type: &DataType, depth: usize) -> Result<(),
 }
 
 /// Appends a word and an item, and closes the bracket.
+#[cycle(push_type)]
 fn push_list(out: &mut String, word: &str, item: &Field, depth: usize) -> Result<(), Fault> {
     out.push_str(word)?;
     push_field(out, item, depth)?;
@@ -332,6 +342,7 @@ fn push_list(out: &mut String, word: &str, item: &Field, depth: usize) -> Result
 }
 
 /// Appends fields, with their type ids where there are some, and closes the bracket.
+#[cycle(push_type)]
 fn push_fields(
     out: &mut String,
     fields: &[Field],
@@ -352,6 +363,7 @@ fn push_fields(
 }
 
 /// Appends a field.
+#[cycle(push_type)]
 fn push_field(out: &mut String, field: &Field, depth: usize) -> Result<(), Fault> {
     let name = field.name();
     if name != ITEM {

@@ -18,6 +18,7 @@ pub fn write_array(out: &mut String, array: &AnyArray) -> Result<(), Fault> {
 }
 
 /// Appends rows from one on to another, in brackets.
+#[cycle(written)]
 fn write_items(
     out: &mut String,
     array: &AnyArray,
@@ -36,6 +37,7 @@ fn write_items(
 }
 
 /// Appends row `i`.
+#[cycle(written)]
 fn write_row(out: &mut String, array: &AnyArray, i: usize, depth: usize) -> Result<(), Fault> {
     if depth == 0 || i >= array.len() {
         return Err(Fault::Usage);
@@ -133,6 +135,7 @@ pub fn write_bytes(out: &mut String, bytes: &[u8]) -> Result<(), Fault> {
 }
 
 /// Appends the items of a list.
+#[cycle(written)]
 fn write_list(out: &mut String, array: &ListArray, i: usize, depth: usize) -> Result<(), Fault> {
     if i >= array.len() {
         return Err(Fault::Usage);
@@ -141,6 +144,7 @@ fn write_list(out: &mut String, array: &ListArray, i: usize, depth: usize) -> Re
 }
 
 /// Appends the entries of a map.
+#[cycle(written)]
 fn write_map(out: &mut String, array: &MapArray, i: usize, depth: usize) -> Result<(), Fault> {
     if i >= array.len() {
         return Err(Fault::Usage);
@@ -149,6 +153,7 @@ fn write_map(out: &mut String, array: &MapArray, i: usize, depth: usize) -> Resu
 }
 
 /// Appends the items of a list of a fixed size.
+#[cycle(written)]
 fn write_fixed_list(
     out: &mut String,
     array: &FixedSizeListArray,
@@ -166,6 +171,7 @@ fn write_fixed_list(
 }
 
 /// Appends the row of each field of a struct.
+#[cycle(written)]
 fn write_struct(
     out: &mut String,
     array: &StructArray,
@@ -183,6 +189,7 @@ fn write_struct(
 }
 
 /// Appends the type id of a row of a union, and the row of its field.
+#[cycle(written)]
 fn write_variant(
     out: &mut String,
     array: &UnionArray,
@@ -202,6 +209,7 @@ fn write_variant(
 }
 
 /// Appends the value that a key names. An ampersand stands before a value that would read as a null.
+#[cycle(written)]
 fn write_entry(
     out: &mut String,
     array: &DictionaryArray,
@@ -214,17 +222,28 @@ fn write_entry(
         return Err(Fault::Usage);
     };
     let values = array.values();
-    if reads_as_null(values, key) {
+    if reads_as_null(values, key, depth) {
         out.push('&')?;
     }
     write_row(out, values, key, depth)
 }
 
-/// Whether the text of a row begins as that of a null or of a dictionary's null value does.
-fn reads_as_null(values: &AnyArray, i: usize) -> bool {
+/// Whether the text of a row begins as that of a null or of a key that names one.
+fn reads_as_null(values: &AnyArray, i: usize, depth: usize) -> bool {
+    if depth == 0 || i >= values.len() {
+        return false;
+    }
     match values {
         AnyArray::Union(_) => false,
-        values => i < values.len() && !values.is_valid(i),
+        AnyArray::Dictionary(array) => {
+            let keys = array.keys();
+            let key = if i < keys.len() { keys.key(i) } else { None };
+            match key {
+                Some(key) => reads_as_null(array.values(), key, depth - 1),
+                None => true,
+            }
+        }
+        values => !values.is_valid(i),
     }
 }
 
@@ -272,13 +291,24 @@ fn write_value(out: &mut String, scalar: &AnyScalar, depth: usize) -> Result<(),
         AnyScalar::LargeBinary(scalar) => write_optional_bytes(out, scalar.value()),
         AnyScalar::Dictionary(scalar) => match scalar.value() {
             Some(value) => {
-                if !value.is_valid() {
+                if is_null_inside(value, depth - 1) {
                     out.push('&')?;
                 }
                 write_value(out, value, depth - 1)
             }
             None => Ok(out.push('_')?),
         },
+    }
+}
+
+/// Whether a scalar is null, or a dictionary's whose value is so.
+fn is_null_inside(scalar: &AnyScalar, depth: usize) -> bool {
+    match scalar {
+        AnyScalar::Dictionary(scalar) if depth > 0 => match scalar.value() {
+            Some(value) => is_null_inside(value, depth - 1),
+            None => true,
+        },
+        scalar => !scalar.is_valid(),
     }
 }
 
