@@ -23,16 +23,20 @@ pub struct Call<'a> {
 impl<'a> Call<'a> {
     /// Reads a line. No word stands between two spaces.
     pub fn read(alloc: Global, line: &'a str) -> Result<Call<'a>, Fault> {
-        let mut name = "";
-        let mut arguments = Vec::new(alloc);
+        let mut words = Vec::new(alloc);
         for word in Piece::new(0, line).split(alloc, ' ')? {
-            if name.is_empty() {
-                name = word.text();
-            } else if !word.is_empty() {
-                arguments.push(word)?;
+            if !word.is_empty() {
+                words.push(word)?;
             }
         }
-        Ok(Call { name, arguments })
+        if words.is_empty() {
+            return Err(Fault::Syntax(0));
+        }
+        let name = words.remove(0).text();
+        Ok(Call {
+            name,
+            arguments: words,
+        })
     }
 
     /// That there are so many arguments.

@@ -1,4 +1,3 @@
-use Rattle.std.proofs.Common.{◌+◌, ◌*◌}
 use Rattle.arrow_text.proofs.scalar.+scalar_of_row.Given as goal
 
 -- each call lowers the depth, or comes nearer to one that does

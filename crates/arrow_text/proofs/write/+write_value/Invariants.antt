@@ -1,4 +1,3 @@
-use Rattle.std.proofs.Common.{◌+◌, ◌*◌}
 use Rattle.arrow_text.proofs.write.+write_value.Given as goal
 
 -- each call lowers the depth, or comes nearer to one that does
