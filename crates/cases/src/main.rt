@@ -3,25 +3,19 @@
 
 use arrow_text::call::Call;
 use arrow_text::fault::Fault;
-use arrow_text::write::write_array;
 use std::alloc::Global;
 use std::io;
 use std::io::{BufWriter, Read, Write};
 
-/// Appends the answer to a line.
+/// Appends the answer to a line, and answers whether a call has its name.
 fn answer(alloc: Global, line: &str, out: &mut String) -> Result<bool, Fault> {
     let call = Call::read(alloc, line)?;
-    match call.name {
-        "try_new" => {
-            let array = call.array(alloc, 0)?;
-            write_array(out, &array)?;
-            Ok(true)
-        }
-        _ => Ok(false),
-    }
+    Ok(cases_arrays::answer(alloc, &call, out)?
+        || cases_select::answer(alloc, &call, out)?
+        || cases_logic::answer(alloc, &call, out)?)
 }
 
-/// Writes the answer to a line: the line itself where it is a comment.
+/// What stands for a line: the line itself where it is a comment, and otherwise its answer.
 fn answer_line(alloc: Global, line: &str, out: &mut String) -> Result<(), Fault> {
     out.clear();
     if line.is_empty() || line.starts_with('#') {

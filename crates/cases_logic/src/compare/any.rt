@@ -1,0 +1,135 @@
+//! Comparisons of rows of any type, where their data types have them.
+
+ghost use Rattle.std.specs.Prelude.{◌≡◌, ◌↔◌, IsTrue};
+ghost use Rattle.arrow_types.specs.ArrowType.{logical};
+ghost use Rattle.arrow_types.specs.TypeOf.{type_of};
+ghost use Rattle.arrow_flat.specs.AnyScalar.{meaning_of};
+ghost use Rattle.arrow_arrays.specs.Any.{any_array_type};
+ghost use Rattle.arrow_compare.specs.Compared.{HasEquality, HasEqualityThrough, HasOrder, HasOrderThrough};
+
+use crate::asked::Asked;
+use arrow_arrays::array::AnyArray;
+use arrow_compare::comparison;
+use arrow_flat::array::BooleanArray;
+use arrow_flat::scalar::AnyScalar;
+use arrow_relate::relation::Relation;
+use arrow_text::fault::Fault;
+use arrow_types::datatypes::{DataType, PhysicalType};
+use arrow_types::types::PrimitiveType;
+use std::alloc::Global;
+
+/// What is asked of the rows of two arrays. `Usage` unless both have as many rows and one data type, extensions around each
+/// apart, whose rows compare.
+pub(crate) fn relate(
+    alloc: Global,
+    asked: Asked,
+    lhs: &AnyArray,
+    rhs: &AnyArray,
+) -> Result<BooleanArray, Fault> {
+    if lhs.len() != rhs.len() || !are_of_one_type(lhs, rhs) {
+        return Err(Fault::Usage);
+    }
+    let layout = lhs.data_type().to_physical_type();
+    if !has_equality(layout) {
+        return Err(Fault::Usage);
+    }
+    Ok(match asked {
+        Asked::Same => comparison::eq_and_validity(alloc, lhs, rhs),
+        Asked::Differing => comparison::neq_and_validity(alloc, lhs, rhs),
+        Asked::Named(Relation::Eq) => comparison::eq(alloc, lhs, rhs),
+        Asked::Named(Relation::Neq) => comparison::neq(alloc, lhs, rhs),
+        _ if !has_order(layout) => return Err(Fault::Usage),
+        Asked::Named(Relation::Lt) => comparison::lt(alloc, lhs, rhs),
+        Asked::Named(Relation::LtEq) => comparison::lt_eq(alloc, lhs, rhs),
+        Asked::Named(Relation::Gt) => comparison::gt(alloc, lhs, rhs),
+        Asked::Named(Relation::GtEq) => comparison::gt_eq(alloc, lhs, rhs),
+        Asked::Given(_) => return Err(Fault::Usage),
+    }?)
+}
+
+/// What is asked of the rows of an array and a scalar. `Usage` unless both have one data type, extensions around each apart,
+/// whose rows compare, through dictionaries at any depth.
+pub(crate) fn relate_scalar(
+    alloc: Global,
+    asked: Asked,
+    lhs: &AnyArray,
+    rhs: &AnyScalar,
+) -> Result<BooleanArray, Fault> {
+    let left = lhs.data_type();
+    if !is_of_one_type(lhs, rhs) || !has_equality_through(left) {
+        return Err(Fault::Usage);
+    }
+    Ok(match asked {
+        Asked::Same => comparison::eq_scalar_and_validity(alloc, lhs, rhs),
+        Asked::Differing => comparison::neq_scalar_and_validity(alloc, lhs, rhs),
+        Asked::Named(Relation::Eq) => comparison::eq_scalar(alloc, lhs, rhs),
+        Asked::Named(Relation::Neq) => comparison::neq_scalar(alloc, lhs, rhs),
+        _ if !has_order_through(left) => return Err(Fault::Usage),
+        Asked::Named(Relation::Lt) => comparison::lt_scalar(alloc, lhs, rhs),
+        Asked::Named(Relation::LtEq) => comparison::lt_eq_scalar(alloc, lhs, rhs),
+        Asked::Named(Relation::Gt) => comparison::gt_scalar(alloc, lhs, rhs),
+        Asked::Named(Relation::GtEq) => comparison::gt_eq_scalar(alloc, lhs, rhs),
+        Asked::Given(_) => return Err(Fault::Usage),
+    }?)
+}
+
+/// Whether two arrays are of one data type, extensions around each apart.
+fn are_of_one_type(lhs: &AnyArray, rhs: &AnyArray) -> bool
+    ensures { IsTrue result → logical (any_array_type lhs.now) ≡ logical (any_array_type rhs.now) }
+{
+    *lhs.data_type().to_logical_type() == *rhs.data_type().to_logical_type()
+}
+
+/// Whether an array and a scalar are.
+fn is_of_one_type(lhs: &AnyArray, rhs: &AnyScalar) -> bool
+    ensures { IsTrue result → logical (any_array_type lhs.now) ≡ logical (meaning_of rhs.now).0 }
+{
+    *lhs.data_type().to_logical_type() == *rhs.data_type().to_logical_type()
+}
+
+/// Whether rows that lie so in memory are equal or not.
+fn has_equality(layout: PhysicalType) -> bool
+    ensures { IsTrue result ↔ HasEquality layout }
+{
+    match layout {
+        PhysicalType::Boolean
+        | PhysicalType::Primitive(_)
+        | PhysicalType::Utf8
+        | PhysicalType::LargeUtf8
+        | PhysicalType::Binary
+        | PhysicalType::LargeBinary => true,
+        _ => false,
+    }
+}
+
+/// Whether they stand in an order.
+fn has_order(layout: PhysicalType) -> bool
+    ensures { IsTrue result ↔ HasOrder layout }
+{
+    match layout {
+        PhysicalType::Primitive(PrimitiveType::DaysMs | PrimitiveType::MonthDayNano) => false,
+        _ => has_equality(layout),
+    }
+}
+
+/// Whether the rows of a type are equal or not, through dictionaries at any depth.
+fn has_equality_through(data_type: &DataType) -> bool
+    ensures { IsTrue result ↔ HasEqualityThrough (type_of data_type.now) }
+{
+    match data_type {
+        DataType::Dictionary(_, values, _) => has_equality_through(values),
+        DataType::Extension(_, inner, _) => has_equality_through(inner),
+        _ => has_equality(data_type.to_physical_type()),
+    }
+}
+
+/// Whether they stand in an order, through dictionaries at any depth.
+fn has_order_through(data_type: &DataType) -> bool
+    ensures { IsTrue result ↔ HasOrderThrough (type_of data_type.now) }
+{
+    match data_type {
+        DataType::Dictionary(_, values, _) => has_order_through(values),
+        DataType::Extension(_, inner, _) => has_order_through(inner),
+        _ => has_order(data_type.to_physical_type()),
+    }
+}

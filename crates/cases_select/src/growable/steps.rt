@@ -1,0 +1,106 @@
+//! Steps over a growable of any kind.
+
+ghost use Rattle.std.specs.Prelude.{◌≡◌};
+ghost use Rattle.arrow_arrays.specs.Any.{layouts_in};
+ghost use Rattle.cases_select.specs.Sources.{TakesRowsOf};
+
+use crate::growable::plan::Action;
+use arrow_arrays::array::AnyArray;
+use arrow_growable::growable::Growable;
+use arrow_text::fault::Fault;
+use arrow_text::write::write_array;
+use arrow_types::error::Error;
+
+/// Takes the steps over a growable of these arrays, and appends what each answers, with a space between two.
+pub(super) fn run_actions<'a, G: Growable<'a>>(
+    growable: &mut G,
+    arrays: &[&AnyArray],
+    actions: &[Action],
+    out: &mut String,
+) -> Result<(), Fault>
+    requires { TakesRowsOf (layouts_in arrays.now) (G.state growable.old).sources }
+{
+    for action in actions {
+        run_action(growable, arrays, *action, out)?;
+    }
+    Ok(())
+}
+
+/// Takes one step.
+fn run_action<'a, G: Growable<'a>>(
+    growable: &mut G,
+    arrays: &[&AnyArray],
+    action: Action,
+    out: &mut String,
+) -> Result<(), Fault>
+    requires { TakesRowsOf (layouts_in arrays.now) (G.state growable.old).sources }
+    ensures { (G.state growable.new).sources ≡ (G.state growable.old).sources }
+{
+    separate(out)?;
+    match action {
+        Action::Extend(index, start, len) => {
+            let outcome = extend(growable, arrays, index, start, len)?;
+            write_count(growable.len(), outcome, out)
+        }
+        Action::ExtendValidity(additional) => {
+            let outcome = growable.extend_validity(additional);
+            write_count(growable.len(), outcome, out)
+        }
+        Action::Len => write_count(growable.len(), Ok(()), out),
+        Action::AsBox => write_array_or_name(growable.as_box(), out),
+        Action::IntoArray => Err(Fault::Usage),
+    }
+}
+
+/// Appends a space, where something stands before it.
+pub(super) fn separate(out: &mut String) -> Result<(), Fault> {
+    if !out.is_empty() {
+        out.push(' ')?;
+    }
+    Ok(())
+}
+
+/// Appends rows of one of the arrays that are there.
+fn extend<'a, G: Growable<'a>>(
+    growable: &mut G,
+    arrays: &[&AnyArray],
+    index: usize,
+    start: usize,
+    len: usize,
+) -> Result<Result<(), Error>, Fault>
+    requires { TakesRowsOf (layouts_in arrays.now) (G.state growable.old).sources }
+    ensures { (G.state growable.new).sources ≡ (G.state growable.old).sources }
+{
+    if index >= arrays.len() {
+        return Err(Fault::Usage);
+    }
+    let array = arrays[index];
+    let rows = array.len();
+    if start > rows || len > rows - start {
+        return Err(Fault::Usage);
+    }
+    Ok(growable.extend(index, start, len))
+}
+
+/// Appends how many rows there are, or the name of an error.
+fn write_count(count: usize, outcome: Result<(), Error>, out: &mut String) -> Result<(), Fault> {
+    match outcome {
+        Ok(()) => write!(out, "{count}")?,
+        Err(error) => write!(out, "{error:?}")?,
+    }
+    Ok(())
+}
+
+/// Appends an array, or the name of an error.
+pub(super) fn write_array_or_name(
+    outcome: Result<AnyArray, Error>,
+    out: &mut String,
+) -> Result<(), Fault> {
+    match outcome {
+        Ok(array) => write_array(out, &array),
+        Err(error) => {
+            write!(out, "{error:?}")?;
+            Ok(())
+        }
+    }
+}
