@@ -1,7 +1,5 @@
 //! Calls of buffers, whose values are those of arrays of 32-bit integers, and bytes that are copied a few at a time.
 
-ghost use Rattle.std.specs.Prelude.{◌≤◌};
-
 use crate::within::check_within;
 use arrow_arrays::array::AnyArray;
 use arrow_flat::array::AnyPrimitive;
