@@ -2,7 +2,6 @@
 
 use arrow_tool::engine::{RunFault, run, status};
 use arrow_tool::stream::{Fault, Sink, Source};
-use arrow_types_fixture::check;
 use std::alloc::{AllocError, Global};
 use std::process::Abort;
 

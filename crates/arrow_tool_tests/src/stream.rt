@@ -1,7 +1,6 @@
 //! What is tested of guarded streams.
 
 use arrow_tool::stream::{Fault, Guarded, Sink, Source};
-use arrow_types_fixture::check;
 use std::io::{self, ErrorKind, Read, Write};
 
 /// A stream that fails at each call.

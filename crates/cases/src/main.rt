@@ -10,9 +10,11 @@ use std::io::{BufWriter, Read, Write};
 /// Appends the answer to a line, and answers whether a call has its name.
 fn answer(alloc: Global, line: &str, out: &mut String) -> Result<bool, Fault> {
     let call = Call::read(alloc, line)?;
-    Ok(cases_arrays::answer(alloc, &call, out)?
-        || cases_select::answer(alloc, &call, out)?
-        || cases_logic::answer(alloc, &call, out)?)
+    Ok(
+        cases_arrays::answer(alloc, &call, out)?
+            || cases_select::answer(alloc, &call, out)?
+            || cases_logic::answer(alloc, &call, out)?,
+    )
 }
 
 /// What stands for a line: the line itself where it is a comment, and otherwise its answer.

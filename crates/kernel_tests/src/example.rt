@@ -1,0 +1,50 @@
+//! The example of the front page.
+
+use arrow_arrays::array::AnyArray;
+use arrow_flat::array::{AnyPrimitive, BooleanArray, PrimitiveArray};
+use arrow_memory::bitmap::Bitmap;
+use arrow_memory::buffer::Buffer;
+use arrow_select::concatenate::concatenate;
+use arrow_select::filter::filter;
+use arrow_types::datatypes::DataType;
+use arrow_types::{ArgumentFault, Error};
+use std::alloc::Global;
+
+/// Numbers, as an array of any type.
+fn numbers(alloc: Global, values: Vec<i32>) -> Result<AnyArray, Error> {
+    let values = Buffer::from_vec(alloc, values)?;
+    let array = PrimitiveArray::try_new(DataType::Int32, values, None)?;
+    Ok(AnyArray::Primitive(AnyPrimitive::Int32(array)))
+}
+
+/// The rows at which the mask is true.
+fn kept(alloc: Global, array: &AnyArray, mask: &[bool]) -> Result<AnyArray, Error> {
+    let mask = Bitmap::from_bools(alloc, mask)?;
+    let mask = BooleanArray::try_new(DataType::Boolean, mask, None)?;
+    if mask.len() != array.len() {
+        return Err(Error::InvalidArgumentError(ArgumentFault::Lengths));
+    }
+    filter(alloc, array, &mask)
+}
+
+/// The numbers at which a mask is true.
+fn kept_numbers(alloc: Global, values: &[i32], mask: &[bool]) -> Result<Box<AnyArray>, Error> {
+    let array = numbers(alloc, Vec::from_slice(alloc, values)?)?;
+    Ok(Box::new(alloc, kept(alloc, &array, mask)?)?)
+}
+
+/// Those of two arrays, one behind the other.
+fn joined(alloc: Global) -> Result<Box<AnyArray>, Error> {
+    let low = kept_numbers(alloc, &[5, 6, 7], &[true, false, false])?;
+    let high = kept_numbers(alloc, &[8, 9], &[true, false])?;
+    Ok(Box::new(alloc, concatenate(alloc, &[&low, &high])?)?)
+}
+
+#[test]
+fn example(rt: HostRuntime) {
+    let both = made!(&rt; joined(rt.alloc()));
+    let AnyArray::Primitive(AnyPrimitive::Int32(rows)) = &*both else {
+        panic!(rt; "no array of numbers");
+    };
+    check!(&rt; rows.values().as_slice() == [5, 8].as_slice());
+}
