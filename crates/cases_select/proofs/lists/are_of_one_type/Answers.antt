@@ -1,4 +1,4 @@
-use Rattle.std.proofs.Common.{arith, rules, Bor, map}
+use Rattle.std.proofs.Common.{arith, Bor}
 use Rattle.std.proofs.lemmas.List.{length-map}
 use Rattle.arrow_arrays.specs.Any.{layout_of}
 use Rattle.arrow_growable.proofs.MakeLemmas.{one_type_of}
