@@ -2,16 +2,39 @@
 
 use crate::bits::{read_bits, read_validity};
 use crate::fault::Fault;
+use crate::given::{Array, Arrays, Pair, Scalar};
 use crate::number::Integer;
 use crate::piece::Piece;
 use crate::read::read_array;
 use crate::scalar::read_scalar;
-use crate::types::read_type;
-use arrow_arrays::array::AnyArray;
-use arrow_flat::scalar::AnyScalar;
+use crate::types::{find, read_type};
 use arrow_memory::bitmap::Bitmap;
 use arrow_types::datatypes::DataType;
 use std::alloc::Global;
+
+/// What answers the calls of one name: it reads the arguments, tests each condition of the call, and appends what the call
+/// answers.
+pub type Answer = fn(Global, &Call<'_>, &mut String) -> Result<(), Fault>;
+
+/// Appends the answer that stands beside the call's name in a table; `false` where none does.
+///
+/// # Errors
+/// The fault of the arguments, a condition of the call that does not hold, or its refusal. `out` may then have part of
+/// an answer.
+pub fn answer_by(
+    alloc: Global,
+    table: &[(&str, Answer)],
+    call: &Call<'_>,
+    out: &mut String,
+) -> Result<bool, Fault> {
+    match find(table, call.name) {
+        Some(answer) => {
+            answer(alloc, call, out)?;
+            Ok(true)
+        }
+        None => Ok(false),
+    }
+}
 
 /// A call's name, and its arguments.
 #[derive(Drop)]
@@ -58,19 +81,40 @@ impl<'a> Call<'a> {
         self.argument(i)?.integer()
     }
 
+    /// Arguments `i` and the one behind it, where a part begins and how long it is.
+    pub fn range(&self, i: usize) -> Result<(usize, usize), Fault> {
+        let start = self.integer(i)?;
+        Ok((start, self.integer(i.saturating_add(1))?))
+    }
+
     /// Argument `i`, an array.
-    pub fn array(&self, alloc: Global, i: usize) -> Result<Box<AnyArray>, Fault> {
-        read_array(alloc, self.argument(i)?)
+    pub fn array(&self, alloc: Global, i: usize) -> Result<Array, Fault> {
+        let array = read_array(alloc, self.argument(i)?)?;
+        Ok(Array { array })
+    }
+
+    /// The only argument, an array.
+    pub fn only_array(&self, alloc: Global) -> Result<Array, Fault> {
+        self.takes(1)?;
+        self.array(alloc, 0)
+    }
+
+    /// The only two arguments, arrays.
+    pub fn pair(&self, alloc: Global) -> Result<Pair, Fault> {
+        self.takes(2)?;
+        let left = read_array(alloc, self.argument(0)?)?;
+        let right = read_array(alloc, self.argument(1)?)?;
+        Ok(Pair { left, right })
     }
 
     /// The arguments from one on, all of them arrays.
-    pub fn arrays(&self, alloc: Global, from: usize) -> Result<Vec<AnyArray>, Fault> {
+    pub fn arrays(&self, alloc: Global, from: usize) -> Result<Arrays, Fault> {
         let mut arrays = Vec::new(alloc);
         for argument in self.arguments.iter().skip(from) {
             let array = read_array(alloc, *argument)?;
             arrays.push(Box::into_inner(array))?;
         }
-        Ok(arrays)
+        Ok(Arrays { arrays })
     }
 
     /// Argument `i`, a data type.
@@ -89,7 +133,14 @@ impl<'a> Call<'a> {
     }
 
     /// Argument `i`, a scalar.
-    pub fn scalar(&self, alloc: Global, i: usize) -> Result<Box<AnyScalar>, Fault> {
-        read_scalar(alloc, self.argument(i)?)
+    pub fn scalar(&self, alloc: Global, i: usize) -> Result<Scalar, Fault> {
+        let scalar = read_scalar(alloc, self.argument(i)?)?;
+        Ok(Scalar { scalar })
+    }
+
+    /// The only argument, a bitmap.
+    pub fn only_bits(&self, alloc: Global) -> Result<Bitmap, Fault> {
+        self.takes(1)?;
+        self.bits(alloc, 0)
     }
 }

@@ -5,6 +5,7 @@ pub mod bits;
 pub mod call;
 pub mod fault;
 mod flat;
+pub mod given;
 pub mod number;
 pub mod parts;
 pub mod piece;

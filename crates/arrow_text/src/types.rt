@@ -19,7 +19,7 @@ pub fn read_type(alloc: Global, piece: Piece<'_>) -> Result<DataType, Fault> {
 }
 
 /// What stands beside a word in a table.
-pub(crate) fn find<'a, T>(table: &'a [(&str, T)], word: &str) -> Option<&'a T> {
+pub fn find<'a, T>(table: &'a [(&str, T)], word: &str) -> Option<&'a T> {
     for (name, found) in table {
         if *name == word {
             return Some(found);

@@ -6,10 +6,29 @@ use crate::types::{DEEPEST, write_type};
 use arrow_arrays::array::{
     AnyArray, DictionaryArray, FixedSizeListArray, ListArray, MapArray, StructArray, UnionArray,
 };
-use arrow_flat::array::{AnyPrimitive, PrimitiveArray};
+use arrow_flat::array::{AnyPrimitive, BooleanArray, PrimitiveArray};
 use arrow_flat::scalar::{AnyPrimitiveScalar, AnyScalar, PrimitiveScalar};
 use arrow_memory::bitmap::Bitmap;
-use std::fmt::Write;
+use arrow_types::error::Error;
+use std::fmt::{Display, Write};
+
+/// Appends a value as it displays itself.
+pub fn show<T: Display + Drop>(out: &mut String, value: T) -> Result<(), Fault> {
+    Ok(write!(out, "{value}")?)
+}
+
+/// Appends the array that a call made, unless it was refused.
+pub fn write_made(out: &mut String, outcome: Result<AnyArray, Error>) -> Result<(), Fault> {
+    match outcome {
+        Ok(array) => write_array(out, &array),
+        Err(error) => Err(Fault::Refused(error)),
+    }
+}
+
+/// Appends the truth values that a call made, unless it was refused.
+pub fn write_truths(out: &mut String, outcome: Result<BooleanArray, Error>) -> Result<(), Fault> {
+    write_made(out, outcome.map(AnyArray::Boolean))
+}
 
 /// Appends an array's type and rows.
 pub fn write_array(out: &mut String, array: &AnyArray) -> Result<(), Fault> {
