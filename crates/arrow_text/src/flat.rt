@@ -3,16 +3,16 @@
 use crate::fault::Fault;
 use crate::number::Element;
 use crate::piece::Piece;
-use crate::read::boxed;
+use crate::read::{boxed, offsets_of};
 use crate::row::{push_bytes, push_zeros, validity_of};
 use arrow_arrays::array::AnyArray;
 use arrow_flat::array::{
-    AnyPrimitive, Binary, BooleanArray, ByteKind, ByteRows, FixedSizeBinaryArray, FlatArray,
-    NullArray, PrimitiveArray, Text,
+    AnyPrimitive, BooleanArray, ByteKind, ByteRows, FixedSizeBinaryArray, FlatArray, NullArray,
+    PrimitiveArray,
 };
-use arrow_memory::bitmap::MutableBitmap;
+use arrow_memory::bitmap::{Bitmap, MutableBitmap};
 use arrow_memory::buffer::Buffer;
-use arrow_memory::offset::Offsets;
+use arrow_memory::offset::OffsetsBuffer;
 use arrow_types::datatypes::{DataType, PhysicalType};
 use arrow_types::types::{Offset, PrimitiveType};
 use std::alloc::Global;
@@ -28,21 +28,13 @@ pub(crate) fn flat_rows(
         PhysicalType::Null => nulls(alloc, data_type, rows),
         PhysicalType::Boolean => truths(alloc, data_type, rows, is_marked),
         PhysicalType::Primitive(of) => primitives(alloc, data_type, of, rows, is_marked),
-        PhysicalType::Utf8 => {
-            let array = byte_rows::<i32, Text>(alloc, data_type, rows, is_marked)?;
-            boxed(alloc, AnyArray::Utf8(array))
-        }
+        PhysicalType::Utf8 => byte_rows(alloc, data_type, rows, is_marked, AnyArray::Utf8),
         PhysicalType::LargeUtf8 => {
-            let array = byte_rows::<i64, Text>(alloc, data_type, rows, is_marked)?;
-            boxed(alloc, AnyArray::LargeUtf8(array))
+            byte_rows(alloc, data_type, rows, is_marked, AnyArray::LargeUtf8)
         }
-        PhysicalType::Binary => {
-            let array = byte_rows::<i32, Binary>(alloc, data_type, rows, is_marked)?;
-            boxed(alloc, AnyArray::Binary(array))
-        }
+        PhysicalType::Binary => byte_rows(alloc, data_type, rows, is_marked, AnyArray::Binary),
         PhysicalType::LargeBinary => {
-            let array = byte_rows::<i64, Binary>(alloc, data_type, rows, is_marked)?;
-            boxed(alloc, AnyArray::LargeBinary(array))
+            byte_rows(alloc, data_type, rows, is_marked, AnyArray::LargeBinary)
         }
         _ => Err(Fault::Usage),
     }
@@ -53,8 +45,11 @@ fn nulls(alloc: Global, data_type: &DataType, rows: &[Piece<'_>]) -> Result<Box<
     if let Some(row) = rows.iter().find(|row| row.text() != "_") {
         return Err(row.fault());
     }
-    let array = NullArray::try_new(data_type.clone()?, rows.len())?;
-    boxed(alloc, AnyArray::Null(array))
+    let data_type = data_type.clone()?;
+    boxed(
+        alloc,
+        NullArray::try_new(data_type, rows.len()).map(AnyArray::Null),
+    )
 }
 
 /// Truth values.
@@ -64,35 +59,48 @@ fn truths(
     rows: &[Piece<'_>],
     is_marked: bool,
 ) -> Result<Box<AnyArray>, Fault> {
-    let mut bits = MutableBitmap::new(alloc);
-    for row in rows {
-        let bit = match row.stored() {
-            Some(stored) => stored.truth()?,
-            None => false,
-        };
-        bits.push(bit)?;
-    }
     let validity = validity_of(alloc, rows, is_marked)?;
-    let array = BooleanArray::try_new(data_type.clone()?, bits.into_bitmap()?, validity)?;
-    boxed(alloc, AnyArray::Boolean(array))
+    let bits = bits_of(alloc, rows)?;
+    let data_type = data_type.clone()?;
+    boxed(
+        alloc,
+        BooleanArray::try_new(data_type, bits, validity).map(AnyArray::Boolean),
+    )
 }
 
-/// A primitive array of an element type that is known when the program runs.
+/// A bit for each row: not set where nothing is stored.
+fn bits_of(alloc: Global, rows: &[Piece<'_>]) -> Result<Bitmap, Fault> {
+    let mut bits = MutableBitmap::new(alloc);
+    for row in rows {
+        bits.push(truth_of(*row)?)?;
+    }
+    Ok(bits.into_bitmap()?)
+}
+
+/// The truth value that is stored in a row; false where nothing is.
+fn truth_of(row: Piece<'_>) -> Result<bool, Fault> {
+    match row.stored() {
+        Some(stored) => stored.truth(),
+        None => Ok(false),
+    }
+}
+
+/// A call for the element type that is known when the program runs: its last argument is what makes one of any type.
 macro_rules! of_element {
-    ($of:expr, $read:ident ( $($given:expr),* )) => {
+    ($kind:ident, $of:expr, $read:ident ( $($given:expr),* )) => {
         match $of {
-            PrimitiveType::Int8 => Ok(AnyPrimitive::Int8($read($($given),*)?)),
-            PrimitiveType::Int16 => Ok(AnyPrimitive::Int16($read($($given),*)?)),
-            PrimitiveType::Int32 => Ok(AnyPrimitive::Int32($read($($given),*)?)),
-            PrimitiveType::Int64 => Ok(AnyPrimitive::Int64($read($($given),*)?)),
-            PrimitiveType::Int128 => Ok(AnyPrimitive::Int128($read($($given),*)?)),
-            PrimitiveType::Int256 => Ok(AnyPrimitive::Int256($read($($given),*)?)),
-            PrimitiveType::UInt8 => Ok(AnyPrimitive::UInt8($read($($given),*)?)),
-            PrimitiveType::UInt16 => Ok(AnyPrimitive::UInt16($read($($given),*)?)),
-            PrimitiveType::UInt32 => Ok(AnyPrimitive::UInt32($read($($given),*)?)),
-            PrimitiveType::UInt64 => Ok(AnyPrimitive::UInt64($read($($given),*)?)),
-            PrimitiveType::DaysMs => Ok(AnyPrimitive::DaysMs($read($($given),*)?)),
-            PrimitiveType::MonthDayNano => Ok(AnyPrimitive::MonthDayNano($read($($given),*)?)),
+            PrimitiveType::Int8 => $read($($given,)* $kind::Int8),
+            PrimitiveType::Int16 => $read($($given,)* $kind::Int16),
+            PrimitiveType::Int32 => $read($($given,)* $kind::Int32),
+            PrimitiveType::Int64 => $read($($given,)* $kind::Int64),
+            PrimitiveType::Int128 => $read($($given,)* $kind::Int128),
+            PrimitiveType::Int256 => $read($($given,)* $kind::Int256),
+            PrimitiveType::UInt8 => $read($($given,)* $kind::UInt8),
+            PrimitiveType::UInt16 => $read($($given,)* $kind::UInt16),
+            PrimitiveType::UInt32 => $read($($given,)* $kind::UInt32),
+            PrimitiveType::UInt64 => $read($($given,)* $kind::UInt64),
+            PrimitiveType::DaysMs => $read($($given,)* $kind::DaysMs),
+            PrimitiveType::MonthDayNano => $read($($given,)* $kind::MonthDayNano),
             _ => Err(Fault::Usage),
         }
     };
@@ -108,19 +116,7 @@ fn primitives(
     rows: &[Piece<'_>],
     is_marked: bool,
 ) -> Result<Box<AnyArray>, Fault> {
-    let array = any_numbers(alloc, data_type, of, rows, is_marked)?;
-    boxed(alloc, AnyArray::Primitive(array))
-}
-
-/// The elements of rows, of a type that is known when the program runs.
-fn any_numbers(
-    alloc: Global,
-    data_type: &DataType,
-    of: PrimitiveType,
-    rows: &[Piece<'_>],
-    is_marked: bool,
-) -> Result<AnyPrimitive, Fault> {
-    of_element!(of, numbers(alloc, data_type, rows, is_marked))
+    of_element!(AnyPrimitive, of, numbers(alloc, data_type, rows, is_marked))
 }
 
 /// The elements of rows.
@@ -129,14 +125,35 @@ fn numbers<T: Element>(
     data_type: &DataType,
     rows: &[Piece<'_>],
     is_marked: bool,
-) -> Result<PrimitiveArray<T>, Fault> {
+    wrap: fn(PrimitiveArray<T>) -> AnyPrimitive,
+) -> Result<Box<AnyArray>, Fault> {
+    let validity = validity_of(alloc, rows, is_marked)?;
+    let values = elements_of(alloc, rows)?;
+    primitive(alloc, data_type, values, validity, wrap)
+}
+
+/// What is stored in each row.
+fn elements_of<T: Element>(alloc: Global, rows: &[Piece<'_>]) -> Result<Buffer<T>, Fault> {
     let mut values = Vec::with_capacity(alloc, rows.len())?;
     for row in rows {
         values.push(row.element::<T>()?)?;
     }
-    let values = Buffer::from_vec(alloc, values)?;
-    let validity = validity_of(alloc, rows, is_marked)?;
-    Ok(PrimitiveArray::<T>::try_new(data_type.clone()?, values, validity)?)
+    Ok(Buffer::from_vec(alloc, values)?)
+}
+
+/// A primitive array of these parts.
+pub(crate) fn primitive<T: Element>(
+    alloc: Global,
+    data_type: &DataType,
+    values: Buffer<T>,
+    validity: Option<Bitmap>,
+    wrap: fn(PrimitiveArray<T>) -> AnyPrimitive,
+) -> Result<Box<AnyArray>, Fault> {
+    let data_type = data_type.clone()?;
+    match PrimitiveArray::<T>::try_new(data_type, values, validity) {
+        Ok(array) => Ok(Box::new(alloc, AnyArray::Primitive(wrap(array)))?),
+        Err(error) => Err(Fault::Refused(error)),
+    }
 }
 
 /// Texts or bytes.
@@ -145,20 +162,48 @@ fn byte_rows<O: Offset, K: ByteKind>(
     data_type: &DataType,
     rows: &[Piece<'_>],
     is_marked: bool,
-) -> Result<FlatArray<ByteRows<O, K>>, Fault> {
-    let mut offsets = Offsets::<O>::with_capacity(alloc, rows.len())?;
-    let mut bytes = Vec::new(alloc);
+    wrap: fn(FlatArray<ByteRows<O, K>>) -> AnyArray,
+) -> Result<Box<AnyArray>, Fault> {
+    let validity = validity_of(alloc, rows, is_marked)?;
+    let (bytes, lengths) = bytes_of(alloc, rows)?;
+    let bytes = Buffer::from_vec(alloc, bytes)?;
+    let offsets = offsets_of::<O>(alloc, &lengths)?;
+    bytes_array(alloc, data_type, offsets, bytes, validity, wrap)
+}
+
+/// The bytes of all rows, and how many each row has: none where nothing is stored.
+fn bytes_of(alloc: Global, rows: &[Piece<'_>]) -> Result<(Vec<u8>, Vec<usize>), Fault> {
+    let (mut bytes, mut lengths) = (Vec::new(alloc), Vec::new(alloc));
     for row in rows {
         let start = bytes.len();
-        if let Some(stored) = row.stored() {
-            push_bytes(&mut bytes, stored)?;
-        }
-        offsets.try_push_usize(bytes.len().saturating_sub(start))?;
+        push_stored(&mut bytes, *row)?;
+        lengths.push(bytes.len().saturating_sub(start))?;
     }
-    let bytes = Buffer::from_vec(alloc, bytes)?;
-    let validity = validity_of(alloc, rows, is_marked)?;
-    let offsets = offsets.into_buffer()?;
-    Ok(FlatArray::<ByteRows<O, K>>::try_new(data_type.clone()?, offsets, bytes, validity)?)
+    Ok((bytes, lengths))
+}
+
+/// Appends the bytes that are stored in a row.
+fn push_stored(bytes: &mut Vec<u8>, row: Piece<'_>) -> Result<(), Fault> {
+    match row.stored() {
+        Some(stored) => push_bytes(bytes, stored),
+        None => Ok(()),
+    }
+}
+
+/// Texts or bytes of these parts.
+pub(crate) fn bytes_array<O: Offset, K: ByteKind>(
+    alloc: Global,
+    data_type: &DataType,
+    offsets: OffsetsBuffer<O>,
+    bytes: Buffer<u8>,
+    validity: Option<Bitmap>,
+    wrap: fn(FlatArray<ByteRows<O, K>>) -> AnyArray,
+) -> Result<Box<AnyArray>, Fault> {
+    let data_type = data_type.clone()?;
+    match FlatArray::<ByteRows<O, K>>::try_new(data_type, offsets, bytes, validity) {
+        Ok(array) => Ok(Box::new(alloc, wrap(array))?),
+        Err(error) => Err(Fault::Refused(error)),
+    }
 }
 
 /// Rows of so many bytes each: zeros where nothing is stored.
@@ -169,6 +214,27 @@ pub(crate) fn fixed_bytes(
     rows: &[Piece<'_>],
     is_marked: bool,
 ) -> Result<Box<AnyArray>, Fault> {
+    let validity = validity_of(alloc, rows, is_marked)?;
+    let bytes = bytes_of_size(alloc, size, rows)?;
+    fixed_bytes_array(alloc, data_type, Buffer::from_vec(alloc, bytes)?, validity)
+}
+
+/// Rows of a fixed number of bytes, of these parts.
+pub(crate) fn fixed_bytes_array(
+    alloc: Global,
+    data_type: &DataType,
+    bytes: Buffer<u8>,
+    validity: Option<Bitmap>,
+) -> Result<Box<AnyArray>, Fault> {
+    let data_type = data_type.clone()?;
+    boxed(
+        alloc,
+        FixedSizeBinaryArray::try_new(data_type, bytes, validity).map(AnyArray::FixedSizeBinary),
+    )
+}
+
+/// The bytes of all rows, so many each.
+fn bytes_of_size(alloc: Global, size: usize, rows: &[Piece<'_>]) -> Result<Vec<u8>, Fault> {
     let mut bytes = Vec::new(alloc);
     for row in rows {
         let start = bytes.len();
@@ -180,8 +246,5 @@ pub(crate) fn fixed_bytes(
             return Err(row.fault());
         }
     }
-    let bytes = Buffer::from_vec(alloc, bytes)?;
-    let validity = validity_of(alloc, rows, is_marked)?;
-    let array = FixedSizeBinaryArray::try_new(data_type.clone()?, bytes, validity)?;
-    boxed(alloc, AnyArray::FixedSizeBinary(array))
+    Ok(bytes)
 }

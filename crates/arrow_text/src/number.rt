@@ -2,7 +2,9 @@
 
 use crate::fault::Fault;
 use crate::piece::Piece;
+use crate::write::show;
 use arrow_types::types::{NativeType, days_ms, i256, months_days_ns};
+use std::fmt::Display;
 
 /// An integer of a type of its own width.
 pub trait Integer: Copy {
@@ -91,7 +93,7 @@ impl Element for i8 {
     }
 
     fn write(self, out: &mut String) -> Result<(), Fault> {
-        Ok(write!(out, "{self}")?)
+        show(out, self)
     }
 }
 
@@ -101,7 +103,7 @@ impl Element for i16 {
     }
 
     fn write(self, out: &mut String) -> Result<(), Fault> {
-        Ok(write!(out, "{self}")?)
+        show(out, self)
     }
 }
 
@@ -111,7 +113,7 @@ impl Element for i32 {
     }
 
     fn write(self, out: &mut String) -> Result<(), Fault> {
-        Ok(write!(out, "{self}")?)
+        show(out, self)
     }
 }
 
@@ -121,7 +123,7 @@ impl Element for i64 {
     }
 
     fn write(self, out: &mut String) -> Result<(), Fault> {
-        Ok(write!(out, "{self}")?)
+        show(out, self)
     }
 }
 
@@ -131,7 +133,7 @@ impl Element for i128 {
     }
 
     fn write(self, out: &mut String) -> Result<(), Fault> {
-        Ok(write!(out, "{self}")?)
+        show(out, self)
     }
 }
 
@@ -141,7 +143,7 @@ impl Element for u8 {
     }
 
     fn write(self, out: &mut String) -> Result<(), Fault> {
-        Ok(write!(out, "{self}")?)
+        show(out, self)
     }
 }
 
@@ -151,7 +153,7 @@ impl Element for u16 {
     }
 
     fn write(self, out: &mut String) -> Result<(), Fault> {
-        Ok(write!(out, "{self}")?)
+        show(out, self)
     }
 }
 
@@ -161,7 +163,7 @@ impl Element for u32 {
     }
 
     fn write(self, out: &mut String) -> Result<(), Fault> {
-        Ok(write!(out, "{self}")?)
+        show(out, self)
     }
 }
 
@@ -171,25 +173,39 @@ impl Element for u64 {
     }
 
     fn write(self, out: &mut String) -> Result<(), Fault> {
-        Ok(write!(out, "{self}")?)
+        show(out, self)
     }
 }
 
-/// The two numbers of a text that are parted by a colon.
-fn pair<'a>(piece: Piece<'a>) -> Result<(Piece<'a>, Piece<'a>), Fault> {
+/// The two parts of a text that a colon parts.
+fn halves(piece: Piece<'_>) -> Result<(Piece<'_>, Piece<'_>), Fault> {
     piece.parted(':').ok_or(piece.fault())
+}
+
+/// The two numbers of a text that a colon parts.
+fn pair<S: Integer, T: Integer>(piece: Piece<'_>) -> Result<(S, T), Fault> {
+    let (first, second) = halves(piece)?;
+    Ok((first.integer()?, second.integer()?))
+}
+
+/// Appends two numbers, parted by a colon.
+fn write_pair<S: Display + Drop, T: Display + Drop>(
+    out: &mut String,
+    first: S,
+    second: T,
+) -> Result<(), Fault> {
+    Ok(write!(out, "{first}:{second}")?)
 }
 
 /// A number of 256 bits is said by its halves, as `-1:0`.
 impl Element for i256 {
     fn read(piece: Piece<'_>) -> Result<i256, Fault> {
         let (high, low) = pair(piece)?;
-        Ok(i256::new(high.integer()?, low.integer()?))
+        Ok(i256::new(high, low))
     }
 
     fn write(self, out: &mut String) -> Result<(), Fault> {
-        let (high, low) = (self.high(), self.low());
-        Ok(write!(out, "{high}:{low}")?)
+        write_pair(out, self.high(), self.low())
     }
 }
 
@@ -197,25 +213,30 @@ impl Element for i256 {
 impl Element for days_ms {
     fn read(piece: Piece<'_>) -> Result<days_ms, Fault> {
         let (days, milliseconds) = pair(piece)?;
-        Ok(days_ms::new(days.integer()?, milliseconds.integer()?))
+        Ok(days_ms::new(days, milliseconds))
     }
 
     fn write(self, out: &mut String) -> Result<(), Fault> {
-        let (days, milliseconds) = (self.days(), self.milliseconds());
-        Ok(write!(out, "{days}:{milliseconds}")?)
+        write_pair(out, self.days(), self.milliseconds())
     }
 }
 
 /// Months, days and nanoseconds, as `1:-2:3`.
 impl Element for months_days_ns {
     fn read(piece: Piece<'_>) -> Result<months_days_ns, Fault> {
-        let (months, rest) = pair(piece)?;
+        let (months, rest) = halves(piece)?;
+        let months = months.integer()?;
         let (days, ns) = pair(rest)?;
-        Ok(months_days_ns::new(months.integer()?, days.integer()?, ns.integer()?))
+        Ok(months_days_ns::new(months, days, ns))
     }
 
     fn write(self, out: &mut String) -> Result<(), Fault> {
-        let (months, days, ns) = (self.months(), self.days(), self.ns());
-        Ok(write!(out, "{months}:{days}:{ns}")?)
+        write_pair(out, self.months(), self.days())?;
+        write_tail(out, self.ns())
     }
+}
+
+/// Appends a number behind a colon.
+fn write_tail(out: &mut String, last: i64) -> Result<(), Fault> {
+    Ok(write!(out, ":{last}")?)
 }

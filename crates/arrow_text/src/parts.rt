@@ -2,19 +2,18 @@
 
 use crate::bits::read_letters;
 use crate::fault::Fault;
-use crate::flat::of_element;
+use crate::flat::{bytes_array, fixed_bytes_array, of_element, primitive};
 use crate::number::{Element, Integer};
 use crate::piece::Piece;
-use crate::read::{boxed, nested_array};
+use crate::read::{
+    boxed, dictionary_array, fixed_list_array, list_array, map_array, nested_array, push_child,
+    struct_array, union_array,
+};
 use crate::row::{read_bytes, rows_in};
 use crate::types::find;
-use arrow_arrays::array::{
-    AnyArray, AnyKeys, AnyOffsetsBuffer, DictionaryArray, FixedSizeListArray, ListArray, MapArray,
-    StructArray, UnionArray,
-};
+use arrow_arrays::array::{AnyArray, AnyKeys, AnyOffsetsBuffer};
 use arrow_flat::array::{
-    AnyPrimitive, Binary, BooleanArray, ByteKind, ByteRows, FixedSizeBinaryArray, FlatArray,
-    NullArray, PrimitiveArray, Text,
+    AnyPrimitive, BooleanArray, ByteKind, ByteRows, FlatArray, NullArray, PrimitiveArray,
 };
 use arrow_memory::bitmap::Bitmap;
 use arrow_memory::buffer::Buffer;
@@ -97,7 +96,7 @@ impl<'a> Parts<'a> {
     /// The validity, if there is one.
     fn validity(&self, alloc: Global) -> Result<Option<Bitmap>, Fault> {
         match self.get("validity") {
-            Some(letters) => Ok(Some(read_letters(alloc, letters)?)),
+            Some(letters) => read_letters(alloc, letters).map(Some),
             None => Ok(None),
         }
     }
@@ -133,20 +132,23 @@ pub(crate) fn array_of_parts(
     depth: usize,
 ) -> Result<Box<AnyArray>, Fault> {
     let parts = Parts::read(alloc, text)?;
-    let kind = match parts.get("kind") {
-        Some(word) => kind_of(word)?,
-        None => data_type.to_physical_type(),
-    };
-    match kind {
-        PhysicalType::List | PhysicalType::LargeList => {
-            list_of(alloc, data_type, kind, &parts, depth)
-        }
+    match kind_in(data_type, &parts)? {
+        PhysicalType::List => list_of(alloc, data_type, false, &parts, depth),
+        PhysicalType::LargeList => list_of(alloc, data_type, true, &parts, depth),
         PhysicalType::FixedSizeList => fixed_list_of(alloc, data_type, &parts, depth),
         PhysicalType::Map => map_of(alloc, data_type, &parts, depth),
         PhysicalType::Struct => struct_of(alloc, data_type, &parts, depth),
         PhysicalType::Union => union_of(alloc, data_type, &parts, depth),
         PhysicalType::Dictionary(_) => dictionary_of(alloc, data_type, &parts, depth),
-        _ => flat_of(alloc, data_type, kind, &parts),
+        kind => flat_of(alloc, data_type, kind, &parts),
+    }
+}
+
+/// The kind of arrays whose constructor is called.
+fn kind_in(data_type: &DataType, parts: &Parts<'_>) -> Result<PhysicalType, Fault> {
+    match parts.get("kind") {
+        Some(word) => kind_of(word),
+        None => Ok(data_type.to_physical_type()),
     }
 }
 
@@ -164,36 +166,28 @@ fn flat_of(
 ) -> Result<Box<AnyArray>, Fault> {
     match kind {
         PhysicalType::Boolean => boolean_of(alloc, data_type, parts),
-        PhysicalType::Primitive(of) => {
-            let array = primitive_of(alloc, data_type, of, parts)?;
-            boxed(alloc, AnyArray::Primitive(array))
-        }
-        PhysicalType::Utf8 => {
-            let array = bytes_of::<i32, Text>(alloc, data_type, parts)?;
-            boxed(alloc, AnyArray::Utf8(array))
-        }
-        PhysicalType::LargeUtf8 => {
-            let array = bytes_of::<i64, Text>(alloc, data_type, parts)?;
-            boxed(alloc, AnyArray::LargeUtf8(array))
-        }
-        PhysicalType::Binary => {
-            let array = bytes_of::<i32, Binary>(alloc, data_type, parts)?;
-            boxed(alloc, AnyArray::Binary(array))
-        }
-        PhysicalType::LargeBinary => {
-            let array = bytes_of::<i64, Binary>(alloc, data_type, parts)?;
-            boxed(alloc, AnyArray::LargeBinary(array))
-        }
-        PhysicalType::FixedSizeBinary => {
-            let (bytes, validity) = (parts.bytes(alloc)?, parts.validity(alloc)?);
-            let array = FixedSizeBinaryArray::try_new(data_type.clone()?, bytes, validity)?;
-            boxed(alloc, AnyArray::FixedSizeBinary(array))
-        }
-        _ => {
-            let array = NullArray::try_new(data_type.clone()?, parts.part("len")?.integer()?)?;
-            boxed(alloc, AnyArray::Null(array))
-        }
+        PhysicalType::Primitive(of) => primitive_of(alloc, data_type, of, parts),
+        PhysicalType::Utf8 => bytes_of(alloc, data_type, parts, AnyArray::Utf8),
+        PhysicalType::LargeUtf8 => bytes_of(alloc, data_type, parts, AnyArray::LargeUtf8),
+        PhysicalType::Binary => bytes_of(alloc, data_type, parts, AnyArray::Binary),
+        PhysicalType::LargeBinary => bytes_of(alloc, data_type, parts, AnyArray::LargeBinary),
+        PhysicalType::FixedSizeBinary => fixed_bytes_of(alloc, data_type, parts),
+        _ => nulls_of(alloc, data_type, parts),
     }
+}
+
+/// Nulls.
+fn nulls_of(
+    alloc: Global,
+    data_type: &DataType,
+    parts: &Parts<'_>,
+) -> Result<Box<AnyArray>, Fault> {
+    let len = parts.part("len")?.integer()?;
+    let data_type = data_type.clone()?;
+    boxed(
+        alloc,
+        NullArray::try_new(data_type, len).map(AnyArray::Null),
+    )
 }
 
 /// Truth values.
@@ -204,8 +198,11 @@ fn boolean_of(
 ) -> Result<Box<AnyArray>, Fault> {
     let values = read_letters(alloc, parts.part("values")?)?;
     let validity = parts.validity(alloc)?;
-    let array = BooleanArray::try_new(data_type.clone()?, values, validity)?;
-    boxed(alloc, AnyArray::Boolean(array))
+    let data_type = data_type.clone()?;
+    boxed(
+        alloc,
+        BooleanArray::try_new(data_type, values, validity).map(AnyArray::Boolean),
+    )
 }
 
 /// A primitive array of an element type that is known when the program runs.
@@ -214,8 +211,8 @@ fn primitive_of(
     data_type: &DataType,
     of: PrimitiveType,
     parts: &Parts<'_>,
-) -> Result<AnyPrimitive, Fault> {
-    of_element!(of, values_of(alloc, data_type, parts))
+) -> Result<Box<AnyArray>, Fault> {
+    of_element!(AnyPrimitive, of, values_of(alloc, data_type, parts))
 }
 
 /// A primitive array.
@@ -223,14 +220,20 @@ fn values_of<T: Element>(
     alloc: Global,
     data_type: &DataType,
     parts: &Parts<'_>,
-) -> Result<PrimitiveArray<T>, Fault> {
+    wrap: fn(PrimitiveArray<T>) -> AnyPrimitive,
+) -> Result<Box<AnyArray>, Fault> {
+    let values = elements_in(alloc, parts.part("values")?)?;
+    let validity = parts.validity(alloc)?;
+    primitive(alloc, data_type, values, validity, wrap)
+}
+
+/// Elements parted by commas.
+fn elements_in<T: Element>(alloc: Global, piece: Piece<'_>) -> Result<Buffer<T>, Fault> {
     let mut values = Vec::new(alloc);
-    for value in rows_in(alloc, parts.part("values")?)? {
+    for value in rows_in(alloc, piece)? {
         values.push(T::read(value)?)?;
     }
-    let values = Buffer::from_vec(alloc, values)?;
-    let validity = parts.validity(alloc)?;
-    Ok(PrimitiveArray::<T>::try_new(data_type.clone()?, values, validity)?)
+    Ok(Buffer::from_vec(alloc, values)?)
 }
 
 /// Texts or bytes.
@@ -238,10 +241,21 @@ fn bytes_of<O: Offset + Integer, K: ByteKind>(
     alloc: Global,
     data_type: &DataType,
     parts: &Parts<'_>,
-) -> Result<FlatArray<ByteRows<O, K>>, Fault> {
+    wrap: fn(FlatArray<ByteRows<O, K>>) -> AnyArray,
+) -> Result<Box<AnyArray>, Fault> {
     let (offsets, bytes) = (parts.offsets::<O>(alloc)?, parts.bytes(alloc)?);
     let validity = parts.validity(alloc)?;
-    Ok(FlatArray::<ByteRows<O, K>>::try_new(data_type.clone()?, offsets, bytes, validity)?)
+    bytes_array(alloc, data_type, offsets, bytes, validity, wrap)
+}
+
+/// Rows of a fixed number of bytes.
+fn fixed_bytes_of(
+    alloc: Global,
+    data_type: &DataType,
+    parts: &Parts<'_>,
+) -> Result<Box<AnyArray>, Fault> {
+    let (bytes, validity) = (parts.bytes(alloc)?, parts.validity(alloc)?);
+    fixed_bytes_array(alloc, data_type, bytes, validity)
 }
 
 /// The child.
@@ -255,37 +269,35 @@ fn child_of(alloc: Global, parts: &Parts<'_>, depth: usize) -> Result<Box<AnyArr
 fn children_of(alloc: Global, parts: &Parts<'_>, depth: usize) -> Result<Vec<AnyArray>, Fault> {
     let mut children = Vec::new(alloc);
     for child in parts.part("values")?.items(alloc, '|')? {
-        let child = nested_array(alloc, child, depth)?;
-        children.push(Box::into_inner(child))?;
+        push_child(&mut children, nested_array(alloc, child, depth)?)?;
     }
     Ok(children)
 }
 
-/// Lists, with offsets of this kind's width.
+/// Lists, with offsets of 64 bits where they are large.
 #[cycle(parts)]
 fn list_of(
     alloc: Global,
     data_type: &DataType,
-    kind: PhysicalType,
+    is_large: bool,
     parts: &Parts<'_>,
     depth: usize,
 ) -> Result<Box<AnyArray>, Fault> {
-    let offsets = any_offsets(alloc, kind, parts)?;
+    let offsets = any_offsets(alloc, is_large, parts)?;
     let values = child_of(alloc, parts, depth)?;
-    let validity = parts.validity(alloc)?;
-    let array = ListArray::try_new(data_type.clone()?, offsets, values, validity)?;
-    boxed(alloc, AnyArray::List(array))
+    list_array(alloc, data_type, offsets, values, parts.validity(alloc)?)
 }
 
 /// The offsets of lists: of 64 bits where they are large.
 fn any_offsets(
     alloc: Global,
-    kind: PhysicalType,
+    is_large: bool,
     parts: &Parts<'_>,
 ) -> Result<AnyOffsetsBuffer, Fault> {
-    match kind {
-        PhysicalType::LargeList => Ok(AnyOffsetsBuffer::Large(parts.offsets(alloc)?)),
-        _ => Ok(AnyOffsetsBuffer::Small(parts.offsets(alloc)?)),
+    if is_large {
+        parts.offsets(alloc).map(AnyOffsetsBuffer::Large)
+    } else {
+        parts.offsets(alloc).map(AnyOffsetsBuffer::Small)
     }
 }
 
@@ -298,9 +310,7 @@ fn fixed_list_of(
     depth: usize,
 ) -> Result<Box<AnyArray>, Fault> {
     let values = child_of(alloc, parts, depth)?;
-    let validity = parts.validity(alloc)?;
-    let array = FixedSizeListArray::try_new(data_type.clone()?, values, validity)?;
-    boxed(alloc, AnyArray::FixedSizeList(array))
+    fixed_list_array(alloc, data_type, values, parts.validity(alloc)?)
 }
 
 /// Maps.
@@ -313,9 +323,7 @@ fn map_of(
 ) -> Result<Box<AnyArray>, Fault> {
     let offsets = parts.offsets::<i32>(alloc)?;
     let values = child_of(alloc, parts, depth)?;
-    let validity = parts.validity(alloc)?;
-    let array = MapArray::try_new(data_type.clone()?, offsets, values, validity)?;
-    boxed(alloc, AnyArray::Map(array))
+    map_array(alloc, data_type, offsets, values, parts.validity(alloc)?)
 }
 
 /// Structs.
@@ -327,9 +335,7 @@ fn struct_of(
     depth: usize,
 ) -> Result<Box<AnyArray>, Fault> {
     let children = children_of(alloc, parts, depth)?;
-    let validity = parts.validity(alloc)?;
-    let array = StructArray::try_new(data_type.clone()?, children, validity)?;
-    boxed(alloc, AnyArray::Struct(array))
+    struct_array(alloc, data_type, children, parts.validity(alloc)?)
 }
 
 /// Unions: with offsets where these are given.
@@ -340,19 +346,31 @@ fn union_of(
     parts: &Parts<'_>,
     depth: usize,
 ) -> Result<Box<AnyArray>, Fault> {
-    let types = buffer_of::<i8>(alloc, parts.part("types")?)?;
-    let offsets = match parts.get("offsets") {
-        Some(offsets) => Some(buffer_of::<i32>(alloc, offsets)?),
-        None => None,
-    };
-    let children = children_of(alloc, parts, depth)?;
-    let array = UnionArray::try_new(data_type.clone()?, types, children, offsets)?;
-    boxed(alloc, AnyArray::Union(array))
+    let types = buffer_of(alloc, parts.part("types")?)?;
+    let offsets = optional_buffer_of(alloc, parts.get("offsets"))?;
+    union_array(
+        alloc,
+        data_type,
+        types,
+        children_of(alloc, parts, depth)?,
+        offsets,
+    )
 }
 
 /// A buffer of numbers.
 fn buffer_of<T: Integer>(alloc: Global, piece: Piece<'_>) -> Result<Buffer<T>, Fault> {
     Ok(Buffer::from_vec(alloc, read_offsets(alloc, piece)?)?)
+}
+
+/// A buffer of numbers, where they are given.
+fn optional_buffer_of<T: Integer>(
+    alloc: Global,
+    piece: Option<Piece<'_>>,
+) -> Result<Option<Buffer<T>>, Fault> {
+    match piece {
+        Some(piece) => Ok(Some(buffer_of(alloc, piece)?)),
+        None => Ok(None),
+    }
 }
 
 /// Dictionaries.
@@ -365,9 +383,7 @@ fn dictionary_of(
 ) -> Result<Box<AnyArray>, Fault> {
     let keys = nested_array(alloc, parts.part("keys")?, depth)?;
     let keys = keys_in(keys)?;
-    let values = child_of(alloc, parts, depth)?;
-    let array = DictionaryArray::try_new(data_type.clone()?, keys, values)?;
-    boxed(alloc, AnyArray::Dictionary(array))
+    dictionary_array(alloc, data_type, keys, child_of(alloc, parts, depth)?)
 }
 
 /// The keys that an array of integers holds.

@@ -5,7 +5,7 @@ use crate::flat::{fixed_bytes, flat_rows};
 use crate::parts::array_of_parts;
 use crate::piece::Piece;
 use crate::row::{push_often, rows_in, slice_within, validity_of};
-use crate::types::{DEEPEST, read_type};
+use crate::types::{DEEPEST, boxed_type};
 use arrow_arrays::array::{
     AnyArray, AnyKeys, AnyOffsetsBuffer, DictionaryArray, FixedSizeListArray, ListArray, MapArray,
     StructArray, UnionArray,
@@ -14,7 +14,7 @@ use arrow_flat::array::PrimitiveArray;
 use arrow_memory::bitmap::Bitmap;
 use arrow_memory::buffer::Buffer;
 use arrow_memory::offset::{Offsets, OffsetsBuffer};
-use arrow_types::datatypes::{DataType, Field, IntegerType, UnionMode};
+use arrow_types::datatypes::{DataType, Field, IntegerType, PhysicalType, UnionMode};
 use arrow_types::error::Error;
 use arrow_types::types::{DictionaryKey, Offset};
 use std::alloc::Global;
@@ -24,9 +24,12 @@ pub fn read_array(alloc: Global, piece: Piece<'_>) -> Result<Box<AnyArray>, Faul
     nested_array(alloc, piece, DEEPEST)
 }
 
-/// An array in a box of its own: what owns a box is proved faster than what owns an array.
-pub(crate) fn boxed(alloc: Global, array: AnyArray) -> Result<Box<AnyArray>, Fault> {
-    Ok(Box::new(alloc, array)?)
+/// The array that a constructor made, in a box of its own: what owns a box is proved faster than what owns an array.
+pub(crate) fn boxed(alloc: Global, made: Result<AnyArray, Error>) -> Result<Box<AnyArray>, Fault> {
+    match made {
+        Ok(array) => Ok(Box::new(alloc, array)?),
+        Err(error) => Err(Fault::Refused(error)),
+    }
 }
 
 /// The array that a text says, whose parts nest at most so deep.
@@ -37,10 +40,14 @@ pub(crate) fn nested_array(
     depth: usize,
 ) -> Result<Box<AnyArray>, Fault> {
     let parts = piece.split(alloc, '@')?;
-    let Some((body, slices)) = parts.split_first() else {
-        return Err(piece.fault());
-    };
-    let mut array = whole_array(alloc, *body, depth)?;
+    match parts.split_first() {
+        Some((body, slices)) => take_slices(whole_array(alloc, *body, depth)?, slices),
+        None => Err(piece.fault()),
+    }
+}
+
+/// The slices of an array, one after the other.
+fn take_slices(mut array: Box<AnyArray>, slices: &[Piece<'_>]) -> Result<Box<AnyArray>, Fault> {
     for slice in slices {
         take_slice(&mut array, *slice)?;
     }
@@ -62,20 +69,32 @@ fn whole_array(alloc: Global, body: Piece<'_>, depth: usize) -> Result<Box<AnyAr
     if depth == 0 {
         return Err(body.fault());
     }
-    if let Some((head, parts)) = body.headed('{', "}") {
-        let data_type = read_type(alloc, head)?;
-        return array_of_parts(alloc, &data_type, parts, depth - 1);
+    match body.headed('{', "}") {
+        Some((head, parts)) => array_by_parts(alloc, head, parts, depth - 1),
+        None => array_by_rows(alloc, body),
     }
-    let (body, is_marked) = match body.strip_suffix("?") {
-        Some(body) => (body, true),
-        None => (body, false),
-    };
-    let Some((head, rows)) = body.headed('[', "]") else {
-        return Err(body.fault());
-    };
-    let data_type = read_type(alloc, head)?;
+}
+
+/// The array of a type and parts.
+#[cycle(parts)]
+fn array_by_parts(
+    alloc: Global,
+    head: Piece<'_>,
+    parts: Piece<'_>,
+    depth: usize,
+) -> Result<Box<AnyArray>, Fault> {
+    let data_type = boxed_type(alloc, head)?;
+    array_of_parts(alloc, &data_type, parts, depth)
+}
+
+/// The array of a type and rows, behind which a question mark asks for a validity.
+fn array_by_rows(alloc: Global, body: Piece<'_>) -> Result<Box<AnyArray>, Fault> {
+    let unmarked = body.strip_suffix("?");
+    let body = unmarked.unwrap_or(body);
+    let (head, rows) = body.headed('[', "]").ok_or(body.fault())?;
+    let data_type = boxed_type(alloc, head)?;
     let rows = rows_in(alloc, rows)?;
-    array_of_rows(alloc, &data_type, &rows, is_marked, DEEPEST)
+    array_of_rows(alloc, &data_type, &rows, unmarked.is_some(), DEEPEST)
 }
 
 /// An array of these rows, with a validity where a row is null or one is asked for.
@@ -91,34 +110,25 @@ fn array_of_rows(
         return Err(Fault::Usage);
     }
     match data_type.to_logical_type() {
-        DataType::List(item) | DataType::LargeList(item) => {
-            lists(alloc, data_type, item, rows, is_marked, depth - 1)
-        }
-        DataType::Map(entries, _) => maps(alloc, data_type, entries, rows, is_marked, depth - 1),
+        DataType::List(item) => lists(alloc, data_type, item, rows, is_marked, depth - 1),
+        DataType::LargeList(item) => lists(alloc, data_type, item, rows, is_marked, depth - 1),
+        DataType::Map(item, _) => lists(alloc, data_type, item, rows, is_marked, depth - 1),
         DataType::FixedSizeList(item, size) => {
             fixed_lists(alloc, data_type, (item, *size), rows, is_marked, depth - 1)
         }
         DataType::Struct(fields) => structs(alloc, data_type, fields, rows, is_marked, depth - 1),
         DataType::Union(fields, ids, mode) => {
-            let ids = ids_of(alloc, fields, ids)?;
-            unions(alloc, data_type, fields, &ids, *mode, rows, depth - 1)
+            unions(alloc, data_type, (fields, ids, *mode), rows, depth - 1)
         }
-        DataType::Dictionary(keys, values, _) => {
-            dictionaries(
-                alloc,
-                data_type,
-                (*keys, values),
-                rows,
-                is_marked,
-                depth - 1,
-            )
+        DataType::Dictionary(_, values, _) => {
+            dictionaries(alloc, data_type, values, rows, is_marked, depth - 1)
         }
         DataType::FixedSizeBinary(size) => fixed_bytes(alloc, data_type, *size, rows, is_marked),
         _ => flat_rows(alloc, data_type, rows, is_marked),
     }
 }
 
-/// Lists of an item.
+/// Lists of an item, or maps of entries.
 #[cycle(rows)]
 fn lists(
     alloc: Global,
@@ -130,28 +140,67 @@ fn lists(
 ) -> Result<Box<AnyArray>, Fault> {
     let (items, lengths) = items_in(alloc, rows)?;
     let values = array_of_rows(alloc, item.data_type(), &items, false, depth)?;
-    let offsets = list_offsets(alloc, data_type, &lengths)?;
     let validity = validity_of(alloc, rows, is_marked)?;
-    let array = ListArray::try_new(data_type.clone()?, offsets, values, validity)?;
-    boxed(alloc, AnyArray::List(array))
+    lists_of(alloc, data_type, &lengths, values, validity)
 }
 
-/// Maps of entries.
-#[cycle(rows)]
-fn maps(
+/// Lists or maps, of so many items each.
+fn lists_of(
     alloc: Global,
     data_type: &DataType,
-    entries: &Field,
-    rows: &[Piece<'_>],
-    is_marked: bool,
-    depth: usize,
+    lengths: &[usize],
+    values: Box<AnyArray>,
+    validity: Option<Bitmap>,
 ) -> Result<Box<AnyArray>, Fault> {
-    let (items, lengths) = items_in(alloc, rows)?;
-    let values = array_of_rows(alloc, entries.data_type(), &items, false, depth)?;
-    let offsets = offsets_of::<i32>(alloc, &lengths)?;
-    let validity = validity_of(alloc, rows, is_marked)?;
-    let array = MapArray::try_new(data_type.clone()?, offsets, values, validity)?;
-    boxed(alloc, AnyArray::Map(array))
+    match data_type.to_physical_type() {
+        PhysicalType::Map => {
+            map_array(
+                alloc,
+                data_type,
+                offsets_of(alloc, lengths)?,
+                values,
+                validity,
+            )
+        }
+        PhysicalType::LargeList => {
+            let offsets = AnyOffsetsBuffer::Large(offsets_of(alloc, lengths)?);
+            list_array(alloc, data_type, offsets, values, validity)
+        }
+        _ => {
+            let offsets = AnyOffsetsBuffer::Small(offsets_of(alloc, lengths)?);
+            list_array(alloc, data_type, offsets, values, validity)
+        }
+    }
+}
+
+/// Lists of these parts.
+pub(crate) fn list_array(
+    alloc: Global,
+    data_type: &DataType,
+    offsets: AnyOffsetsBuffer,
+    values: Box<AnyArray>,
+    validity: Option<Bitmap>,
+) -> Result<Box<AnyArray>, Fault> {
+    let data_type = data_type.clone()?;
+    boxed(
+        alloc,
+        ListArray::try_new(data_type, offsets, values, validity).map(AnyArray::List),
+    )
+}
+
+/// Maps of these parts.
+pub(crate) fn map_array(
+    alloc: Global,
+    data_type: &DataType,
+    offsets: OffsetsBuffer<i32>,
+    values: Box<AnyArray>,
+    validity: Option<Bitmap>,
+) -> Result<Box<AnyArray>, Fault> {
+    let data_type = data_type.clone()?;
+    boxed(
+        alloc,
+        MapArray::try_new(data_type, offsets, values, validity).map(AnyArray::Map),
+    )
 }
 
 /// The items of all rows, and how many each row has: none where nothing is stored.
@@ -190,18 +239,6 @@ pub(crate) fn offsets_of<O: Offset>(
     Ok(offsets.into_buffer()?)
 }
 
-/// The offsets of lists: of 64 bits where they are large.
-fn list_offsets(
-    alloc: Global,
-    data_type: &DataType,
-    lengths: &[usize],
-) -> Result<AnyOffsetsBuffer, Fault> {
-    match data_type.to_logical_type() {
-        DataType::LargeList(_) => Ok(AnyOffsetsBuffer::Large(offsets_of(alloc, lengths)?)),
-        _ => Ok(AnyOffsetsBuffer::Small(offsets_of(alloc, lengths)?)),
-    }
-}
-
 /// Lists of so many items each.
 #[cycle(rows)]
 fn fixed_lists(
@@ -216,8 +253,21 @@ fn fixed_lists(
     let items = items_of_size(alloc, rows, size)?;
     let values = array_of_rows(alloc, item.data_type(), &items, false, depth)?;
     let validity = validity_of(alloc, rows, is_marked)?;
-    let array = FixedSizeListArray::try_new(data_type.clone()?, values, validity)?;
-    boxed(alloc, AnyArray::FixedSizeList(array))
+    fixed_list_array(alloc, data_type, values, validity)
+}
+
+/// Lists of a fixed size of these parts.
+pub(crate) fn fixed_list_array(
+    alloc: Global,
+    data_type: &DataType,
+    values: Box<AnyArray>,
+    validity: Option<Bitmap>,
+) -> Result<Box<AnyArray>, Fault> {
+    let data_type = data_type.clone()?;
+    boxed(
+        alloc,
+        FixedSizeListArray::try_new(data_type, values, validity).map(AnyArray::FixedSizeList),
+    )
 }
 
 /// The items of all rows: null slots where nothing is stored.
@@ -228,16 +278,23 @@ fn items_of_size<'a>(
 ) -> Result<Vec<Piece<'a>>, Fault> {
     let mut items = Vec::new(alloc);
     for row in rows {
-        match row.stored() {
-            Some(stored) => {
-                if push_items(alloc, stored, &mut items)? != size {
-                    return Err(row.fault());
-                }
-            }
-            None => push_often(&mut items, row.nothing(), size)?,
-        }
+        push_of_size(alloc, *row, size, &mut items)?;
     }
     Ok(items)
+}
+
+/// Appends the items of a row, which has so many: null slots where nothing is stored.
+fn push_of_size<'a>(
+    alloc: Global,
+    row: Piece<'a>,
+    size: usize,
+    items: &mut Vec<Piece<'a>>,
+) -> Result<(), Fault> {
+    match row.stored() {
+        Some(stored) if push_items(alloc, stored, items)? == size => Ok(()),
+        Some(_) => Err(row.fault()),
+        None => push_often(items, row.nothing(), size),
+    }
 }
 
 /// Structs of fields.
@@ -253,12 +310,32 @@ fn structs(
     let mut children = Vec::new(alloc);
     for (place, field) in fields.iter().enumerate() {
         let column = column_of(alloc, rows, place, fields.len())?;
-        let child = array_of_rows(alloc, field.data_type(), &column, false, depth)?;
-        children.push(Box::into_inner(child))?;
+        push_child(
+            &mut children,
+            array_of_rows(alloc, field.data_type(), &column, false, depth)?,
+        )?;
     }
     let validity = validity_of(alloc, rows, is_marked)?;
-    let array = StructArray::try_new(data_type.clone()?, children, validity)?;
-    boxed(alloc, AnyArray::Struct(array))
+    struct_array(alloc, data_type, children, validity)
+}
+
+/// Appends a child out of its box.
+pub(crate) fn push_child(children: &mut Vec<AnyArray>, child: Box<AnyArray>) -> Result<(), Fault> {
+    Ok(children.push(Box::into_inner(child))?)
+}
+
+/// Structs of these parts.
+pub(crate) fn struct_array(
+    alloc: Global,
+    data_type: &DataType,
+    children: Vec<AnyArray>,
+    validity: Option<Bitmap>,
+) -> Result<Box<AnyArray>, Fault> {
+    let data_type = data_type.clone()?;
+    boxed(
+        alloc,
+        StructArray::try_new(data_type, children, validity).map(AnyArray::Struct),
+    )
 }
 
 /// The rows of one field of so many: null slots where nothing is stored.
@@ -307,7 +384,7 @@ fn ids_of(alloc: Global, fields: &[Field], ids: &Option<Vec<i32>>) -> Result<Vec
     Ok(found)
 }
 
-/// The type id of each row of a union, and the row of its field. The null slot is that of the first field.
+/// The type id of each row of a union, and the row of its field.
 fn ids_and_rows<'a>(
     alloc: Global,
     ids: &[i32],
@@ -315,19 +392,24 @@ fn ids_and_rows<'a>(
 ) -> Result<Vec<(i8, Piece<'a>)>, Fault> {
     let mut found = Vec::new(alloc);
     for row in rows {
-        let (id, item) = match row.stored() {
-            None => (ids.first().copied().ok_or(row.fault())?, *row),
-            Some(_) => {
-                let (id, item) = row.parted(':').ok_or(row.fault())?;
-                (id.integer()?, item)
-            }
-        };
-        if !ids.contains(&id) {
-            return Err(row.fault());
-        }
-        found.push((i8::try_from(id).ok().ok_or(row.fault())?, item))?;
+        found.push(id_and_row(ids, *row)?)?;
     }
     Ok(found)
+}
+
+/// The type id of a row, and the row of its field. The null slot is that of the first field.
+fn id_and_row<'a>(ids: &[i32], row: Piece<'a>) -> Result<(i8, Piece<'a>), Fault> {
+    let (id, item) = match row.stored() {
+        None => (ids.first().copied().ok_or(row.fault())?, row),
+        Some(_) => {
+            let (id, item) = row.parted(':').ok_or(row.fault())?;
+            (id.integer()?, item)
+        }
+    };
+    match i8::try_from(id) {
+        Ok(known) if ids.contains(&id) => Ok((known, item)),
+        _ => Err(row.fault()),
+    }
 }
 
 /// What a field of a union holds: a row for each row of the union in a sparse one, and its own rows in a dense one.
@@ -348,31 +430,56 @@ fn variant_of<'a>(
     Ok(column)
 }
 
-/// Unions of fields.
+/// Unions of fields, with type ids or without, of a mode.
 #[cycle(rows)]
 fn unions(
     alloc: Global,
     data_type: &DataType,
-    fields: &[Field],
-    ids: &[i32],
-    mode: UnionMode,
+    of: (&[Field], &Option<Vec<i32>>, UnionMode),
     rows: &[Piece<'_>],
     depth: usize,
 ) -> Result<Box<AnyArray>, Fault> {
-    let rows = ids_and_rows(alloc, ids, rows)?;
+    let (fields, ids, mode) = of;
+    let ids = ids_of(alloc, fields, ids)?;
+    let rows = ids_and_rows(alloc, &ids, rows)?;
     let mut children = Vec::new(alloc);
-    for (field, id) in fields.iter().zip(ids) {
+    for (field, id) in fields.iter().zip(&ids) {
         let column = variant_of(alloc, *id, mode, &rows)?;
-        let child = array_of_rows(alloc, field.data_type(), &column, false, depth)?;
-        children.push(Box::into_inner(child))?;
+        push_child(
+            &mut children,
+            array_of_rows(alloc, field.data_type(), &column, false, depth)?,
+        )?;
     }
     let types = types_of(alloc, &rows)?;
-    let offsets = match mode {
-        UnionMode::Sparse => None,
-        UnionMode::Dense => Some(places_of(alloc, &rows)?),
-    };
-    let array = UnionArray::try_new(data_type.clone()?, types, children, offsets)?;
-    boxed(alloc, AnyArray::Union(array))
+    let offsets = offsets_in(alloc, mode, &rows)?;
+    union_array(alloc, data_type, types, children, offsets)
+}
+
+/// Where each row of a dense union lies; nothing of a sparse one.
+fn offsets_in(
+    alloc: Global,
+    mode: UnionMode,
+    rows: &[(i8, Piece<'_>)],
+) -> Result<Option<Buffer<i32>>, Fault> {
+    match mode {
+        UnionMode::Sparse => Ok(None),
+        UnionMode::Dense => Ok(Some(places_of(alloc, rows)?)),
+    }
+}
+
+/// Unions of these parts.
+pub(crate) fn union_array(
+    alloc: Global,
+    data_type: &DataType,
+    types: Buffer<i8>,
+    children: Vec<AnyArray>,
+    offsets: Option<Buffer<i32>>,
+) -> Result<Box<AnyArray>, Fault> {
+    let data_type = data_type.clone()?;
+    boxed(
+        alloc,
+        UnionArray::try_new(data_type, types, children, offsets).map(AnyArray::Union),
+    )
 }
 
 /// The type ids of rows.
@@ -402,18 +509,34 @@ fn places_of(alloc: Global, rows: &[(i8, Piece<'_>)]) -> Result<Buffer<i32>, Fau
 fn dictionaries(
     alloc: Global,
     data_type: &DataType,
-    of: (IntegerType, &DataType),
+    values: &DataType,
     rows: &[Piece<'_>],
     is_marked: bool,
     depth: usize,
 ) -> Result<Box<AnyArray>, Fault> {
-    let (keys, values) = of;
     let (places, found) = keys_and_values(alloc, rows)?;
     let values = array_of_rows(alloc, values, &found, false, depth)?;
-    let validity = validity_of(alloc, rows, is_marked)?;
-    let keys = any_keys(alloc, keys, &places, validity)?;
-    let array = DictionaryArray::try_new(data_type.clone()?, keys, values)?;
-    boxed(alloc, AnyArray::Dictionary(array))
+    let keys = any_keys(
+        alloc,
+        data_type,
+        &places,
+        validity_of(alloc, rows, is_marked)?,
+    )?;
+    dictionary_array(alloc, data_type, keys, values)
+}
+
+/// Dictionaries of these parts.
+pub(crate) fn dictionary_array(
+    alloc: Global,
+    data_type: &DataType,
+    keys: AnyKeys,
+    values: Box<AnyArray>,
+) -> Result<Box<AnyArray>, Fault> {
+    let data_type = data_type.clone()?;
+    boxed(
+        alloc,
+        DictionaryArray::try_new(data_type, keys, values).map(AnyArray::Dictionary),
+    )
 }
 
 /// The place of each row's value among all values, and these. A null that stores nothing has place 0.
@@ -444,50 +567,61 @@ fn place_of<'a>(values: &mut Vec<Piece<'a>>, value: Piece<'a>) -> Result<usize, 
     }
 }
 
-/// Keys of a type.
+/// Keys of a dictionary's type.
 fn any_keys(
     alloc: Global,
-    of: IntegerType,
+    dictionary: &DataType,
     places: &[usize],
     validity: Option<Bitmap>,
 ) -> Result<AnyKeys, Fault> {
+    let PhysicalType::Dictionary(of) = dictionary.to_physical_type() else {
+        return Err(Fault::Usage);
+    };
     match of {
-        IntegerType::Int8 => Ok(AnyKeys::Int8(keys_of(alloc, DataType::Int8, places, validity)?)),
-        IntegerType::Int16 => {
-            Ok(AnyKeys::Int16(keys_of(alloc, DataType::Int16, places, validity)?))
-        }
-        IntegerType::Int32 => {
-            Ok(AnyKeys::Int32(keys_of(alloc, DataType::Int32, places, validity)?))
-        }
-        IntegerType::Int64 => {
-            Ok(AnyKeys::Int64(keys_of(alloc, DataType::Int64, places, validity)?))
-        }
-        IntegerType::UInt8 => {
-            Ok(AnyKeys::UInt8(keys_of(alloc, DataType::UInt8, places, validity)?))
-        }
-        IntegerType::UInt16 => {
-            Ok(AnyKeys::UInt16(keys_of(alloc, DataType::UInt16, places, validity)?))
-        }
-        IntegerType::UInt32 => {
-            Ok(AnyKeys::UInt32(keys_of(alloc, DataType::UInt32, places, validity)?))
-        }
-        IntegerType::UInt64 => {
-            Ok(AnyKeys::UInt64(keys_of(alloc, DataType::UInt64, places, validity)?))
-        }
+        IntegerType::Int8 => keys_of(alloc, places, validity, AnyKeys::Int8),
+        IntegerType::Int16 => keys_of(alloc, places, validity, AnyKeys::Int16),
+        IntegerType::Int32 => keys_of(alloc, places, validity, AnyKeys::Int32),
+        IntegerType::Int64 => keys_of(alloc, places, validity, AnyKeys::Int64),
+        IntegerType::UInt8 => keys_of(alloc, places, validity, AnyKeys::UInt8),
+        IntegerType::UInt16 => keys_of(alloc, places, validity, AnyKeys::UInt16),
+        IntegerType::UInt32 => keys_of(alloc, places, validity, AnyKeys::UInt32),
+        IntegerType::UInt64 => keys_of(alloc, places, validity, AnyKeys::UInt64),
     }
 }
 
-/// Keys of one type; too many values for it are refused.
+/// Keys of one type.
 fn keys_of<K: DictionaryKey>(
     alloc: Global,
-    data_type: DataType,
     places: &[usize],
     validity: Option<Bitmap>,
-) -> Result<PrimitiveArray<K>, Fault> {
+    wrap: fn(PrimitiveArray<K>) -> AnyKeys,
+) -> Result<AnyKeys, Fault> {
+    let keys = numbered(alloc, places)?;
+    match PrimitiveArray::<K>::try_new(key_data_type(K::KEY_TYPE), keys, validity) {
+        Ok(keys) => Ok(wrap(keys)),
+        Err(error) => Err(Fault::Refused(error)),
+    }
+}
+
+/// Places as keys; too many values for their type are refused.
+fn numbered<K: DictionaryKey>(alloc: Global, places: &[usize]) -> Result<Buffer<K>, Fault> {
     let mut keys = Vec::with_capacity(alloc, places.len())?;
     for place in places {
         keys.push(K::from_usize(*place).ok_or(Fault::Refused(Error::Overflow))?)?;
     }
-    let keys = Buffer::from_vec(alloc, keys)?;
-    Ok(PrimitiveArray::<K>::try_new(data_type, keys, validity)?)
+    Ok(Buffer::from_vec(alloc, keys)?)
+}
+
+/// The data type of keys.
+fn key_data_type(of: IntegerType) -> DataType {
+    match of {
+        IntegerType::Int8 => DataType::Int8,
+        IntegerType::Int16 => DataType::Int16,
+        IntegerType::Int32 => DataType::Int32,
+        IntegerType::Int64 => DataType::Int64,
+        IntegerType::UInt8 => DataType::UInt8,
+        IntegerType::UInt16 => DataType::UInt16,
+        IntegerType::UInt32 => DataType::UInt32,
+        IntegerType::UInt64 => DataType::UInt64,
+    }
 }

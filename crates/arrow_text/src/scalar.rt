@@ -1,17 +1,19 @@
 //! Scalars as text: a type and a row, as `i32(5)`.
 
 use crate::fault::Fault;
+use crate::flat::of_element;
 use crate::number::Element;
-use crate::parts::Parts;
+use crate::parts::{Parts, kind_of};
 use crate::piece::Piece;
 use crate::row::read_bytes;
-use crate::types::{DEEPEST, read_type};
+use crate::types::{DEEPEST, boxed_type};
 use arrow_flat::scalar::{
     AnyPrimitiveScalar, AnyScalar, BinaryScalar, BooleanScalar, DictionaryScalar, PrimitiveScalar,
     Utf8Scalar,
 };
 use arrow_types::datatypes::{DataType, PhysicalType};
-use arrow_types::types::PrimitiveType;
+use arrow_types::error::Error;
+use arrow_types::types::{Offset, PrimitiveType};
 use std::alloc::Global;
 
 /// The scalar that a text says.
@@ -26,14 +28,30 @@ fn scalar_of(alloc: Global, piece: Piece<'_>, depth: usize) -> Result<Box<AnySca
         return Err(piece.fault());
     }
     if let Some((head, row)) = piece.headed('(', ")") {
-        let data_type = read_type(alloc, head)?;
-        return scalar_of_row(alloc, &data_type, row, DEEPEST);
+        return typed_row(alloc, head, row);
     }
-    let Some((head, parts)) = piece.headed('{', "}") else {
-        return Err(piece.fault());
-    };
-    let data_type = read_type(alloc, head)?;
-    scalar_of_parts(alloc, &data_type, parts, depth - 1)
+    match piece.headed('{', "}") {
+        Some((head, parts)) => typed_parts(alloc, head, parts, depth - 1),
+        None => Err(piece.fault()),
+    }
+}
+
+/// A scalar of the type that a text says, and a row.
+fn typed_row(alloc: Global, head: Piece<'_>, row: Piece<'_>) -> Result<Box<AnyScalar>, Fault> {
+    let data_type = boxed_type(alloc, head)?;
+    scalar_of_row(alloc, &data_type, row, DEEPEST)
+}
+
+/// A scalar of the type that a text says, and parts.
+#[cycle(scalar)]
+fn typed_parts(
+    alloc: Global,
+    head: Piece<'_>,
+    parts: Piece<'_>,
+    depth: usize,
+) -> Result<Box<AnyScalar>, Fault> {
+    let data_type = boxed_type(alloc, head)?;
+    scalar_of_parts(alloc, &data_type, parts, depth)
 }
 
 /// What a row stores, unless it is null.
@@ -51,17 +69,23 @@ fn scalar_of_row(
     if depth == 0 {
         return Err(row.fault());
     }
-    if let DataType::Dictionary(_, values, _) = data_type.to_logical_type() {
-        let value = match value_of(row) {
-            Some(value) => {
-                let value = value.strip_prefix("&").unwrap_or(value);
-                Some(scalar_of_row(alloc, values, value, depth - 1)?)
-            }
-            None => None,
-        };
-        return dictionary(alloc, data_type, value);
+    match (data_type.to_logical_type(), value_of(row)) {
+        (DataType::Dictionary(_, values, _), Some(value)) => {
+            let value = value.strip_prefix("&").unwrap_or(value);
+            let value = scalar_of_row(alloc, values, value, depth - 1)?;
+            dictionary(alloc, data_type, Some(value))
+        }
+        (DataType::Dictionary(_, _, _), None) => dictionary(alloc, data_type, None),
+        (_, value) => flat_scalar(alloc, data_type, value),
     }
-    flat_scalar(alloc, data_type, value_of(row))
+}
+
+/// The scalar that a constructor made, in a box.
+fn boxed(alloc: Global, made: Result<AnyScalar, Error>) -> Result<Box<AnyScalar>, Fault> {
+    match made {
+        Ok(scalar) => Ok(Box::new(alloc, scalar)?),
+        Err(error) => Err(Fault::Refused(error)),
+    }
 }
 
 /// A scalar of a dictionary.
@@ -70,8 +94,11 @@ fn dictionary(
     data_type: &DataType,
     value: Option<Box<AnyScalar>>,
 ) -> Result<Box<AnyScalar>, Fault> {
-    let scalar = DictionaryScalar::try_new(data_type.clone()?, value)?;
-    Ok(Box::new(alloc, AnyScalar::Dictionary(scalar))?)
+    let data_type = data_type.clone()?;
+    boxed(
+        alloc,
+        DictionaryScalar::try_new(data_type, value).map(AnyScalar::Dictionary),
+    )
 }
 
 /// A scalar whose type is no dictionary.
@@ -82,23 +109,11 @@ fn flat_scalar(
 ) -> Result<Box<AnyScalar>, Fault> {
     match data_type {
         DataType::Boolean => truth(alloc, value),
-        DataType::Utf8 => {
-            let scalar = Utf8Scalar::<i32>::new(text_of(alloc, value)?);
-            Ok(Box::new(alloc, AnyScalar::Utf8(scalar))?)
-        }
-        DataType::LargeUtf8 => {
-            let scalar = Utf8Scalar::<i64>::new(text_of(alloc, value)?);
-            Ok(Box::new(alloc, AnyScalar::LargeUtf8(scalar))?)
-        }
-        DataType::Binary => {
-            let scalar = BinaryScalar::<i32>::new(bytes_of(alloc, value)?);
-            Ok(Box::new(alloc, AnyScalar::Binary(scalar))?)
-        }
-        DataType::LargeBinary => {
-            let scalar = BinaryScalar::<i64>::new(bytes_of(alloc, value)?);
-            Ok(Box::new(alloc, AnyScalar::LargeBinary(scalar))?)
-        }
-        _ => match data_type.to_physical_type() {
+        DataType::Utf8 => text(alloc, value, AnyScalar::Utf8),
+        DataType::LargeUtf8 => text(alloc, value, AnyScalar::LargeUtf8),
+        DataType::Binary => bytes(alloc, value, AnyScalar::Binary),
+        DataType::LargeBinary => bytes(alloc, value, AnyScalar::LargeBinary),
+        data_type => match data_type.to_physical_type() {
             PhysicalType::Primitive(of) => number(alloc, data_type, of, value),
             _ => Err(Fault::Usage),
         },
@@ -111,13 +126,33 @@ fn truth(alloc: Global, value: Option<Piece<'_>>) -> Result<Box<AnyScalar>, Faul
         Some(value) => Some(value.truth()?),
         None => None,
     };
-    Ok(Box::new(alloc, AnyScalar::Boolean(BooleanScalar::new(value)))?)
+    boxed(alloc, Ok(AnyScalar::Boolean(BooleanScalar::new(value))))
+}
+
+/// Characters.
+fn text<O: Offset>(
+    alloc: Global,
+    value: Option<Piece<'_>>,
+    wrap: fn(Utf8Scalar<O>) -> AnyScalar,
+) -> Result<Box<AnyScalar>, Fault> {
+    let value = text_of(alloc, value)?;
+    boxed(alloc, Ok(wrap(Utf8Scalar::<O>::new(value))))
+}
+
+/// Bytes.
+fn bytes<O: Offset>(
+    alloc: Global,
+    value: Option<Piece<'_>>,
+    wrap: fn(BinaryScalar<O>) -> AnyScalar,
+) -> Result<Box<AnyScalar>, Fault> {
+    let value = bytes_of(alloc, value)?;
+    boxed(alloc, Ok(wrap(BinaryScalar::<O>::new(value))))
 }
 
 /// The bytes of a value.
 fn bytes_of(alloc: Global, value: Option<Piece<'_>>) -> Result<Option<Vec<u8>>, Fault> {
     match value {
-        Some(value) => Ok(Some(read_bytes(alloc, value)?)),
+        Some(value) => read_bytes(alloc, value).map(Some),
         None => Ok(None),
     }
 }
@@ -140,45 +175,30 @@ fn number(
     of: PrimitiveType,
     value: Option<Piece<'_>>,
 ) -> Result<Box<AnyScalar>, Fault> {
-    let scalar = any_number(data_type, of, value)?;
-    Ok(Box::new(alloc, AnyScalar::Primitive(scalar))?)
-}
-
-/// The same, outside a box.
-fn any_number(
-    data_type: &DataType,
-    of: PrimitiveType,
-    value: Option<Piece<'_>>,
-) -> Result<AnyPrimitiveScalar, Fault> {
-    match of {
-        PrimitiveType::Int8 => Ok(AnyPrimitiveScalar::Int8(element(data_type, value)?)),
-        PrimitiveType::Int16 => Ok(AnyPrimitiveScalar::Int16(element(data_type, value)?)),
-        PrimitiveType::Int32 => Ok(AnyPrimitiveScalar::Int32(element(data_type, value)?)),
-        PrimitiveType::Int64 => Ok(AnyPrimitiveScalar::Int64(element(data_type, value)?)),
-        PrimitiveType::Int128 => Ok(AnyPrimitiveScalar::Int128(element(data_type, value)?)),
-        PrimitiveType::Int256 => Ok(AnyPrimitiveScalar::Int256(element(data_type, value)?)),
-        PrimitiveType::UInt8 => Ok(AnyPrimitiveScalar::UInt8(element(data_type, value)?)),
-        PrimitiveType::UInt16 => Ok(AnyPrimitiveScalar::UInt16(element(data_type, value)?)),
-        PrimitiveType::UInt32 => Ok(AnyPrimitiveScalar::UInt32(element(data_type, value)?)),
-        PrimitiveType::UInt64 => Ok(AnyPrimitiveScalar::UInt64(element(data_type, value)?)),
-        PrimitiveType::DaysMs => Ok(AnyPrimitiveScalar::DaysMs(element(data_type, value)?)),
-        PrimitiveType::MonthDayNano => {
-            Ok(AnyPrimitiveScalar::MonthDayNano(element(data_type, value)?))
-        }
-        _ => Err(Fault::Usage),
-    }
+    of_element!(AnyPrimitiveScalar, of, element(alloc, data_type, value))
 }
 
 /// An element.
 fn element<T: Element>(
+    alloc: Global,
     data_type: &DataType,
     value: Option<Piece<'_>>,
-) -> Result<PrimitiveScalar<T>, Fault> {
-    let value = match value {
-        Some(value) => Some(T::read(value)?),
-        None => None,
-    };
-    Ok(PrimitiveScalar::<T>::try_new(data_type.clone()?, value)?)
+    wrap: fn(PrimitiveScalar<T>) -> AnyPrimitiveScalar,
+) -> Result<Box<AnyScalar>, Fault> {
+    let value = optional_element(value)?;
+    let data_type = data_type.clone()?;
+    match PrimitiveScalar::<T>::try_new(data_type, value) {
+        Ok(scalar) => Ok(Box::new(alloc, AnyScalar::Primitive(wrap(scalar)))?),
+        Err(error) => Err(Fault::Refused(error)),
+    }
+}
+
+/// The element that a text says, where there is one.
+fn optional_element<T: Element>(value: Option<Piece<'_>>) -> Result<Option<T>, Fault> {
+    match value {
+        Some(value) => T::read(value).map(Some),
+        None => Ok(None),
+    }
 }
 
 /// A scalar by its value as it is: of a dictionary a scalar, or an element of a kind that is named.
@@ -191,20 +211,26 @@ fn scalar_of_parts(
 ) -> Result<Box<AnyScalar>, Fault> {
     let parts = Parts::read(alloc, text)?;
     let value = parts.part("value")?;
-    let value = if value.text() == "none" {
-        None
-    } else {
-        Some(value)
-    };
-    if let Some(word) = parts.get("kind") {
-        return match crate::parts::kind_of(word)? {
-            PhysicalType::Primitive(of) => number(alloc, data_type, of, value),
-            _ => Err(word.fault()),
-        };
+    match (parts.get("kind"), value.text()) {
+        (Some(word), "none") => number_of_kind(alloc, data_type, word, None),
+        (Some(word), _) => number_of_kind(alloc, data_type, word, Some(value)),
+        (None, "none") => dictionary(alloc, data_type, None),
+        (None, _) => {
+            let value = scalar_of(alloc, value, depth)?;
+            dictionary(alloc, data_type, Some(value))
+        }
     }
-    let value = match value {
-        Some(value) => Some(scalar_of(alloc, value, depth)?),
-        None => None,
-    };
-    dictionary(alloc, data_type, value)
+}
+
+/// An element of a kind that is named.
+fn number_of_kind(
+    alloc: Global,
+    data_type: &DataType,
+    word: Piece<'_>,
+    value: Option<Piece<'_>>,
+) -> Result<Box<AnyScalar>, Fault> {
+    match kind_of(word)? {
+        PhysicalType::Primitive(of) => number(alloc, data_type, of, value),
+        _ => Err(word.fault()),
+    }
 }

@@ -9,9 +9,6 @@ decreases-array_of_rows l = 2 * l.depth + 0
 abbrev pub decreases-lists : goal.decreases-lists
 decreases-lists l = 2 * l.depth + 1
 
-abbrev pub decreases-maps : goal.decreases-maps
-decreases-maps l = 2 * l.depth + 1
-
 abbrev pub decreases-fixed_lists : goal.decreases-fixed_lists
 decreases-fixed_lists l = 2 * l.depth + 1
 
