@@ -5,16 +5,16 @@ use crate::number::Element;
 use crate::piece::Piece;
 use crate::read::{boxed, offsets_of};
 use crate::row::{push_bytes, push_zeros, validity_of};
-use arrow_arrays::array::AnyArray;
+use arrow_arrays::array::{AnyArray, AnyOffset, AnyRows};
 use arrow_flat::array::{
-    AnyPrimitive, BooleanArray, ByteKind, ByteRows, FixedSizeBinaryArray, FlatArray, NullArray,
-    PrimitiveArray,
+    Binary, BooleanArray, ByteRows, FixedSizeBinaryArray, FlatArray, NullArray, PrimitiveArray,
+    Text,
 };
 use arrow_memory::bitmap::{Bitmap, MutableBitmap};
 use arrow_memory::buffer::Buffer;
 use arrow_memory::offset::OffsetsBuffer;
 use arrow_types::datatypes::{DataType, PhysicalType};
-use arrow_types::types::{Offset, PrimitiveType};
+use arrow_types::types::{PrimitiveType, days_ms, i256, months_days_ns};
 use std::alloc::Global;
 
 /// An array without children of these rows.
@@ -28,14 +28,10 @@ pub(crate) fn flat_rows(
         PhysicalType::Null => nulls(alloc, data_type, rows),
         PhysicalType::Boolean => truths(alloc, data_type, rows, is_marked),
         PhysicalType::Primitive(of) => primitives(alloc, data_type, of, rows, is_marked),
-        PhysicalType::Utf8 => byte_rows(alloc, data_type, rows, is_marked, AnyArray::Utf8),
-        PhysicalType::LargeUtf8 => {
-            byte_rows(alloc, data_type, rows, is_marked, AnyArray::LargeUtf8)
-        }
-        PhysicalType::Binary => byte_rows(alloc, data_type, rows, is_marked, AnyArray::Binary),
-        PhysicalType::LargeBinary => {
-            byte_rows(alloc, data_type, rows, is_marked, AnyArray::LargeBinary)
-        }
+        PhysicalType::Utf8 => byte_rows::<i32, Text>(alloc, data_type, rows, is_marked),
+        PhysicalType::LargeUtf8 => byte_rows::<i64, Text>(alloc, data_type, rows, is_marked),
+        PhysicalType::Binary => byte_rows::<i32, Binary>(alloc, data_type, rows, is_marked),
+        PhysicalType::LargeBinary => byte_rows::<i64, Binary>(alloc, data_type, rows, is_marked),
         _ => Err(Fault::Usage),
     }
 }
@@ -46,10 +42,8 @@ fn nulls(alloc: Global, data_type: &DataType, rows: &[Piece<'_>]) -> Result<Box<
         return Err(row.fault());
     }
     let data_type = data_type.clone()?;
-    boxed(
-        alloc,
-        NullArray::try_new(data_type, rows.len()).map(AnyArray::Null),
-    )
+    let array = NullArray::try_new(data_type, rows.len())?;
+    boxed(alloc, AnyArray::Null(array))
 }
 
 /// Truth values.
@@ -62,10 +56,8 @@ fn truths(
     let validity = validity_of(alloc, rows, is_marked)?;
     let bits = bits_of(alloc, rows)?;
     let data_type = data_type.clone()?;
-    boxed(
-        alloc,
-        BooleanArray::try_new(data_type, bits, validity).map(AnyArray::Boolean),
-    )
+    let array = BooleanArray::try_new(data_type, bits, validity)?;
+    boxed(alloc, AnyArray::Boolean(array))
 }
 
 /// A bit for each row: not set where nothing is stored.
@@ -85,22 +77,22 @@ fn truth_of(row: Piece<'_>) -> Result<bool, Fault> {
     }
 }
 
-/// A call for the element type that is known when the program runs: its last argument is what makes one of any type.
+/// A generic call at the element type, which is known when the program runs.
 macro_rules! of_element {
-    ($kind:ident, $of:expr, $read:ident ( $($given:expr),* )) => {
+    ($of:expr, $read:ident ( $($given:expr),* )) => {
         match $of {
-            PrimitiveType::Int8 => $read($($given,)* $kind::Int8),
-            PrimitiveType::Int16 => $read($($given,)* $kind::Int16),
-            PrimitiveType::Int32 => $read($($given,)* $kind::Int32),
-            PrimitiveType::Int64 => $read($($given,)* $kind::Int64),
-            PrimitiveType::Int128 => $read($($given,)* $kind::Int128),
-            PrimitiveType::Int256 => $read($($given,)* $kind::Int256),
-            PrimitiveType::UInt8 => $read($($given,)* $kind::UInt8),
-            PrimitiveType::UInt16 => $read($($given,)* $kind::UInt16),
-            PrimitiveType::UInt32 => $read($($given,)* $kind::UInt32),
-            PrimitiveType::UInt64 => $read($($given,)* $kind::UInt64),
-            PrimitiveType::DaysMs => $read($($given,)* $kind::DaysMs),
-            PrimitiveType::MonthDayNano => $read($($given,)* $kind::MonthDayNano),
+            PrimitiveType::Int8 => $read::<i8>($($given),*),
+            PrimitiveType::Int16 => $read::<i16>($($given),*),
+            PrimitiveType::Int32 => $read::<i32>($($given),*),
+            PrimitiveType::Int64 => $read::<i64>($($given),*),
+            PrimitiveType::Int128 => $read::<i128>($($given),*),
+            PrimitiveType::Int256 => $read::<i256>($($given),*),
+            PrimitiveType::UInt8 => $read::<u8>($($given),*),
+            PrimitiveType::UInt16 => $read::<u16>($($given),*),
+            PrimitiveType::UInt32 => $read::<u32>($($given),*),
+            PrimitiveType::UInt64 => $read::<u64>($($given),*),
+            PrimitiveType::DaysMs => $read::<days_ms>($($given),*),
+            PrimitiveType::MonthDayNano => $read::<months_days_ns>($($given),*),
             _ => Err(Fault::Usage),
         }
     };
@@ -116,7 +108,7 @@ fn primitives(
     rows: &[Piece<'_>],
     is_marked: bool,
 ) -> Result<Box<AnyArray>, Fault> {
-    of_element!(AnyPrimitive, of, numbers(alloc, data_type, rows, is_marked))
+    of_element!(of, numbers(alloc, data_type, rows, is_marked))
 }
 
 /// The elements of rows.
@@ -125,11 +117,10 @@ fn numbers<T: Element>(
     data_type: &DataType,
     rows: &[Piece<'_>],
     is_marked: bool,
-    wrap: fn(PrimitiveArray<T>) -> AnyPrimitive,
 ) -> Result<Box<AnyArray>, Fault> {
     let validity = validity_of(alloc, rows, is_marked)?;
-    let values = elements_of(alloc, rows)?;
-    primitive(alloc, data_type, values, validity, wrap)
+    let values = elements_of::<T>(alloc, rows)?;
+    primitive(alloc, data_type, values, validity)
 }
 
 /// What is stored in each row.
@@ -147,28 +138,25 @@ pub(crate) fn primitive<T: Element>(
     data_type: &DataType,
     values: Buffer<T>,
     validity: Option<Bitmap>,
-    wrap: fn(PrimitiveArray<T>) -> AnyPrimitive,
 ) -> Result<Box<AnyArray>, Fault> {
     let data_type = data_type.clone()?;
-    match PrimitiveArray::<T>::try_new(data_type, values, validity) {
-        Ok(array) => Ok(Box::new(alloc, AnyArray::Primitive(wrap(array)))?),
-        Err(error) => Err(Fault::Refused(error)),
-    }
+    let array = PrimitiveArray::<T>::try_new(data_type, values, validity)?;
+    let array = T::to_any(&array)?;
+    boxed(alloc, AnyArray::Primitive(array))
 }
 
 /// Texts or bytes.
-fn byte_rows<O: Offset, K: ByteKind>(
+fn byte_rows<O: AnyOffset, K: AnyRows>(
     alloc: Global,
     data_type: &DataType,
     rows: &[Piece<'_>],
     is_marked: bool,
-    wrap: fn(FlatArray<ByteRows<O, K>>) -> AnyArray,
 ) -> Result<Box<AnyArray>, Fault> {
     let validity = validity_of(alloc, rows, is_marked)?;
     let (bytes, lengths) = bytes_of(alloc, rows)?;
     let bytes = Buffer::from_vec(alloc, bytes)?;
     let offsets = offsets_of::<O>(alloc, &lengths)?;
-    bytes_array(alloc, data_type, offsets, bytes, validity, wrap)
+    bytes_array::<O, K>(alloc, data_type, offsets, bytes, validity)
 }
 
 /// The bytes of all rows, and how many each row has: none where nothing is stored.
@@ -191,19 +179,16 @@ fn push_stored(bytes: &mut Vec<u8>, row: Piece<'_>) -> Result<(), Fault> {
 }
 
 /// Texts or bytes of these parts.
-pub(crate) fn bytes_array<O: Offset, K: ByteKind>(
+pub(crate) fn bytes_array<O: AnyOffset, K: AnyRows>(
     alloc: Global,
     data_type: &DataType,
     offsets: OffsetsBuffer<O>,
     bytes: Buffer<u8>,
     validity: Option<Bitmap>,
-    wrap: fn(FlatArray<ByteRows<O, K>>) -> AnyArray,
 ) -> Result<Box<AnyArray>, Fault> {
     let data_type = data_type.clone()?;
-    match FlatArray::<ByteRows<O, K>>::try_new(data_type, offsets, bytes, validity) {
-        Ok(array) => Ok(Box::new(alloc, wrap(array))?),
-        Err(error) => Err(Fault::Refused(error)),
-    }
+    let array = FlatArray::<ByteRows<O, K>>::try_new(data_type, offsets, bytes, validity)?;
+    boxed(alloc, K::to_any(&array)?)
 }
 
 /// Rows of so many bytes each: zeros where nothing is stored.
@@ -227,10 +212,8 @@ pub(crate) fn fixed_bytes_array(
     validity: Option<Bitmap>,
 ) -> Result<Box<AnyArray>, Fault> {
     let data_type = data_type.clone()?;
-    boxed(
-        alloc,
-        FixedSizeBinaryArray::try_new(data_type, bytes, validity).map(AnyArray::FixedSizeBinary),
-    )
+    let array = FixedSizeBinaryArray::try_new(data_type, bytes, validity)?;
+    boxed(alloc, AnyArray::FixedSizeBinary(array))
 }
 
 /// The bytes of all rows, so many each.

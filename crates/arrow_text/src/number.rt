@@ -3,7 +3,9 @@
 use crate::fault::Fault;
 use crate::piece::Piece;
 use crate::write::show;
-use arrow_types::types::{NativeType, days_ms, i256, months_days_ns};
+use arrow_flat::array::AnyElement;
+use arrow_flat::scalar::{AnyPrimitiveScalar, PrimitiveScalar};
+use arrow_types::types::{days_ms, i256, months_days_ns};
 use std::fmt::Display;
 
 /// An integer of a type of its own width.
@@ -79,12 +81,15 @@ impl Integer for usize {
 }
 
 /// An element of primitive arrays, which text can say.
-pub trait Element: NativeType {
+pub trait Element: AnyElement {
     /// The element that this text says.
     fn read(piece: Piece<'_>) -> Result<Self, Fault>;
 
     /// Appends the text of an element.
     fn write(self, out: &mut String) -> Result<(), Fault>;
+
+    /// A scalar as one of any element type.
+    fn to_scalar(scalar: PrimitiveScalar<Self>) -> AnyPrimitiveScalar;
 }
 
 impl Element for i8 {
@@ -94,6 +99,10 @@ impl Element for i8 {
 
     fn write(self, out: &mut String) -> Result<(), Fault> {
         show(out, self)
+    }
+
+    fn to_scalar(scalar: PrimitiveScalar<i8>) -> AnyPrimitiveScalar {
+        AnyPrimitiveScalar::Int8(scalar)
     }
 }
 
@@ -105,6 +114,10 @@ impl Element for i16 {
     fn write(self, out: &mut String) -> Result<(), Fault> {
         show(out, self)
     }
+
+    fn to_scalar(scalar: PrimitiveScalar<i16>) -> AnyPrimitiveScalar {
+        AnyPrimitiveScalar::Int16(scalar)
+    }
 }
 
 impl Element for i32 {
@@ -114,6 +127,10 @@ impl Element for i32 {
 
     fn write(self, out: &mut String) -> Result<(), Fault> {
         show(out, self)
+    }
+
+    fn to_scalar(scalar: PrimitiveScalar<i32>) -> AnyPrimitiveScalar {
+        AnyPrimitiveScalar::Int32(scalar)
     }
 }
 
@@ -125,6 +142,10 @@ impl Element for i64 {
     fn write(self, out: &mut String) -> Result<(), Fault> {
         show(out, self)
     }
+
+    fn to_scalar(scalar: PrimitiveScalar<i64>) -> AnyPrimitiveScalar {
+        AnyPrimitiveScalar::Int64(scalar)
+    }
 }
 
 impl Element for i128 {
@@ -134,6 +155,10 @@ impl Element for i128 {
 
     fn write(self, out: &mut String) -> Result<(), Fault> {
         show(out, self)
+    }
+
+    fn to_scalar(scalar: PrimitiveScalar<i128>) -> AnyPrimitiveScalar {
+        AnyPrimitiveScalar::Int128(scalar)
     }
 }
 
@@ -145,6 +170,10 @@ impl Element for u8 {
     fn write(self, out: &mut String) -> Result<(), Fault> {
         show(out, self)
     }
+
+    fn to_scalar(scalar: PrimitiveScalar<u8>) -> AnyPrimitiveScalar {
+        AnyPrimitiveScalar::UInt8(scalar)
+    }
 }
 
 impl Element for u16 {
@@ -154,6 +183,10 @@ impl Element for u16 {
 
     fn write(self, out: &mut String) -> Result<(), Fault> {
         show(out, self)
+    }
+
+    fn to_scalar(scalar: PrimitiveScalar<u16>) -> AnyPrimitiveScalar {
+        AnyPrimitiveScalar::UInt16(scalar)
     }
 }
 
@@ -165,6 +198,10 @@ impl Element for u32 {
     fn write(self, out: &mut String) -> Result<(), Fault> {
         show(out, self)
     }
+
+    fn to_scalar(scalar: PrimitiveScalar<u32>) -> AnyPrimitiveScalar {
+        AnyPrimitiveScalar::UInt32(scalar)
+    }
 }
 
 impl Element for u64 {
@@ -174,6 +211,10 @@ impl Element for u64 {
 
     fn write(self, out: &mut String) -> Result<(), Fault> {
         show(out, self)
+    }
+
+    fn to_scalar(scalar: PrimitiveScalar<u64>) -> AnyPrimitiveScalar {
+        AnyPrimitiveScalar::UInt64(scalar)
     }
 }
 
@@ -207,6 +248,10 @@ impl Element for i256 {
     fn write(self, out: &mut String) -> Result<(), Fault> {
         write_pair(out, self.high(), self.low())
     }
+
+    fn to_scalar(scalar: PrimitiveScalar<i256>) -> AnyPrimitiveScalar {
+        AnyPrimitiveScalar::Int256(scalar)
+    }
 }
 
 /// Days and milliseconds, as `1:-500`.
@@ -218,6 +263,10 @@ impl Element for days_ms {
 
     fn write(self, out: &mut String) -> Result<(), Fault> {
         write_pair(out, self.days(), self.milliseconds())
+    }
+
+    fn to_scalar(scalar: PrimitiveScalar<days_ms>) -> AnyPrimitiveScalar {
+        AnyPrimitiveScalar::DaysMs(scalar)
     }
 }
 
@@ -233,6 +282,10 @@ impl Element for months_days_ns {
     fn write(self, out: &mut String) -> Result<(), Fault> {
         write_pair(out, self.months(), self.days())?;
         write_tail(out, self.ns())
+    }
+
+    fn to_scalar(scalar: PrimitiveScalar<months_days_ns>) -> AnyPrimitiveScalar {
+        AnyPrimitiveScalar::MonthDayNano(scalar)
     }
 }
 

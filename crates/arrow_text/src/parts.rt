@@ -11,15 +11,13 @@ use crate::read::{
 };
 use crate::row::{read_bytes, rows_in};
 use crate::types::find;
-use arrow_arrays::array::{AnyArray, AnyKeys, AnyOffsetsBuffer};
-use arrow_flat::array::{
-    AnyPrimitive, BooleanArray, ByteKind, ByteRows, FlatArray, NullArray, PrimitiveArray,
-};
+use arrow_arrays::array::{AnyArray, AnyKeys, AnyOffset, AnyOffsetsBuffer, AnyRows};
+use arrow_flat::array::{AnyPrimitive, Binary, BooleanArray, NullArray, Text};
 use arrow_memory::bitmap::Bitmap;
 use arrow_memory::buffer::Buffer;
 use arrow_memory::offset::OffsetsBuffer;
 use arrow_types::datatypes::{DataType, IntegerType, PhysicalType};
-use arrow_types::types::{Offset, PrimitiveType};
+use arrow_types::types::{Offset, PrimitiveType, days_ms, i256, months_days_ns};
 use std::alloc::Global;
 
 /// The constructors of arrays by their words; that of dictionaries looks at no width of keys.
@@ -167,10 +165,10 @@ fn flat_of(
     match kind {
         PhysicalType::Boolean => boolean_of(alloc, data_type, parts),
         PhysicalType::Primitive(of) => primitive_of(alloc, data_type, of, parts),
-        PhysicalType::Utf8 => bytes_of(alloc, data_type, parts, AnyArray::Utf8),
-        PhysicalType::LargeUtf8 => bytes_of(alloc, data_type, parts, AnyArray::LargeUtf8),
-        PhysicalType::Binary => bytes_of(alloc, data_type, parts, AnyArray::Binary),
-        PhysicalType::LargeBinary => bytes_of(alloc, data_type, parts, AnyArray::LargeBinary),
+        PhysicalType::Utf8 => bytes_of::<i32, Text>(alloc, data_type, parts),
+        PhysicalType::LargeUtf8 => bytes_of::<i64, Text>(alloc, data_type, parts),
+        PhysicalType::Binary => bytes_of::<i32, Binary>(alloc, data_type, parts),
+        PhysicalType::LargeBinary => bytes_of::<i64, Binary>(alloc, data_type, parts),
         PhysicalType::FixedSizeBinary => fixed_bytes_of(alloc, data_type, parts),
         _ => nulls_of(alloc, data_type, parts),
     }
@@ -184,10 +182,8 @@ fn nulls_of(
 ) -> Result<Box<AnyArray>, Fault> {
     let len = parts.part("len")?.integer()?;
     let data_type = data_type.clone()?;
-    boxed(
-        alloc,
-        NullArray::try_new(data_type, len).map(AnyArray::Null),
-    )
+    let array = NullArray::try_new(data_type, len)?;
+    boxed(alloc, AnyArray::Null(array))
 }
 
 /// Truth values.
@@ -199,10 +195,8 @@ fn boolean_of(
     let values = read_letters(alloc, parts.part("values")?)?;
     let validity = parts.validity(alloc)?;
     let data_type = data_type.clone()?;
-    boxed(
-        alloc,
-        BooleanArray::try_new(data_type, values, validity).map(AnyArray::Boolean),
-    )
+    let array = BooleanArray::try_new(data_type, values, validity)?;
+    boxed(alloc, AnyArray::Boolean(array))
 }
 
 /// A primitive array of an element type that is known when the program runs.
@@ -212,7 +206,7 @@ fn primitive_of(
     of: PrimitiveType,
     parts: &Parts<'_>,
 ) -> Result<Box<AnyArray>, Fault> {
-    of_element!(AnyPrimitive, of, values_of(alloc, data_type, parts))
+    of_element!(of, values_of(alloc, data_type, parts))
 }
 
 /// A primitive array.
@@ -220,11 +214,9 @@ fn values_of<T: Element>(
     alloc: Global,
     data_type: &DataType,
     parts: &Parts<'_>,
-    wrap: fn(PrimitiveArray<T>) -> AnyPrimitive,
 ) -> Result<Box<AnyArray>, Fault> {
-    let values = elements_in(alloc, parts.part("values")?)?;
-    let validity = parts.validity(alloc)?;
-    primitive(alloc, data_type, values, validity, wrap)
+    let values = elements_in::<T>(alloc, parts.part("values")?)?;
+    primitive(alloc, data_type, values, parts.validity(alloc)?)
 }
 
 /// Elements parted by commas.
@@ -237,15 +229,14 @@ fn elements_in<T: Element>(alloc: Global, piece: Piece<'_>) -> Result<Buffer<T>,
 }
 
 /// Texts or bytes.
-fn bytes_of<O: Offset + Integer, K: ByteKind>(
+fn bytes_of<O: AnyOffset + Integer, K: AnyRows>(
     alloc: Global,
     data_type: &DataType,
     parts: &Parts<'_>,
-    wrap: fn(FlatArray<ByteRows<O, K>>) -> AnyArray,
 ) -> Result<Box<AnyArray>, Fault> {
     let (offsets, bytes) = (parts.offsets::<O>(alloc)?, parts.bytes(alloc)?);
     let validity = parts.validity(alloc)?;
-    bytes_array(alloc, data_type, offsets, bytes, validity, wrap)
+    bytes_array::<O, K>(alloc, data_type, offsets, bytes, validity)
 }
 
 /// Rows of a fixed number of bytes.
@@ -382,21 +373,20 @@ fn dictionary_of(
     depth: usize,
 ) -> Result<Box<AnyArray>, Fault> {
     let keys = nested_array(alloc, parts.part("keys")?, depth)?;
-    let keys = keys_in(keys)?;
-    dictionary_array(alloc, data_type, keys, child_of(alloc, parts, depth)?)
+    dictionary_array(alloc, data_type, &keys, child_of(alloc, parts, depth)?)
 }
 
-/// The keys that an array of integers holds.
-fn keys_in(array: Box<AnyArray>) -> Result<AnyKeys, Fault> {
-    match Box::into_inner(array) {
-        AnyArray::Primitive(AnyPrimitive::Int8(keys)) => Ok(AnyKeys::Int8(keys)),
-        AnyArray::Primitive(AnyPrimitive::Int16(keys)) => Ok(AnyKeys::Int16(keys)),
-        AnyArray::Primitive(AnyPrimitive::Int32(keys)) => Ok(AnyKeys::Int32(keys)),
-        AnyArray::Primitive(AnyPrimitive::Int64(keys)) => Ok(AnyKeys::Int64(keys)),
-        AnyArray::Primitive(AnyPrimitive::UInt8(keys)) => Ok(AnyKeys::UInt8(keys)),
-        AnyArray::Primitive(AnyPrimitive::UInt16(keys)) => Ok(AnyKeys::UInt16(keys)),
-        AnyArray::Primitive(AnyPrimitive::UInt32(keys)) => Ok(AnyKeys::UInt32(keys)),
-        AnyArray::Primitive(AnyPrimitive::UInt64(keys)) => Ok(AnyKeys::UInt64(keys)),
+/// The keys that an array of integers holds, which share what is stored.
+pub(crate) fn keys_in(array: &AnyArray) -> Result<AnyKeys, Fault> {
+    match array {
+        AnyArray::Primitive(AnyPrimitive::Int8(keys)) => Ok(AnyKeys::Int8(keys.clone()?)),
+        AnyArray::Primitive(AnyPrimitive::Int16(keys)) => Ok(AnyKeys::Int16(keys.clone()?)),
+        AnyArray::Primitive(AnyPrimitive::Int32(keys)) => Ok(AnyKeys::Int32(keys.clone()?)),
+        AnyArray::Primitive(AnyPrimitive::Int64(keys)) => Ok(AnyKeys::Int64(keys.clone()?)),
+        AnyArray::Primitive(AnyPrimitive::UInt8(keys)) => Ok(AnyKeys::UInt8(keys.clone()?)),
+        AnyArray::Primitive(AnyPrimitive::UInt16(keys)) => Ok(AnyKeys::UInt16(keys.clone()?)),
+        AnyArray::Primitive(AnyPrimitive::UInt32(keys)) => Ok(AnyKeys::UInt32(keys.clone()?)),
+        AnyArray::Primitive(AnyPrimitive::UInt64(keys)) => Ok(AnyKeys::UInt64(keys.clone()?)),
         _ => Err(Fault::Usage),
     }
 }

@@ -1,16 +1,16 @@
 //! Arrays as text: a type and its rows, as `i32[1,_,3]`, or its parts, as `i32{values=1,2}`, and slices of them.
 
 use crate::fault::Fault;
-use crate::flat::{fixed_bytes, flat_rows};
-use crate::parts::array_of_parts;
+use crate::flat::{fixed_bytes, flat_rows, primitive};
+use crate::number::Element;
+use crate::parts::{array_of_parts, keys_in};
 use crate::piece::Piece;
 use crate::row::{push_often, rows_in, slice_within, validity_of};
 use crate::types::{DEEPEST, boxed_type};
 use arrow_arrays::array::{
-    AnyArray, AnyKeys, AnyOffsetsBuffer, DictionaryArray, FixedSizeListArray, ListArray, MapArray,
+    AnyArray, AnyOffsetsBuffer, DictionaryArray, FixedSizeListArray, ListArray, MapArray,
     StructArray, UnionArray,
 };
-use arrow_flat::array::PrimitiveArray;
 use arrow_memory::bitmap::Bitmap;
 use arrow_memory::buffer::Buffer;
 use arrow_memory::offset::{Offsets, OffsetsBuffer};
@@ -24,12 +24,9 @@ pub fn read_array(alloc: Global, piece: Piece<'_>) -> Result<Box<AnyArray>, Faul
     nested_array(alloc, piece, DEEPEST)
 }
 
-/// The array that a constructor made, in a box of its own: what owns a box is proved faster than what owns an array.
-pub(crate) fn boxed(alloc: Global, made: Result<AnyArray, Error>) -> Result<Box<AnyArray>, Fault> {
-    match made {
-        Ok(array) => Ok(Box::new(alloc, array)?),
-        Err(error) => Err(Fault::Refused(error)),
-    }
+/// An array in a box of its own: what owns a box is proved faster than what owns an array.
+pub(crate) fn boxed(alloc: Global, array: AnyArray) -> Result<Box<AnyArray>, Fault> {
+    Ok(Box::new(alloc, array)?)
 }
 
 /// The array that a text says, whose parts nest at most so deep.
@@ -182,10 +179,8 @@ pub(crate) fn list_array(
     validity: Option<Bitmap>,
 ) -> Result<Box<AnyArray>, Fault> {
     let data_type = data_type.clone()?;
-    boxed(
-        alloc,
-        ListArray::try_new(data_type, offsets, values, validity).map(AnyArray::List),
-    )
+    let array = ListArray::try_new(data_type, offsets, values, validity)?;
+    boxed(alloc, AnyArray::List(array))
 }
 
 /// Maps of these parts.
@@ -197,10 +192,8 @@ pub(crate) fn map_array(
     validity: Option<Bitmap>,
 ) -> Result<Box<AnyArray>, Fault> {
     let data_type = data_type.clone()?;
-    boxed(
-        alloc,
-        MapArray::try_new(data_type, offsets, values, validity).map(AnyArray::Map),
-    )
+    let array = MapArray::try_new(data_type, offsets, values, validity)?;
+    boxed(alloc, AnyArray::Map(array))
 }
 
 /// The items of all rows, and how many each row has: none where nothing is stored.
@@ -264,10 +257,8 @@ pub(crate) fn fixed_list_array(
     validity: Option<Bitmap>,
 ) -> Result<Box<AnyArray>, Fault> {
     let data_type = data_type.clone()?;
-    boxed(
-        alloc,
-        FixedSizeListArray::try_new(data_type, values, validity).map(AnyArray::FixedSizeList),
-    )
+    let array = FixedSizeListArray::try_new(data_type, values, validity)?;
+    boxed(alloc, AnyArray::FixedSizeList(array))
 }
 
 /// The items of all rows: null slots where nothing is stored.
@@ -332,10 +323,8 @@ pub(crate) fn struct_array(
     validity: Option<Bitmap>,
 ) -> Result<Box<AnyArray>, Fault> {
     let data_type = data_type.clone()?;
-    boxed(
-        alloc,
-        StructArray::try_new(data_type, children, validity).map(AnyArray::Struct),
-    )
+    let array = StructArray::try_new(data_type, children, validity)?;
+    boxed(alloc, AnyArray::Struct(array))
 }
 
 /// The rows of one field of so many: null slots where nothing is stored.
@@ -476,10 +465,8 @@ pub(crate) fn union_array(
     offsets: Option<Buffer<i32>>,
 ) -> Result<Box<AnyArray>, Fault> {
     let data_type = data_type.clone()?;
-    boxed(
-        alloc,
-        UnionArray::try_new(data_type, types, children, offsets).map(AnyArray::Union),
-    )
+    let array = UnionArray::try_new(data_type, types, children, offsets)?;
+    boxed(alloc, AnyArray::Union(array))
 }
 
 /// The type ids of rows.
@@ -516,27 +503,22 @@ fn dictionaries(
 ) -> Result<Box<AnyArray>, Fault> {
     let (places, found) = keys_and_values(alloc, rows)?;
     let values = array_of_rows(alloc, values, &found, false, depth)?;
-    let keys = any_keys(
-        alloc,
-        data_type,
-        &places,
-        validity_of(alloc, rows, is_marked)?,
-    )?;
-    dictionary_array(alloc, data_type, keys, values)
+    let validity = validity_of(alloc, rows, is_marked)?;
+    let keys = key_array(alloc, data_type, &places, validity)?;
+    dictionary_array(alloc, data_type, &keys, values)
 }
 
-/// Dictionaries of these parts.
+/// Dictionaries of these values, and of the keys that an array of integers holds.
 pub(crate) fn dictionary_array(
     alloc: Global,
     data_type: &DataType,
-    keys: AnyKeys,
+    keys: &AnyArray,
     values: Box<AnyArray>,
 ) -> Result<Box<AnyArray>, Fault> {
+    let keys = keys_in(keys)?;
     let data_type = data_type.clone()?;
-    boxed(
-        alloc,
-        DictionaryArray::try_new(data_type, keys, values).map(AnyArray::Dictionary),
-    )
+    let array = DictionaryArray::try_new(data_type, keys, values)?;
+    boxed(alloc, AnyArray::Dictionary(array))
 }
 
 /// The place of each row's value among all values, and these. A null that stores nothing has place 0.
@@ -567,61 +549,44 @@ fn place_of<'a>(values: &mut Vec<Piece<'a>>, value: Piece<'a>) -> Result<usize, 
     }
 }
 
-/// Keys of a dictionary's type.
-fn any_keys(
+/// Places as an array of a dictionary's keys.
+fn key_array(
     alloc: Global,
     dictionary: &DataType,
     places: &[usize],
     validity: Option<Bitmap>,
-) -> Result<AnyKeys, Fault> {
+) -> Result<Box<AnyArray>, Fault> {
     let PhysicalType::Dictionary(of) = dictionary.to_physical_type() else {
         return Err(Fault::Usage);
     };
     match of {
-        IntegerType::Int8 => keys_of(alloc, places, validity, AnyKeys::Int8),
-        IntegerType::Int16 => keys_of(alloc, places, validity, AnyKeys::Int16),
-        IntegerType::Int32 => keys_of(alloc, places, validity, AnyKeys::Int32),
-        IntegerType::Int64 => keys_of(alloc, places, validity, AnyKeys::Int64),
-        IntegerType::UInt8 => keys_of(alloc, places, validity, AnyKeys::UInt8),
-        IntegerType::UInt16 => keys_of(alloc, places, validity, AnyKeys::UInt16),
-        IntegerType::UInt32 => keys_of(alloc, places, validity, AnyKeys::UInt32),
-        IntegerType::UInt64 => keys_of(alloc, places, validity, AnyKeys::UInt64),
+        IntegerType::Int8 => numbered::<i8>(alloc, DataType::Int8, places, validity),
+        IntegerType::Int16 => numbered::<i16>(alloc, DataType::Int16, places, validity),
+        IntegerType::Int32 => numbered::<i32>(alloc, DataType::Int32, places, validity),
+        IntegerType::Int64 => numbered::<i64>(alloc, DataType::Int64, places, validity),
+        IntegerType::UInt8 => numbered::<u8>(alloc, DataType::UInt8, places, validity),
+        IntegerType::UInt16 => numbered::<u16>(alloc, DataType::UInt16, places, validity),
+        IntegerType::UInt32 => numbered::<u32>(alloc, DataType::UInt32, places, validity),
+        IntegerType::UInt64 => numbered::<u64>(alloc, DataType::UInt64, places, validity),
     }
 }
 
-/// Keys of one type.
-fn keys_of<K: DictionaryKey>(
+/// Places as an array of one type.
+fn numbered<K: DictionaryKey + Element>(
     alloc: Global,
+    data_type: DataType,
     places: &[usize],
     validity: Option<Bitmap>,
-    wrap: fn(PrimitiveArray<K>) -> AnyKeys,
-) -> Result<AnyKeys, Fault> {
-    let keys = numbered(alloc, places)?;
-    match PrimitiveArray::<K>::try_new(key_data_type(K::KEY_TYPE), keys, validity) {
-        Ok(keys) => Ok(wrap(keys)),
-        Err(error) => Err(Fault::Refused(error)),
-    }
+) -> Result<Box<AnyArray>, Fault> {
+    let keys = keys_of::<K>(alloc, places)?;
+    primitive(alloc, &data_type, keys, validity)
 }
 
 /// Places as keys; too many values for their type are refused.
-fn numbered<K: DictionaryKey>(alloc: Global, places: &[usize]) -> Result<Buffer<K>, Fault> {
+fn keys_of<K: DictionaryKey>(alloc: Global, places: &[usize]) -> Result<Buffer<K>, Fault> {
     let mut keys = Vec::with_capacity(alloc, places.len())?;
     for place in places {
         keys.push(K::from_usize(*place).ok_or(Fault::Refused(Error::Overflow))?)?;
     }
     Ok(Buffer::from_vec(alloc, keys)?)
-}
-
-/// The data type of keys.
-fn key_data_type(of: IntegerType) -> DataType {
-    match of {
-        IntegerType::Int8 => DataType::Int8,
-        IntegerType::Int16 => DataType::Int16,
-        IntegerType::Int32 => DataType::Int32,
-        IntegerType::Int64 => DataType::Int64,
-        IntegerType::UInt8 => DataType::UInt8,
-        IntegerType::UInt16 => DataType::UInt16,
-        IntegerType::UInt32 => DataType::UInt32,
-        IntegerType::UInt64 => DataType::UInt64,
-    }
 }

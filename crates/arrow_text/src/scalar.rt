@@ -8,12 +8,10 @@ use crate::piece::Piece;
 use crate::row::read_bytes;
 use crate::types::{DEEPEST, boxed_type};
 use arrow_flat::scalar::{
-    AnyPrimitiveScalar, AnyScalar, BinaryScalar, BooleanScalar, DictionaryScalar, PrimitiveScalar,
-    Utf8Scalar,
+    AnyScalar, BinaryScalar, BooleanScalar, DictionaryScalar, PrimitiveScalar, Utf8Scalar,
 };
 use arrow_types::datatypes::{DataType, PhysicalType};
-use arrow_types::error::Error;
-use arrow_types::types::{Offset, PrimitiveType};
+use arrow_types::types::{PrimitiveType, days_ms, i256, months_days_ns};
 use std::alloc::Global;
 
 /// The scalar that a text says.
@@ -80,12 +78,9 @@ fn scalar_of_row(
     }
 }
 
-/// The scalar that a constructor made, in a box.
-fn boxed(alloc: Global, made: Result<AnyScalar, Error>) -> Result<Box<AnyScalar>, Fault> {
-    match made {
-        Ok(scalar) => Ok(Box::new(alloc, scalar)?),
-        Err(error) => Err(Fault::Refused(error)),
-    }
+/// A scalar in a box of its own.
+fn boxed(alloc: Global, scalar: AnyScalar) -> Result<Box<AnyScalar>, Fault> {
+    Ok(Box::new(alloc, scalar)?)
 }
 
 /// A scalar of a dictionary.
@@ -95,10 +90,8 @@ fn dictionary(
     value: Option<Box<AnyScalar>>,
 ) -> Result<Box<AnyScalar>, Fault> {
     let data_type = data_type.clone()?;
-    boxed(
-        alloc,
-        DictionaryScalar::try_new(data_type, value).map(AnyScalar::Dictionary),
-    )
+    let scalar = DictionaryScalar::try_new(data_type, value)?;
+    boxed(alloc, AnyScalar::Dictionary(scalar))
 }
 
 /// A scalar whose type is no dictionary.
@@ -109,10 +102,25 @@ fn flat_scalar(
 ) -> Result<Box<AnyScalar>, Fault> {
     match data_type {
         DataType::Boolean => truth(alloc, value),
-        DataType::Utf8 => text(alloc, value, AnyScalar::Utf8),
-        DataType::LargeUtf8 => text(alloc, value, AnyScalar::LargeUtf8),
-        DataType::Binary => bytes(alloc, value, AnyScalar::Binary),
-        DataType::LargeBinary => bytes(alloc, value, AnyScalar::LargeBinary),
+        DataType::Utf8 => {
+            let value = text_of(alloc, value)?;
+            boxed(alloc, AnyScalar::Utf8(Utf8Scalar::<i32>::new(value)))
+        }
+        DataType::LargeUtf8 => {
+            let value = text_of(alloc, value)?;
+            boxed(alloc, AnyScalar::LargeUtf8(Utf8Scalar::<i64>::new(value)))
+        }
+        DataType::Binary => {
+            let value = bytes_of(alloc, value)?;
+            boxed(alloc, AnyScalar::Binary(BinaryScalar::<i32>::new(value)))
+        }
+        DataType::LargeBinary => {
+            let value = bytes_of(alloc, value)?;
+            boxed(
+                alloc,
+                AnyScalar::LargeBinary(BinaryScalar::<i64>::new(value)),
+            )
+        }
         data_type => match data_type.to_physical_type() {
             PhysicalType::Primitive(of) => number(alloc, data_type, of, value),
             _ => Err(Fault::Usage),
@@ -126,27 +134,7 @@ fn truth(alloc: Global, value: Option<Piece<'_>>) -> Result<Box<AnyScalar>, Faul
         Some(value) => Some(value.truth()?),
         None => None,
     };
-    boxed(alloc, Ok(AnyScalar::Boolean(BooleanScalar::new(value))))
-}
-
-/// Characters.
-fn text<O: Offset>(
-    alloc: Global,
-    value: Option<Piece<'_>>,
-    wrap: fn(Utf8Scalar<O>) -> AnyScalar,
-) -> Result<Box<AnyScalar>, Fault> {
-    let value = text_of(alloc, value)?;
-    boxed(alloc, Ok(wrap(Utf8Scalar::<O>::new(value))))
-}
-
-/// Bytes.
-fn bytes<O: Offset>(
-    alloc: Global,
-    value: Option<Piece<'_>>,
-    wrap: fn(BinaryScalar<O>) -> AnyScalar,
-) -> Result<Box<AnyScalar>, Fault> {
-    let value = bytes_of(alloc, value)?;
-    boxed(alloc, Ok(wrap(BinaryScalar::<O>::new(value))))
+    boxed(alloc, AnyScalar::Boolean(BooleanScalar::new(value)))
 }
 
 /// The bytes of a value.
@@ -175,7 +163,7 @@ fn number(
     of: PrimitiveType,
     value: Option<Piece<'_>>,
 ) -> Result<Box<AnyScalar>, Fault> {
-    of_element!(AnyPrimitiveScalar, of, element(alloc, data_type, value))
+    of_element!(of, element(alloc, data_type, value))
 }
 
 /// An element.
@@ -183,14 +171,11 @@ fn element<T: Element>(
     alloc: Global,
     data_type: &DataType,
     value: Option<Piece<'_>>,
-    wrap: fn(PrimitiveScalar<T>) -> AnyPrimitiveScalar,
 ) -> Result<Box<AnyScalar>, Fault> {
     let value = optional_element(value)?;
     let data_type = data_type.clone()?;
-    match PrimitiveScalar::<T>::try_new(data_type, value) {
-        Ok(scalar) => Ok(Box::new(alloc, AnyScalar::Primitive(wrap(scalar)))?),
-        Err(error) => Err(Fault::Refused(error)),
-    }
+    let scalar = PrimitiveScalar::<T>::try_new(data_type, value)?;
+    boxed(alloc, AnyScalar::Primitive(T::to_scalar(scalar)))
 }
 
 /// The element that a text says, where there is one.

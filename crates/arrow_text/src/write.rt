@@ -27,7 +27,10 @@ pub fn write_made(out: &mut String, outcome: Result<AnyArray, Error>) -> Result<
 
 /// Appends the truth values that a call made, unless it was refused.
 pub fn write_truths(out: &mut String, outcome: Result<BooleanArray, Error>) -> Result<(), Fault> {
-    write_made(out, outcome.map(AnyArray::Boolean))
+    match outcome {
+        Ok(array) => write_array(out, &AnyArray::Boolean(array)),
+        Err(error) => Err(Fault::Refused(error)),
+    }
 }
 
 /// Appends an array's type and rows.
