@@ -1,6 +1,8 @@
 //! Values that a line says, each in a struct of its own with a drop written by hand: whoever reads one lets it go by a call,
 //! and not part by part.
 
+ghost use Rattle.std.specs.Prelude.{◌≡◌};
+
 use arrow_arrays::array::AnyArray;
 use arrow_flat::scalar::AnyScalar;
 
@@ -17,7 +19,9 @@ impl Drop for Array {
 
 impl Array {
     /// The array by itself.
-    pub fn into_inner(self) -> AnyArray {
+    pub fn into_inner(self) -> AnyArray
+        ensures { result ≡ self.array }
+    {
         let Array { array } = self;
         Box::into_inner(array)
     }
@@ -43,6 +47,14 @@ pub struct Arrays {
 impl Drop for Arrays {
     fn drop(self) {
         let Arrays { arrays: _ } = self;
+    }
+}
+
+impl Arrays {
+    /// The arrays by themselves.
+    pub fn into_inner(self) -> Vec<AnyArray> {
+        let Arrays { arrays } = self;
+        arrays
     }
 }
 
