@@ -36,6 +36,16 @@ pub fn answer_by(
     }
 }
 
+/// The arrays that pieces of a line say.
+pub fn read_arrays(alloc: Global, pieces: &[Piece<'_>]) -> Result<Arrays, Fault> {
+    let mut arrays = Vec::new(alloc);
+    for piece in pieces {
+        let array = read_array(alloc, *piece)?;
+        arrays.push(Box::into_inner(array))?;
+    }
+    Ok(Arrays { arrays })
+}
+
 /// A call's name, and its arguments.
 #[derive(Drop)]
 pub struct Call<'a> {
@@ -109,12 +119,10 @@ impl<'a> Call<'a> {
 
     /// The arguments from one on, all of them arrays.
     pub fn arrays(&self, alloc: Global, from: usize) -> Result<Arrays, Fault> {
-        let mut arrays = Vec::new(alloc);
-        for argument in self.arguments.iter().skip(from) {
-            let array = read_array(alloc, *argument)?;
-            arrays.push(Box::into_inner(array))?;
+        match self.arguments.get(from..) {
+            Some(pieces) => read_arrays(alloc, pieces),
+            None => read_arrays(alloc, &[]),
         }
-        Ok(Arrays { arrays })
     }
 
     /// Argument `i`, a data type.
