@@ -25,6 +25,22 @@ pub fn write_made(out: &mut String, outcome: Result<AnyArray, Error>) -> Result<
     }
 }
 
+/// Appends the array that a call made, or the name of its refusal.
+pub fn write_made_or_name(
+    out: &mut String,
+    outcome: Result<AnyArray, Error>,
+) -> Result<(), Fault> {
+    match outcome {
+        Ok(array) => write_array(out, &array),
+        Err(error) => write_name(out, error),
+    }
+}
+
+/// Appends the name of a refusal.
+pub fn write_name(out: &mut String, error: Error) -> Result<(), Fault> {
+    Ok(write!(out, "{error:?}")?)
+}
+
 /// Appends the truth values that a call made, unless it was refused.
 pub fn write_truths(out: &mut String, outcome: Result<BooleanArray, Error>) -> Result<(), Fault> {
     match outcome {
