@@ -18,6 +18,9 @@ pub type Answer = fn(Global, &Call<'_>, &mut String) -> Result<(), Fault>;
 
 /// Appends the answer that stands beside the call's name in a table; `false` where none does.
 ///
+/// # Requires
+/// Each function of the table may be called on all arguments.
+///
 /// # Errors
 /// The fault of the arguments, a condition of the call that does not hold, or its refusal. `out` may then have part of
 /// an answer.
@@ -26,7 +29,9 @@ pub fn answer_by(
     table: &[(&str, Answer)],
     call: &Call<'_>,
     out: &mut String,
-) -> Result<bool, Fault> {
+) -> Result<bool, Fault>
+    requires { (answer : _) (alloc : _) (call : _) (out : _) → pre answer alloc call out }
+{
     match find(table, call.name) {
         Some(answer) => {
             answer(alloc, call, out)?;

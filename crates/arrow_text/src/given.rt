@@ -1,10 +1,12 @@
 //! Values that a line says, each in a struct of its own with a drop written by hand: whoever reads one lets it go by a call,
 //! and not part by part.
 
-ghost use Rattle.std.specs.Prelude.{◌≡◌};
+ghost use Rattle.std.specs.Prelude.{◌≡◌, IfOk};
 
+use crate::fault::Fault;
 use arrow_arrays::array::AnyArray;
 use arrow_flat::scalar::AnyScalar;
+use std::alloc::Global;
 
 /// An array.
 pub struct Array {
@@ -18,6 +20,17 @@ impl Drop for Array {
 }
 
 impl Array {
+    /// This array.
+    ///
+    /// # Errors
+    /// `OutOfMemory` where memory is refused.
+    pub fn new(alloc: Global, array: AnyArray) -> Result<Array, Fault>
+        ensures { IfOk result (λ made. made.array.value ≡ array) }
+    {
+        let array = Box::new(alloc, array)?;
+        Ok(Array { array })
+    }
+
     /// The array by itself.
     pub fn into_inner(self) -> AnyArray
         ensures { result ≡ self.array }
