@@ -26,10 +26,7 @@ pub fn write_made(out: &mut String, outcome: Result<AnyArray, Error>) -> Result<
 }
 
 /// Appends the array that a call made, or the name of its refusal.
-pub fn write_made_or_name(
-    out: &mut String,
-    outcome: Result<AnyArray, Error>,
-) -> Result<(), Fault> {
+pub fn write_made_or_name(out: &mut String, outcome: Result<AnyArray, Error>) -> Result<(), Fault> {
     match outcome {
         Ok(array) => write_array(out, &array),
         Err(error) => write_name(out, error),
