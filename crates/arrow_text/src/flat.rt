@@ -7,8 +7,8 @@ use crate::read::{boxed, offsets_of};
 use crate::row::{push_bytes, push_zeros, validity_of};
 use arrow_arrays::array::{AnyArray, AnyOffset, AnyRows};
 use arrow_flat::array::{
-    Binary, BooleanArray, ByteRows, FixedSizeBinaryArray, FlatArray, NullArray, PrimitiveArray,
-    Text,
+    AnyElement, Binary, BooleanArray, ByteRows, FixedSizeBinaryArray, FlatArray, NullArray,
+    PrimitiveArray, Text,
 };
 use arrow_memory::bitmap::{Bitmap, MutableBitmap};
 use arrow_memory::buffer::Buffer;
@@ -112,7 +112,7 @@ fn primitives(
 }
 
 /// The elements of rows.
-fn numbers<T: Element>(
+fn numbers<T: Element + AnyElement>(
     alloc: Global,
     data_type: &DataType,
     rows: &[Piece<'_>],
@@ -133,7 +133,7 @@ fn elements_of<T: Element>(alloc: Global, rows: &[Piece<'_>]) -> Result<Buffer<T
 }
 
 /// A primitive array of these parts.
-pub(crate) fn primitive<T: Element>(
+pub(crate) fn primitive<T: AnyElement>(
     alloc: Global,
     data_type: &DataType,
     values: Buffer<T>,

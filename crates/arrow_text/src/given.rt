@@ -33,7 +33,7 @@ impl Array {
 
     /// The array by itself.
     pub fn into_inner(self) -> AnyArray
-        ensures { result ≡ self.array }
+        ensures { result ≡ self.array.value }
     {
         let Array { array } = self;
         Box::into_inner(array)

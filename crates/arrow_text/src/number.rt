@@ -3,9 +3,7 @@
 use crate::fault::Fault;
 use crate::piece::Piece;
 use crate::write::show;
-use arrow_flat::array::AnyElement;
-use arrow_flat::scalar::{AnyPrimitiveScalar, PrimitiveScalar};
-use arrow_types::types::{days_ms, i256, months_days_ns};
+use arrow_types::types::{NativeType, days_ms, i256, months_days_ns};
 use std::fmt::Display;
 
 /// An integer of a type of its own width.
@@ -81,15 +79,12 @@ impl Integer for usize {
 }
 
 /// An element of primitive arrays, which text can say.
-pub trait Element: AnyElement {
+pub trait Element: NativeType {
     /// The element that this text says.
     fn read(piece: Piece<'_>) -> Result<Self, Fault>;
 
     /// Appends the text of an element.
     fn write(self, out: &mut String) -> Result<(), Fault>;
-
-    /// A scalar as one of any element type.
-    fn to_scalar(scalar: PrimitiveScalar<Self>) -> AnyPrimitiveScalar;
 }
 
 impl Element for i8 {
@@ -99,10 +94,6 @@ impl Element for i8 {
 
     fn write(self, out: &mut String) -> Result<(), Fault> {
         show(out, self)
-    }
-
-    fn to_scalar(scalar: PrimitiveScalar<i8>) -> AnyPrimitiveScalar {
-        AnyPrimitiveScalar::Int8(scalar)
     }
 }
 
@@ -114,10 +105,6 @@ impl Element for i16 {
     fn write(self, out: &mut String) -> Result<(), Fault> {
         show(out, self)
     }
-
-    fn to_scalar(scalar: PrimitiveScalar<i16>) -> AnyPrimitiveScalar {
-        AnyPrimitiveScalar::Int16(scalar)
-    }
 }
 
 impl Element for i32 {
@@ -127,10 +114,6 @@ impl Element for i32 {
 
     fn write(self, out: &mut String) -> Result<(), Fault> {
         show(out, self)
-    }
-
-    fn to_scalar(scalar: PrimitiveScalar<i32>) -> AnyPrimitiveScalar {
-        AnyPrimitiveScalar::Int32(scalar)
     }
 }
 
@@ -142,10 +125,6 @@ impl Element for i64 {
     fn write(self, out: &mut String) -> Result<(), Fault> {
         show(out, self)
     }
-
-    fn to_scalar(scalar: PrimitiveScalar<i64>) -> AnyPrimitiveScalar {
-        AnyPrimitiveScalar::Int64(scalar)
-    }
 }
 
 impl Element for i128 {
@@ -155,10 +134,6 @@ impl Element for i128 {
 
     fn write(self, out: &mut String) -> Result<(), Fault> {
         show(out, self)
-    }
-
-    fn to_scalar(scalar: PrimitiveScalar<i128>) -> AnyPrimitiveScalar {
-        AnyPrimitiveScalar::Int128(scalar)
     }
 }
 
@@ -170,10 +145,6 @@ impl Element for u8 {
     fn write(self, out: &mut String) -> Result<(), Fault> {
         show(out, self)
     }
-
-    fn to_scalar(scalar: PrimitiveScalar<u8>) -> AnyPrimitiveScalar {
-        AnyPrimitiveScalar::UInt8(scalar)
-    }
 }
 
 impl Element for u16 {
@@ -183,10 +154,6 @@ impl Element for u16 {
 
     fn write(self, out: &mut String) -> Result<(), Fault> {
         show(out, self)
-    }
-
-    fn to_scalar(scalar: PrimitiveScalar<u16>) -> AnyPrimitiveScalar {
-        AnyPrimitiveScalar::UInt16(scalar)
     }
 }
 
@@ -198,10 +165,6 @@ impl Element for u32 {
     fn write(self, out: &mut String) -> Result<(), Fault> {
         show(out, self)
     }
-
-    fn to_scalar(scalar: PrimitiveScalar<u32>) -> AnyPrimitiveScalar {
-        AnyPrimitiveScalar::UInt32(scalar)
-    }
 }
 
 impl Element for u64 {
@@ -211,10 +174,6 @@ impl Element for u64 {
 
     fn write(self, out: &mut String) -> Result<(), Fault> {
         show(out, self)
-    }
-
-    fn to_scalar(scalar: PrimitiveScalar<u64>) -> AnyPrimitiveScalar {
-        AnyPrimitiveScalar::UInt64(scalar)
     }
 }
 
@@ -248,10 +207,6 @@ impl Element for i256 {
     fn write(self, out: &mut String) -> Result<(), Fault> {
         write_pair(out, self.high(), self.low())
     }
-
-    fn to_scalar(scalar: PrimitiveScalar<i256>) -> AnyPrimitiveScalar {
-        AnyPrimitiveScalar::Int256(scalar)
-    }
 }
 
 /// Days and milliseconds, as `1:-500`.
@@ -263,10 +218,6 @@ impl Element for days_ms {
 
     fn write(self, out: &mut String) -> Result<(), Fault> {
         write_pair(out, self.days(), self.milliseconds())
-    }
-
-    fn to_scalar(scalar: PrimitiveScalar<days_ms>) -> AnyPrimitiveScalar {
-        AnyPrimitiveScalar::DaysMs(scalar)
     }
 }
 
@@ -282,10 +233,6 @@ impl Element for months_days_ns {
     fn write(self, out: &mut String) -> Result<(), Fault> {
         write_pair(out, self.months(), self.days())?;
         write_tail(out, self.ns())
-    }
-
-    fn to_scalar(scalar: PrimitiveScalar<months_days_ns>) -> AnyPrimitiveScalar {
-        AnyPrimitiveScalar::MonthDayNano(scalar)
     }
 }
 

@@ -12,7 +12,7 @@ use crate::read::{
 use crate::row::{read_bytes, rows_in};
 use crate::types::find;
 use arrow_arrays::array::{AnyArray, AnyKeys, AnyOffset, AnyOffsetsBuffer, AnyRows};
-use arrow_flat::array::{AnyPrimitive, Binary, BooleanArray, NullArray, Text};
+use arrow_flat::array::{AnyElement, AnyPrimitive, Binary, BooleanArray, NullArray, Text};
 use arrow_memory::bitmap::Bitmap;
 use arrow_memory::buffer::Buffer;
 use arrow_memory::offset::OffsetsBuffer;
@@ -210,7 +210,7 @@ fn primitive_of(
 }
 
 /// A primitive array.
-fn values_of<T: Element>(
+fn values_of<T: Element + AnyElement>(
     alloc: Global,
     data_type: &DataType,
     parts: &Parts<'_>,

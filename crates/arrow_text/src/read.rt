@@ -2,7 +2,6 @@
 
 use crate::fault::Fault;
 use crate::flat::{fixed_bytes, flat_rows, primitive};
-use crate::number::Element;
 use crate::parts::{array_of_parts, keys_in};
 use crate::piece::Piece;
 use crate::row::{push_often, rows_in, slice_within, validity_of};
@@ -11,6 +10,7 @@ use arrow_arrays::array::{
     AnyArray, AnyOffsetsBuffer, DictionaryArray, FixedSizeListArray, ListArray, MapArray,
     StructArray, UnionArray,
 };
+use arrow_flat::array::AnyElement;
 use arrow_memory::bitmap::Bitmap;
 use arrow_memory::buffer::Buffer;
 use arrow_memory::offset::{Offsets, OffsetsBuffer};
@@ -572,7 +572,7 @@ fn key_array(
 }
 
 /// Places as an array of one type.
-fn numbered<K: DictionaryKey + Element>(
+fn numbered<K: DictionaryKey + AnyElement>(
     alloc: Global,
     data_type: DataType,
     places: &[usize],

@@ -1,17 +1,17 @@
 //! Scalars as text: a type and a row, as `i32(5)`.
 
 use crate::fault::Fault;
-use crate::flat::of_element;
 use crate::number::Element;
 use crate::parts::{Parts, kind_of};
 use crate::piece::Piece;
 use crate::row::read_bytes;
 use crate::types::{DEEPEST, boxed_type};
 use arrow_flat::scalar::{
-    AnyScalar, BinaryScalar, BooleanScalar, DictionaryScalar, PrimitiveScalar, Utf8Scalar,
+    AnyPrimitiveScalar, AnyScalar, BinaryScalar, BooleanScalar, DictionaryScalar, PrimitiveScalar,
+    Utf8Scalar,
 };
 use arrow_types::datatypes::{DataType, PhysicalType};
-use arrow_types::types::{PrimitiveType, days_ms, i256, months_days_ns};
+use arrow_types::types::PrimitiveType;
 use std::alloc::Global;
 
 /// The scalar that a text says.
@@ -163,19 +163,43 @@ fn number(
     of: PrimitiveType,
     value: Option<Piece<'_>>,
 ) -> Result<Box<AnyScalar>, Fault> {
-    of_element!(of, element(alloc, data_type, value))
+    let scalar = any_number(data_type, of, value)?;
+    boxed(alloc, AnyScalar::Primitive(scalar))
+}
+
+/// The same, outside a box.
+fn any_number(
+    data_type: &DataType,
+    of: PrimitiveType,
+    value: Option<Piece<'_>>,
+) -> Result<AnyPrimitiveScalar, Fault> {
+    match of {
+        PrimitiveType::Int8 => Ok(AnyPrimitiveScalar::Int8(element(data_type, value)?)),
+        PrimitiveType::Int16 => Ok(AnyPrimitiveScalar::Int16(element(data_type, value)?)),
+        PrimitiveType::Int32 => Ok(AnyPrimitiveScalar::Int32(element(data_type, value)?)),
+        PrimitiveType::Int64 => Ok(AnyPrimitiveScalar::Int64(element(data_type, value)?)),
+        PrimitiveType::Int128 => Ok(AnyPrimitiveScalar::Int128(element(data_type, value)?)),
+        PrimitiveType::Int256 => Ok(AnyPrimitiveScalar::Int256(element(data_type, value)?)),
+        PrimitiveType::UInt8 => Ok(AnyPrimitiveScalar::UInt8(element(data_type, value)?)),
+        PrimitiveType::UInt16 => Ok(AnyPrimitiveScalar::UInt16(element(data_type, value)?)),
+        PrimitiveType::UInt32 => Ok(AnyPrimitiveScalar::UInt32(element(data_type, value)?)),
+        PrimitiveType::UInt64 => Ok(AnyPrimitiveScalar::UInt64(element(data_type, value)?)),
+        PrimitiveType::DaysMs => Ok(AnyPrimitiveScalar::DaysMs(element(data_type, value)?)),
+        PrimitiveType::MonthDayNano => {
+            Ok(AnyPrimitiveScalar::MonthDayNano(element(data_type, value)?))
+        }
+        _ => Err(Fault::Usage),
+    }
 }
 
 /// An element.
 fn element<T: Element>(
-    alloc: Global,
     data_type: &DataType,
     value: Option<Piece<'_>>,
-) -> Result<Box<AnyScalar>, Fault> {
+) -> Result<PrimitiveScalar<T>, Fault> {
     let value = optional_element(value)?;
     let data_type = data_type.clone()?;
-    let scalar = PrimitiveScalar::<T>::try_new(data_type, value)?;
-    boxed(alloc, AnyScalar::Primitive(T::to_scalar(scalar)))
+    Ok(PrimitiveScalar::<T>::try_new(data_type, value)?)
 }
 
 /// The element that a text says, where there is one.
