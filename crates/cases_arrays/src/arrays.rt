@@ -1,122 +1,175 @@
 //! Calls of arrays of any type.
 
-use crate::validities::with_validity;
-use crate::within::{check_below, check_within};
+ghost use Rattle.std.specs.Prelude.{IfOk};
+ghost use Rattle.arrow_types.specs.Carried.{IsCarried};
+ghost use Rattle.arrow_types.specs.TypeOf.{type_of};
+
+use crate::parts;
+use crate::within::check_within;
 use arrow_arrays::array::{AnyArray, new_empty_array, new_null_array};
 use arrow_text::call::Call;
 use arrow_text::fault::Fault;
 use arrow_text::types::write_type;
-use arrow_text::write::{write_array, write_validity};
+use arrow_text::write::{show, write_array, write_made, write_validity};
+use arrow_types::datatypes::DataType;
 use arrow_types::error::Error;
 use std::alloc::Global;
 
-/// The calls of arrays, by the method's name.
-pub(crate) fn answer(
+/// The methods of an array that take nothing else.
+#[derive(Clone, Copy)]
+pub(crate) enum OfArray {
+    BytesSize,
+    Clone,
+    DataType,
+    IsEmpty,
+    Keys,
+    Len,
+    ListSize,
+    NullCount,
+    Offsets,
+    Start,
+    TryNew,
+    Validity,
+}
+
+/// The calls that take an array.
+pub(crate) fn of_array(
     alloc: Global,
-    method: &str,
+    method: OfArray,
     call: &Call<'_>,
     out: &mut String,
-) -> Result<bool, Fault> {
+) -> Result<(), Fault> {
+    let array = call.only_array(alloc)?;
+    write_of_array(method, &*array.array, out)
+}
+
+/// The same of an array that is lent.
+fn write_of_array(method: OfArray, array: &AnyArray, out: &mut String) -> Result<(), Fault> {
     match method {
-        "eq" => equal(alloc, call, out)?,
-        "is_valid" => is_valid(alloc, call, out)?,
-        "slice" | "sliced" => part(alloc, method, call, out)?,
-        _ => return of_one(alloc, method, call, out),
+        OfArray::BytesSize => parts::bytes_size(array, out),
+        OfArray::Clone => write_made(out, cloned(array)),
+        OfArray::DataType => write_type(out, array.data_type()),
+        OfArray::IsEmpty => show(out, array.is_empty()),
+        OfArray::Keys => parts::keys(array, out),
+        OfArray::Len => show(out, array.len()),
+        OfArray::ListSize => parts::list_size(array, out),
+        OfArray::NullCount => show(out, array.null_count()),
+        OfArray::Offsets => parts::offsets(array, out),
+        OfArray::Start => parts::start(array, out),
+        OfArray::TryNew => write_array(out, array),
+        OfArray::Validity => write_validity(out, array.validity()),
     }
-    Ok(true)
 }
 
-/// The calls that take an array and nothing else.
-fn of_one(alloc: Global, method: &str, call: &Call<'_>, out: &mut String) -> Result<bool, Fault> {
+/// The methods of an array that take a number too.
+#[derive(Clone, Copy)]
+pub(crate) enum OfArrayAt {
+    AreWithin,
+    Index,
+    IsValid,
+    Key,
+    StartEnd,
+}
+
+/// The calls that take an array and a number.
+pub(crate) fn of_array_at(
+    alloc: Global,
+    method: OfArrayAt,
+    call: &Call<'_>,
+    out: &mut String,
+) -> Result<(), Fault> {
+    call.takes(2)?;
+    let i = call.integer(1)?;
+    let array = call.array(alloc, 0)?;
+    write_of_array_at(method, &*array.array, i, out)
+}
+
+/// The same of an array that is lent.
+fn write_of_array_at(
+    method: OfArrayAt,
+    array: &AnyArray,
+    i: usize,
+    out: &mut String,
+) -> Result<(), Fault> {
     match method {
-        "clone" => write_made(out, cloned(&*only(alloc, call)?))?,
-        "data_type" => write_type(out, only(alloc, call)?.data_type())?,
-        "is_empty" => write!(out, "{}", only(alloc, call)?.is_empty())?,
-        "len" => write!(out, "{}", only(alloc, call)?.len())?,
-        "null_count" => write!(out, "{}", only(alloc, call)?.null_count())?,
-        "validity" => write_validity(out, only(alloc, call)?.validity())?,
-        _ => return Ok(false),
-    }
-    Ok(true)
-}
-
-/// The calls that make arrays.
-pub(crate) fn made(alloc: Global, call: &Call<'_>, out: &mut String) -> Result<bool, Fault> {
-    match call.name {
-        "new_empty_array" => new_empty(alloc, call, out)?,
-        "new_null_array" => new_null(alloc, call, out)?,
-        "try_new" => write_array(out, &*only(alloc, call)?)?,
-        "with_validity" => with_validity(alloc, call, out)?,
-        _ => return Ok(false),
-    }
-    Ok(true)
-}
-
-/// The only argument, an array.
-fn only(alloc: Global, call: &Call<'_>) -> Result<Box<AnyArray>, Fault> {
-    call.takes(1)?;
-    call.array(alloc, 0)
-}
-
-/// Appends the array that a call made, if it was not refused.
-pub(crate) fn write_made(out: &mut String, outcome: Result<AnyArray, Error>) -> Result<(), Fault> {
-    match outcome {
-        Ok(array) => write_array(out, &array),
-        Err(error) => Err(Fault::Refused(error)),
+        OfArrayAt::AreWithin => parts::are_within(array, i, out),
+        OfArrayAt::Index => parts::index(array, i, out),
+        OfArrayAt::IsValid => is_valid(array, i, out),
+        OfArrayAt::Key => parts::key(array, i, out),
+        OfArrayAt::StartEnd => parts::start_end(array, i, out),
     }
 }
 
-/// A clone of the array.
+/// A clone of the array, or that memory was refused.
 fn cloned(array: &AnyArray) -> Result<AnyArray, Error> {
     Ok(array.clone()?)
 }
 
-/// Whether two arrays are equal.
-fn equal(alloc: Global, call: &Call<'_>, out: &mut String) -> Result<(), Fault> {
-    call.takes(2)?;
-    let (left, right) = (call.array(alloc, 0)?, call.array(alloc, 1)?);
-    Ok(write!(out, "{}", *left == *right)?)
-}
-
 /// Whether a row is no null.
-fn is_valid(alloc: Global, call: &Call<'_>, out: &mut String) -> Result<(), Fault> {
-    call.takes(2)?;
-    let array = call.array(alloc, 0)?;
-    let i = call.integer(1)?;
-    check_below(i, array.len())?;
-    Ok(write!(out, "{}", array.is_valid(i))?)
+fn is_valid(array: &AnyArray, i: usize, out: &mut String) -> Result<(), Fault> {
+    if i < array.len() {
+        show(out, array.is_valid(i))
+    } else {
+        Err(Fault::Usage)
+    }
 }
 
-/// A part of an array, which is kept of it, or made of it.
-fn part(alloc: Global, method: &str, call: &Call<'_>, out: &mut String) -> Result<(), Fault> {
+/// Whether two arrays are equal.
+pub(crate) fn eq(alloc: Global, call: &Call<'_>, out: &mut String) -> Result<(), Fault> {
+    let pair = call.pair(alloc)?;
+    show(out, *pair.left == *pair.right)
+}
+
+/// A part of an array, which is kept of it.
+pub(crate) fn slice(alloc: Global, call: &Call<'_>, out: &mut String) -> Result<(), Fault> {
     call.takes(3)?;
+    let (offset, len) = call.range(1)?;
     let mut array = call.array(alloc, 0)?;
-    let (offset, len) = (call.integer(1)?, call.integer(2)?);
+    slice_within(&mut *array.array, offset, len, out)
+}
+
+/// The same, if the part is within the array.
+fn slice_within(
+    array: &mut AnyArray,
+    offset: usize,
+    len: usize,
+    out: &mut String,
+) -> Result<(), Fault> {
     check_within(offset, len, array.len())?;
-    if method == "sliced" {
-        return write_made(out, Ok(Box::into_inner(array).sliced(offset, len)));
-    }
     array.slice(offset, len);
-    write_array(out, &*array)
+    write_array(out, array)
+}
+
+/// A part of an array, which is made of it.
+pub(crate) fn sliced(alloc: Global, call: &Call<'_>, out: &mut String) -> Result<(), Fault> {
+    call.takes(3)?;
+    let (offset, len) = call.range(1)?;
+    let array = call.array(alloc, 0)?;
+    check_within(offset, len, array.array.len())?;
+    write_made(out, Ok(array.into_inner().sliced(offset, len)))
+}
+
+/// Argument 0, a type of which there are arrays.
+fn carried(alloc: Global, call: &Call<'_>) -> Result<DataType, Fault>
+    ensures { IfOk result (λ data_type. IsCarried (type_of data_type)) }
+{
+    let data_type = call.data_type(alloc, 0)?;
+    if data_type.is_carried() {
+        Ok(data_type)
+    } else {
+        Err(Fault::Usage)
+    }
 }
 
 /// An array without rows.
-fn new_empty(alloc: Global, call: &Call<'_>, out: &mut String) -> Result<(), Fault> {
+pub(crate) fn new_empty(alloc: Global, call: &Call<'_>, out: &mut String) -> Result<(), Fault> {
     call.takes(1)?;
-    let data_type = call.data_type(alloc, 0)?;
-    if !data_type.is_carried() {
-        return Err(Fault::Usage);
-    }
-    write_made(out, new_empty_array(alloc, data_type))
+    write_made(out, new_empty_array(alloc, carried(alloc, call)?))
 }
 
 /// An array of null slots.
-fn new_null(alloc: Global, call: &Call<'_>, out: &mut String) -> Result<(), Fault> {
+pub(crate) fn new_null(alloc: Global, call: &Call<'_>, out: &mut String) -> Result<(), Fault> {
     call.takes(2)?;
-    let data_type = call.data_type(alloc, 0)?;
     let len = call.integer(1)?;
-    if !data_type.is_carried() {
-        return Err(Fault::Usage);
-    }
-    write_made(out, new_null_array(alloc, data_type, len))
+    write_made(out, new_null_array(alloc, carried(alloc, call)?, len))
 }

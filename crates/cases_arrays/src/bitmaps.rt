@@ -1,142 +1,153 @@
 //! Calls of bitmaps.
 
-ghost use Rattle.std.specs.Prelude.{◌+◌, ◌≤◌, length};
+ghost use Rattle.std.specs.Prelude.{◌+◌, ◌≡◌, ◌≤◌, length, OnOk};
 
-use crate::within::{check_below, check_within};
+use crate::within::{check_below, check_within, show_both};
 use arrow_memory::bitmap::Bitmap;
 use arrow_text::call::Call;
 use arrow_text::fault::Fault;
-use arrow_text::write::write_bits;
+use arrow_text::write::{show, write_bits};
+use arrow_types::error::Error;
 use std::alloc::Global;
 
-/// The calls of bitmaps, by the method's name.
-pub(crate) fn answer(
+/// Appends the bitmap that a call made, if it was not refused.
+pub(crate) fn write_made_bits(
+    out: &mut String,
+    outcome: Result<Bitmap, Error>,
+) -> Result<(), Fault> {
+    match outcome {
+        Ok(bits) => write_bits(out, &bits),
+        Err(error) => Err(Fault::Refused(error)),
+    }
+}
+
+/// The methods of a bitmap that take nothing else.
+#[derive(Clone, Copy)]
+pub(crate) enum OfBitmap {
+    Clone,
+    FromBools,
+    IsEmpty,
+    Len,
+    Not,
+    UnsetBits,
+}
+
+/// The calls that take a bitmap.
+pub(crate) fn of_bitmap(
     alloc: Global,
-    method: &str,
+    method: OfBitmap,
     call: &Call<'_>,
     out: &mut String,
-) -> Result<bool, Fault> {
-    if of_one(alloc, method, call, out)? {
-        return Ok(true);
-    }
-    if of_places(alloc, method, call, out)? {
-        return Ok(true);
-    }
-    of_two(alloc, method, call, out)
-}
-
-/// The calls that take a bitmap, or a count of bits, and nothing else.
-fn of_one(alloc: Global, method: &str, call: &Call<'_>, out: &mut String) -> Result<bool, Fault> {
+) -> Result<(), Fault> {
+    let bits = call.only_bits(alloc)?;
     match method {
-        "clone" => write_bits(out, &only(alloc, call)?.clone()?)?,
-        "from_bools" => write_bits(out, &packed(alloc, &only(alloc, call)?)?)?,
-        "is_empty" => write!(out, "{}", only(alloc, call)?.is_empty())?,
-        "len" => write!(out, "{}", only(alloc, call)?.len())?,
-        "new_zeroed" => write_bits(out, &zeroed(alloc, call)?)?,
-        "not" => write_bits(out, &only(alloc, call)?.not(alloc)?)?,
-        "unset_bits" => write!(out, "{}", only(alloc, call)?.unset_bits())?,
-        _ => return Ok(false),
+        OfBitmap::Clone => clone(&bits, out),
+        OfBitmap::FromBools => from_bools(alloc, &bits, out),
+        OfBitmap::IsEmpty => show(out, bits.is_empty()),
+        OfBitmap::Len => show(out, bits.len()),
+        OfBitmap::Not => write_made_bits(out, bits.not(alloc)),
+        OfBitmap::UnsetBits => show(out, bits.unset_bits()),
     }
-    Ok(true)
 }
 
-/// The calls that take places in a bitmap.
-fn of_places(
-    alloc: Global,
-    method: &str,
-    call: &Call<'_>,
-    out: &mut String,
-) -> Result<bool, Fault> {
-    match method {
-        "get_bit" => bit_at(alloc, call, out)?,
-        "run_at" => run_at(alloc, call, out)?,
-        "runs" => runs(alloc, call, out)?,
-        "slice" | "sliced" => part(alloc, method, call, out)?,
-        "word" => word(alloc, call, out)?,
-        _ => return Ok(false),
-    }
-    Ok(true)
-}
-
-/// The calls that take two bitmaps.
-fn of_two(alloc: Global, method: &str, call: &Call<'_>, out: &mut String) -> Result<bool, Fault> {
-    match method {
-        "and" | "and_not" | "or" => write_bits(out, &logic(alloc, method, call)?)?,
-        "eq" => equal(alloc, call, out)?,
-        "equal_range" => equal_range(alloc, call, out)?,
-        _ => return Ok(false),
-    }
-    Ok(true)
-}
-
-/// The only argument, a bitmap.
-fn only(alloc: Global, call: &Call<'_>) -> Result<Bitmap, Fault> {
-    call.takes(1)?;
-    call.bits(alloc, 0)
+/// A clone of the bitmap.
+fn clone(bits: &Bitmap, out: &mut String) -> Result<(), Fault> {
+    let copy = bits.clone()?;
+    write_bits(out, &copy)
 }
 
 /// The same bits, packed from a list of truth values.
-fn packed(alloc: Global, bits: &Bitmap) -> Result<Bitmap, Fault> {
+fn from_bools(alloc: Global, bits: &Bitmap, out: &mut String) -> Result<(), Fault> {
     let mut truths = Vec::new(alloc);
     for i in 0..bits.len() {
         truths.push(bits.get_bit(i))?;
     }
-    Ok(Bitmap::from_bools(alloc, &truths)?)
+    write_made_bits(out, Bitmap::from_bools(alloc, &truths))
 }
 
 /// So many bits that are not set.
-fn zeroed(alloc: Global, call: &Call<'_>) -> Result<Bitmap, Fault> {
+pub(crate) fn new_zeroed(alloc: Global, call: &Call<'_>, out: &mut String) -> Result<(), Fault> {
     call.takes(1)?;
-    Ok(Bitmap::new_zeroed(alloc, call.integer(0)?)?)
+    write_made_bits(out, Bitmap::new_zeroed(alloc, call.integer(0)?))
 }
 
-/// Whether a bit is set.
-fn bit_at(alloc: Global, call: &Call<'_>, out: &mut String) -> Result<(), Fault> {
+/// The methods of a bitmap that take a number too.
+#[derive(Clone, Copy)]
+pub(crate) enum OfBitmapAt {
+    GetBit,
+    Word,
+}
+
+/// The calls that take a bitmap and a number.
+pub(crate) fn of_bitmap_at(
+    alloc: Global,
+    method: OfBitmapAt,
+    call: &Call<'_>,
+    out: &mut String,
+) -> Result<(), Fault> {
     call.takes(2)?;
-    let bits = call.bits(alloc, 0)?;
     let i = call.integer(1)?;
-    check_below(i, bits.len())?;
-    Ok(write!(out, "{}", bits.get_bit(i))?)
-}
-
-/// A word of the bits, of any number.
-fn word(alloc: Global, call: &Call<'_>, out: &mut String) -> Result<(), Fault> {
-    call.takes(2)?;
     let bits = call.bits(alloc, 0)?;
-    Ok(write!(out, "{}", bits.word(call.integer(1)?))?)
+    match method {
+        OfBitmapAt::GetBit if i < bits.len() => show(out, bits.get_bit(i)),
+        OfBitmapAt::GetBit => Err(Fault::Usage),
+        OfBitmapAt::Word => show(out, bits.word(i)),
+    }
 }
 
-/// A part of a bitmap, which is kept of it, or made of it.
-fn part(alloc: Global, method: &str, call: &Call<'_>, out: &mut String) -> Result<(), Fault> {
+/// The methods of a bitmap that take two numbers too.
+#[derive(Clone, Copy)]
+pub(crate) enum OfBitmapPart {
+    RunAt,
+    Runs,
+    Slice,
+    Sliced,
+}
+
+/// The calls that take a bitmap and two numbers.
+pub(crate) fn of_bitmap_part(
+    alloc: Global,
+    method: OfBitmapPart,
+    call: &Call<'_>,
+    out: &mut String,
+) -> Result<(), Fault> {
     call.takes(3)?;
-    let mut bits = call.bits(alloc, 0)?;
-    let (offset, len) = (call.integer(1)?, call.integer(2)?);
-    check_within(offset, len, bits.len())?;
-    if method == "sliced" {
-        return write_bits(out, &bits.sliced(offset, len));
+    let (start, len) = call.range(1)?;
+    let bits = call.bits(alloc, 0)?;
+    match method {
+        OfBitmapPart::RunAt => run_at(&bits, start, len, out),
+        OfBitmapPart::Runs => runs(&bits, start, len, out),
+        OfBitmapPart::Slice => slice(bits, start, len, out),
+        OfBitmapPart::Sliced => sliced(bits, start, len, out),
     }
-    bits.slice(offset, len);
-    write_bits(out, &bits)
+}
+
+/// A part of a bitmap, which is kept of it.
+fn slice(bits: Bitmap, offset: usize, len: usize, out: &mut String) -> Result<(), Fault> {
+    check_within(offset, len, bits.len())?;
+    let mut part = bits;
+    part.slice(offset, len);
+    write_bits(out, &part)
+}
+
+/// A part of a bitmap, which is made of it.
+fn sliced(bits: Bitmap, offset: usize, len: usize, out: &mut String) -> Result<(), Fault> {
+    check_within(offset, len, bits.len())?;
+    write_bits(out, &bits.sliced(offset, len))
 }
 
 /// A bit, and where the run of such bits ends.
-fn run_at(alloc: Global, call: &Call<'_>, out: &mut String) -> Result<(), Fault> {
-    call.takes(3)?;
-    let bits = call.bits(alloc, 0)?;
-    let (start, end) = (call.integer(1)?, call.integer(2)?);
+fn run_at(bits: &Bitmap, start: usize, end: usize, out: &mut String) -> Result<(), Fault> {
     check_below(start, end)?;
     check_within(end, 0, bits.len())?;
     let (bit, run_end) = bits.run_at(start, end);
-    Ok(write!(out, "{bit} {run_end}")?)
+    show_both(out, bit, run_end)
 }
 
 /// The runs of a part of a bitmap, one after the other.
-fn runs(alloc: Global, call: &Call<'_>, out: &mut String) -> Result<(), Fault> {
-    call.takes(3)?;
-    let bits = call.bits(alloc, 0)?;
-    let (start, len) = (call.integer(1)?, call.integer(2)?);
+fn runs(bits: &Bitmap, start: usize, len: usize, out: &mut String) -> Result<(), Fault> {
     check_within(start, len, bits.len())?;
-    write_runs(&bits, start, len, out)
+    write_runs(bits, start, len, out)
 }
 
 /// Each run of set bits among `len` bits from `start` on, and the count of the others before it; `none` of no bit.
@@ -160,33 +171,66 @@ fn write_runs(bits: &Bitmap, start: usize, len: usize, out: &mut String) -> Resu
     Ok(())
 }
 
-/// Two bitmaps of as many bits, joined by the method.
-fn logic(alloc: Global, method: &str, call: &Call<'_>) -> Result<Bitmap, Fault> {
-    call.takes(2)?;
-    let (left, right) = (call.bits(alloc, 0)?, call.bits(alloc, 1)?);
-    if left.len() != right.len() {
-        return Err(Fault::Usage);
-    }
-    match method {
-        "and" => Ok(left.and(alloc, &right)?),
-        "or" => Ok(left.or(alloc, &right)?),
-        _ => Ok(left.and_not(alloc, &right)?),
+/// That two bitmaps have as many bits.
+fn check_alike(left: &Bitmap, right: &Bitmap) -> Result<(), Fault>
+    ensures { OnOk result (length left.now ≡ length right.now) }
+{
+    if left.len() == right.len() {
+        Ok(())
+    } else {
+        Err(Fault::Usage)
     }
 }
 
-/// Whether two bitmaps are equal.
-fn equal(alloc: Global, call: &Call<'_>, out: &mut String) -> Result<(), Fault> {
+/// The methods of two bitmaps.
+#[derive(Clone, Copy)]
+pub(crate) enum OfBitmaps {
+    And,
+    AndNot,
+    Eq,
+    Or,
+}
+
+/// The calls that take two bitmaps.
+pub(crate) fn of_bitmaps(
+    alloc: Global,
+    method: OfBitmaps,
+    call: &Call<'_>,
+    out: &mut String,
+) -> Result<(), Fault> {
     call.takes(2)?;
-    let (left, right) = (call.bits(alloc, 0)?, call.bits(alloc, 1)?);
-    Ok(write!(out, "{}", left == right)?)
+    let left = call.bits(alloc, 0)?;
+    let right = call.bits(alloc, 1)?;
+    write_of_bitmaps(alloc, method, &left, &right, out)
+}
+
+/// The same of bitmaps that are lent.
+fn write_of_bitmaps(
+    alloc: Global,
+    method: OfBitmaps,
+    left: &Bitmap,
+    right: &Bitmap,
+    out: &mut String,
+) -> Result<(), Fault> {
+    if let OfBitmaps::Eq = method {
+        return show(out, *left == *right);
+    }
+    check_alike(left, right)?;
+    match method {
+        OfBitmaps::And => write_made_bits(out, left.and(alloc, right)),
+        OfBitmaps::AndNot => write_made_bits(out, left.and_not(alloc, right)),
+        _ => write_made_bits(out, left.or(alloc, right)),
+    }
 }
 
 /// Whether parts of two bitmaps are equal.
-fn equal_range(alloc: Global, call: &Call<'_>, out: &mut String) -> Result<(), Fault> {
+pub(crate) fn equal_range(alloc: Global, call: &Call<'_>, out: &mut String) -> Result<(), Fault> {
     call.takes(5)?;
-    let (left, right) = (call.bits(alloc, 0)?, call.bits(alloc, 2)?);
-    let (start, other_start, len) = (call.integer(1)?, call.integer(3)?, call.integer(4)?);
+    let start = call.integer(1)?;
+    let (other_start, len) = call.range(3)?;
+    let left = call.bits(alloc, 0)?;
+    let right = call.bits(alloc, 2)?;
     check_within(start, len, left.len())?;
     check_within(other_start, len, right.len())?;
-    Ok(write!(out, "{}", left.equal_range(start, &right, other_start, len))?)
+    show(out, left.equal_range(start, &right, other_start, len))
 }

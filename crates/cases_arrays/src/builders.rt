@@ -1,5 +1,6 @@
 //! Bitmaps and offsets under construction: a list of steps, one after the other.
 
+use crate::bitmaps::write_made_bits;
 use crate::offsets::{read, write_offsets};
 use crate::within::check_within;
 use arrow_memory::bitmap::MutableBitmap;
@@ -9,38 +10,11 @@ use arrow_text::call::Call;
 use arrow_text::fault::Fault;
 use arrow_text::number::Integer;
 use arrow_text::piece::{Piece, Step};
-use arrow_text::write::write_bits;
+use arrow_text::types::find;
 use arrow_types::error::Error;
 use arrow_types::types::Offset;
 use std::alloc::Global;
-
-/// Bits that are appended, and the bitmap at the end. A first step makes them.
-pub(crate) fn bits(alloc: Global, call: &Call<'_>, out: &mut String) -> Result<(), Fault> {
-    let Some((first, steps)) = call.arguments.split_first() else {
-        return Err(Fault::Usage);
-    };
-    let mut bits = new_bits(alloc, *first)?;
-    for step in steps {
-        bits_step(alloc, &mut bits, &step.step(alloc)?, out)?;
-    }
-    write_bits(out, &bits.into_bitmap()?)
-}
-
-/// No bits: `new()`, or `with_capacity(8)`.
-fn new_bits(alloc: Global, piece: Piece<'_>) -> Result<MutableBitmap, Fault> {
-    let step = piece.step(alloc)?;
-    match step.name {
-        "new" => {
-            takes(&step, 0)?;
-            Ok(MutableBitmap::new(alloc))
-        }
-        "with_capacity" => {
-            takes(&step, 1)?;
-            Ok(MutableBitmap::with_capacity(alloc, step.integer(0)?)?)
-        }
-        _ => Err(Fault::Usage),
-    }
-}
+use std::fmt::Display;
 
 /// That a step has so many arguments.
 fn takes(step: &Step<'_>, count: usize) -> Result<(), Fault> {
@@ -51,27 +25,17 @@ fn takes(step: &Step<'_>, count: usize) -> Result<(), Fault> {
     }
 }
 
-/// One step on bits, and what it prints.
-fn bits_step(
-    alloc: Global,
-    bits: &mut MutableBitmap,
-    step: &Step<'_>,
-    out: &mut String,
-) -> Result<(), Fault> {
-    match step.name {
-        "is_empty" => {
-            takes(step, 0)?;
-            Ok(write!(out, "{} ", bits.is_empty())?)
-        }
-        "len" => {
-            takes(step, 0)?;
-            Ok(write!(out, "{} ", bits.len())?)
-        }
-        _ => {
-            let outcome = append_bits(alloc, bits, step)?;
-            write_refusal(out, outcome)
-        }
-    }
+/// Arguments 1 and 2 of a step that has no more, where a part begins and how long it is.
+fn range(step: &Step<'_>) -> Result<(usize, usize), Fault> {
+    takes(step, 3)?;
+    let start = step.integer(1)?;
+    Ok((start, step.integer(2)?))
+}
+
+/// Appends a value and a space, if the step takes no argument.
+fn show_alone<T: Display + Drop>(out: &mut String, step: &Step<'_>, value: T) -> Result<(), Fault> {
+    takes(step, 0)?;
+    Ok(write!(out, "{value} ")?)
 }
 
 /// Appends a refusal's name, where a step was refused.
@@ -82,26 +46,114 @@ fn write_refusal(out: &mut String, outcome: Result<(), Error>) -> Result<(), Fau
     }
 }
 
-/// A step that appends bits, and what it answered.
-fn append_bits(
-    alloc: Global,
-    bits: &mut MutableBitmap,
-    step: &Step<'_>,
-) -> Result<Result<(), Error>, Fault> {
+/// The steps on bits.
+#[derive(Clone, Copy)]
+enum BitsStep {
+    ExtendConstant,
+    ExtendFromBitmap,
+    IsEmpty,
+    Len,
+    Push,
+    PushWord,
+}
+
+/// The steps on bits by their names.
+const BITS_STEPS: [(&str, BitsStep); 6] = [
+    ("extend_constant", BitsStep::ExtendConstant),
+    ("extend_from_bitmap", BitsStep::ExtendFromBitmap),
+    ("is_empty", BitsStep::IsEmpty),
+    ("len", BitsStep::Len),
+    ("push", BitsStep::Push),
+    ("push_word", BitsStep::PushWord),
+];
+
+/// Bits that are appended, and the bitmap at the end. A first step makes them.
+pub(crate) fn bits(alloc: Global, call: &Call<'_>, out: &mut String) -> Result<(), Fault> {
+    let Some((first, steps)) = call.arguments.split_first() else {
+        return Err(Fault::Usage);
+    };
+    let mut bits = new_bits(alloc, *first)?;
+    bits_steps(alloc, &mut bits, steps, out)?;
+    write_made_bits(out, bits.into_bitmap())
+}
+
+/// No bits: `new()`, or `with_capacity(8)`.
+fn new_bits(alloc: Global, piece: Piece<'_>) -> Result<MutableBitmap, Fault> {
+    let step = piece.step(alloc)?;
     match step.name {
-        "push" => {
-            takes(step, 1)?;
-            Ok(bits.push(step.argument(0)?.truth()?))
+        "new" => {
+            takes(&step, 0)?;
+            Ok(MutableBitmap::new(alloc))
         }
-        "extend_constant" => {
-            takes(step, 2)?;
-            let (additional, bit) = (step.integer(0)?, step.argument(1)?.truth()?);
-            Ok(bits.extend_constant(additional, bit))
-        }
-        "extend_from_bitmap" => extend_from_bitmap(alloc, bits, step),
-        "push_word" => push_word(bits, step),
+        "with_capacity" => Ok(MutableBitmap::with_capacity(alloc, only(&step)?)?),
         _ => Err(Fault::Usage),
     }
+}
+
+/// The only argument of a step, a number.
+fn only(step: &Step<'_>) -> Result<usize, Fault> {
+    takes(step, 1)?;
+    step.integer(0)
+}
+
+/// The steps on bits, one after the other.
+fn bits_steps(
+    alloc: Global,
+    bits: &mut MutableBitmap,
+    steps: &[Piece<'_>],
+    out: &mut String,
+) -> Result<(), Fault> {
+    for step in steps {
+        bits_step(alloc, bits, *step, out)?;
+    }
+    Ok(())
+}
+
+/// One step on bits, and what it prints.
+fn bits_step(
+    alloc: Global,
+    bits: &mut MutableBitmap,
+    piece: Piece<'_>,
+    out: &mut String,
+) -> Result<(), Fault> {
+    let step = piece.step(alloc)?;
+    match find(&BITS_STEPS, step.name) {
+        Some(kind) => take_bits_step(alloc, *kind, bits, &step, out),
+        None => Err(Fault::Usage),
+    }
+}
+
+/// A step of a kind on bits, and what it prints.
+fn take_bits_step(
+    alloc: Global,
+    kind: BitsStep,
+    bits: &mut MutableBitmap,
+    step: &Step<'_>,
+    out: &mut String,
+) -> Result<(), Fault> {
+    match kind {
+        BitsStep::ExtendConstant => push_often(bits, step, out),
+        BitsStep::ExtendFromBitmap => extend_from_bitmap(alloc, bits, step, out),
+        BitsStep::IsEmpty => show_alone(out, step, bits.is_empty()),
+        BitsStep::Len => show_alone(out, step, bits.len()),
+        BitsStep::Push => push_bit(bits, step, out),
+        BitsStep::PushWord => push_word(bits, step, out),
+    }
+}
+
+/// Appends a bit.
+fn push_bit(bits: &mut MutableBitmap, step: &Step<'_>, out: &mut String) -> Result<(), Fault> {
+    takes(step, 1)?;
+    let bit = step.argument(0)?.truth()?;
+    write_refusal(out, bits.push(bit))
+}
+
+/// Appends a bit so often.
+fn push_often(bits: &mut MutableBitmap, step: &Step<'_>, out: &mut String) -> Result<(), Fault> {
+    takes(step, 2)?;
+    let additional = step.integer(0)?;
+    let bit = step.argument(1)?.truth()?;
+    write_refusal(out, bits.extend_constant(additional, bit))
 }
 
 /// Appends a part of a bitmap.
@@ -109,21 +161,43 @@ fn extend_from_bitmap(
     alloc: Global,
     bits: &mut MutableBitmap,
     step: &Step<'_>,
-) -> Result<Result<(), Error>, Fault> {
-    takes(step, 3)?;
+    out: &mut String,
+) -> Result<(), Fault> {
+    let (start, len) = range(step)?;
     let source = read_bits(alloc, step.argument(0)?)?;
-    let (start, len) = (step.integer(1)?, step.integer(2)?);
     check_within(start, len, source.len())?;
-    Ok(bits.extend_from_bitmap(&source, start, len))
+    write_refusal(out, bits.extend_from_bitmap(&source, start, len))
 }
 
 /// Appends the lowest bits of a word.
-fn push_word(bits: &mut MutableBitmap, step: &Step<'_>) -> Result<Result<(), Error>, Fault> {
+fn push_word(bits: &mut MutableBitmap, step: &Step<'_>, out: &mut String) -> Result<(), Fault> {
     takes(step, 2)?;
-    let (word, len) = (step.integer(0)?, step.integer(1)?);
+    let word = step.integer(0)?;
+    let len = step.integer(1)?;
     check_within(len, 0, 64)?;
-    Ok(bits.push_word(word, len))
+    write_refusal(out, bits.push_word(word, len))
 }
+
+/// The steps on offsets.
+#[derive(Clone, Copy)]
+enum OffsetsStep {
+    ExtendConstant,
+    Last,
+    Len,
+    TryExtendFromSlice,
+    TryExtendFromValid,
+    TryPushUsize,
+}
+
+/// The steps on offsets by their names.
+const OFFSETS_STEPS: [(&str, OffsetsStep); 6] = [
+    ("extend_constant", OffsetsStep::ExtendConstant),
+    ("last", OffsetsStep::Last),
+    ("len", OffsetsStep::Len),
+    ("try_extend_from_slice", OffsetsStep::TryExtendFromSlice),
+    ("try_extend_from_valid", OffsetsStep::TryExtendFromValid),
+    ("try_push_usize", OffsetsStep::TryPushUsize),
+];
 
 /// Offsets that rows are appended to, and the offsets at the end. A first step makes them.
 pub(crate) fn offsets<O: Offset + Integer>(
@@ -135,64 +209,84 @@ pub(crate) fn offsets<O: Offset + Integer>(
         return Err(Fault::Usage);
     };
     let mut offsets = new_offsets::<O>(alloc, *first)?;
-    for step in steps {
-        offsets_step(alloc, &mut offsets, &step.step(alloc)?, out)?;
-    }
-    write_offsets(out, &offsets.into_buffer()?)
+    offsets_steps(alloc, &mut offsets, steps, out)?;
+    let offsets = offsets.into_buffer()?;
+    write_offsets(out, &offsets)
 }
 
 /// The offset 0 alone: `with_capacity(8)`.
 fn new_offsets<O: Offset>(alloc: Global, piece: Piece<'_>) -> Result<Offsets<O>, Fault> {
     let step = piece.step(alloc)?;
-    takes(&step, 1)?;
+    let capacity = only(&step)?;
     match step.name {
-        "with_capacity" => Ok(Offsets::with_capacity(alloc, step.integer(0)?)?),
+        "with_capacity" => Ok(Offsets::with_capacity(alloc, capacity)?),
         _ => Err(Fault::Usage),
     }
+}
+
+/// The steps on offsets, one after the other.
+fn offsets_steps<O: Offset + Integer>(
+    alloc: Global,
+    offsets: &mut Offsets<O>,
+    steps: &[Piece<'_>],
+    out: &mut String,
+) -> Result<(), Fault> {
+    for step in steps {
+        offsets_step(alloc, offsets, *step, out)?;
+    }
+    Ok(())
 }
 
 /// One step on offsets, and what it prints.
 fn offsets_step<O: Offset + Integer>(
     alloc: Global,
     offsets: &mut Offsets<O>,
-    step: &Step<'_>,
+    piece: Piece<'_>,
     out: &mut String,
 ) -> Result<(), Fault> {
-    match step.name {
-        "last" => {
-            takes(step, 0)?;
-            Ok(write!(out, "{} ", offsets.last().to_usize())?)
-        }
-        "len" => {
-            takes(step, 0)?;
-            Ok(write!(out, "{} ", offsets.len())?)
-        }
-        _ => {
-            let outcome = append_rows(alloc, offsets, step)?;
-            write_refusal(out, outcome)
-        }
+    let step = piece.step(alloc)?;
+    match find(&OFFSETS_STEPS, step.name) {
+        Some(kind) => take_offsets_step(alloc, *kind, offsets, &step, out),
+        None => Err(Fault::Usage),
     }
 }
 
-/// A step that appends rows, and what it answered.
-fn append_rows<O: Offset + Integer>(
+/// A step of a kind, and what it prints.
+fn take_step<O: Offset + Integer>(
     alloc: Global,
+    kind: OffsetsStep,
     offsets: &mut Offsets<O>,
     step: &Step<'_>,
-) -> Result<Result<(), Error>, Fault> {
-    match step.name {
-        "try_push_usize" => {
-            takes(step, 1)?;
-            Ok(offsets.try_push_usize(step.integer(0)?))
-        }
-        "extend_constant" => {
-            takes(step, 1)?;
-            Ok(offsets.extend_constant(step.integer(0)?))
-        }
-        "try_extend_from_slice" => extend_from_slice(alloc, offsets, step),
-        "try_extend_from_valid" => extend_from_valid(alloc, offsets, step),
-        _ => Err(Fault::Usage),
+    out: &mut String,
+) -> Result<(), Fault> {
+    match kind {
+        OffsetsStep::ExtendConstant => extend_constant(offsets, step, out),
+        OffsetsStep::Last => show_alone(out, step, offsets.last().to_usize()),
+        OffsetsStep::Len => show_alone(out, step, offsets.len()),
+        OffsetsStep::TryExtendFromSlice => extend_from_slice(alloc, offsets, step, out),
+        OffsetsStep::TryExtendFromValid => extend_from_valid(alloc, offsets, step, out),
+        OffsetsStep::TryPushUsize => try_push(offsets, step, out),
     }
+}
+
+/// Appends rows of no item.
+fn extend_constant<O: Offset>(
+    offsets: &mut Offsets<O>,
+    step: &Step<'_>,
+    out: &mut String,
+) -> Result<(), Fault> {
+    let additional = only(step)?;
+    write_refusal(out, offsets.extend_constant(additional))
+}
+
+/// Appends a row.
+fn try_push<O: Offset>(
+    offsets: &mut Offsets<O>,
+    step: &Step<'_>,
+    out: &mut String,
+) -> Result<(), Fault> {
+    let length = only(step)?;
+    write_refusal(out, offsets.try_push_usize(length))
 }
 
 /// Appends rows of other offsets.
@@ -200,12 +294,12 @@ fn extend_from_slice<O: Offset + Integer>(
     alloc: Global,
     offsets: &mut Offsets<O>,
     step: &Step<'_>,
-) -> Result<Result<(), Error>, Fault> {
-    takes(step, 3)?;
+    out: &mut String,
+) -> Result<(), Fault> {
+    let (start, len) = range(step)?;
     let other = read::<O>(alloc, step.argument(0)?)?;
-    let (start, len) = (step.integer(1)?, step.integer(2)?);
     check_within(start, len, other.len() - 1)?;
-    Ok(offsets.try_extend_from_slice(&other, start, len))
+    write_refusal(out, offsets.try_extend_from_slice(&other, start, len))
 }
 
 /// Appends rows of other offsets from one on, up to the end of a validity.
@@ -213,13 +307,17 @@ fn extend_from_valid<O: Offset + Integer>(
     alloc: Global,
     offsets: &mut Offsets<O>,
     step: &Step<'_>,
-) -> Result<Result<(), Error>, Fault> {
+    out: &mut String,
+) -> Result<(), Fault> {
     takes(step, 3)?;
-    let other = read::<O>(alloc, step.argument(0)?)?;
     let start = step.integer(1)?;
+    let other = read::<O>(alloc, step.argument(0)?)?;
     let validity = read_bits(alloc, step.argument(2)?)?;
     check_within(start, 0, validity.len())?;
     let len = validity.len() - start;
     check_within(start, len, other.len() - 1)?;
-    Ok(offsets.try_extend_from_valid(&other, &validity, start, len))
+    write_refusal(
+        out,
+        offsets.try_extend_from_valid(&other, &validity, start, len),
+    )
 }

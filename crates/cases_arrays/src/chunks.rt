@@ -4,37 +4,36 @@ use arrow_arrays::array::AnyArray;
 use arrow_arrays::chunk::Chunk;
 use arrow_text::call::Call;
 use arrow_text::fault::Fault;
-use arrow_text::write::write_array;
+use arrow_text::given::Arrays;
+use arrow_text::write::{show, write_array};
 use std::alloc::Global;
-
-/// The calls of chunks, by the method's name.
-pub(crate) fn answer(
-    alloc: Global,
-    method: &str,
-    call: &Call<'_>,
-    out: &mut String,
-) -> Result<bool, Fault> {
-    match method {
-        "into_arrays" => write_arrays(out, &made(alloc, call)?.into_arrays())?,
-        "try_new" => write_chunk(out, &made(alloc, call)?)?,
-        _ => return Ok(false),
-    }
-    Ok(true)
-}
 
 /// The arguments as the columns of a chunk.
 fn made(alloc: Global, call: &Call<'_>) -> Result<Chunk, Fault> {
-    Ok(Chunk::try_new(call.arrays(alloc, 0)?)?)
+    Ok(Chunk::try_new(call.arrays(alloc, 0)?.into_inner())?)
 }
 
-/// Appends how many rows there are, and the columns.
+/// How many rows there are, and the columns.
+pub(crate) fn try_new(alloc: Global, call: &Call<'_>, out: &mut String) -> Result<(), Fault> {
+    let chunk = made(alloc, call)?;
+    write_chunk(out, &chunk)
+}
+
+/// The same of a chunk that is lent.
 fn write_chunk(out: &mut String, chunk: &Chunk) -> Result<(), Fault> {
-    write!(out, "{}", chunk.len())?;
+    show(out, chunk.len())?;
     for array in chunk.arrays() {
         out.push(' ')?;
         write_array(out, array)?;
     }
     Ok(())
+}
+
+/// The columns, no longer bound to one length.
+pub(crate) fn into_arrays(alloc: Global, call: &Call<'_>, out: &mut String) -> Result<(), Fault> {
+    let arrays = made(alloc, call)?.into_arrays();
+    let arrays = Arrays { arrays };
+    write_arrays(out, &arrays.arrays)
 }
 
 /// Appends arrays, parted by spaces; `none` where there is none.

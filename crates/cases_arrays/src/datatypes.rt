@@ -3,41 +3,56 @@
 use arrow_text::call::Call;
 use arrow_text::fault::Fault;
 use arrow_text::types::write_type;
+use arrow_text::write::show;
 use arrow_types::datatypes::DataType;
 use std::alloc::Global;
 
-/// The calls of a data type, by the method's name.
-pub(crate) fn answer(
+/// The methods of a data type that take nothing else.
+#[derive(Clone, Copy)]
+pub(crate) enum OfType {
+    Clone,
+    IsCarried,
+    ToLogicalType,
+    ToPhysicalType,
+}
+
+/// The calls that take a data type.
+pub(crate) fn of_type(
     alloc: Global,
-    method: &str,
+    method: OfType,
     call: &Call<'_>,
     out: &mut String,
-) -> Result<bool, Fault> {
-    match method {
-        "clone" => write_type(out, &(*only(alloc, call)?).clone()?)?,
-        "eq" => equal(alloc, call, out)?,
-        "is_carried" => write!(out, "{}", only(alloc, call)?.is_carried())?,
-        "to_logical_type" => write_type(out, only(alloc, call)?.to_logical_type())?,
-        "to_physical_type" => write!(out, "{:?}", only(alloc, call)?.to_physical_type())?,
-        _ => return Ok(false),
-    }
-    Ok(true)
-}
-
-/// The only argument, a data type.
-fn only(alloc: Global, call: &Call<'_>) -> Result<Box<DataType>, Fault> {
+) -> Result<(), Fault> {
     call.takes(1)?;
-    boxed(alloc, call, 0)
+    let data_type = boxed(alloc, call, 0)?;
+    write_of_type(method, &*data_type, out)
 }
 
-/// Argument `i`, a data type.
-fn boxed(alloc: Global, call: &Call<'_>, i: usize) -> Result<Box<DataType>, Fault> {
-    Ok(Box::new(alloc, call.data_type(alloc, i)?)?)
+/// The same of a data type that is lent.
+fn write_of_type(method: OfType, data_type: &DataType, out: &mut String) -> Result<(), Fault> {
+    match method {
+        OfType::Clone => clone(data_type, out),
+        OfType::IsCarried => show(out, data_type.is_carried()),
+        OfType::ToLogicalType => write_type(out, data_type.to_logical_type()),
+        OfType::ToPhysicalType => Ok(write!(out, "{:?}", data_type.to_physical_type())?),
+    }
+}
+
+/// A clone of the type.
+fn clone(data_type: &DataType, out: &mut String) -> Result<(), Fault> {
+    let copy = data_type.clone()?;
+    write_type(out, &copy)
 }
 
 /// Whether two data types are equal.
-fn equal(alloc: Global, call: &Call<'_>, out: &mut String) -> Result<(), Fault> {
+pub(crate) fn eq(alloc: Global, call: &Call<'_>, out: &mut String) -> Result<(), Fault> {
     call.takes(2)?;
-    let (left, right) = (boxed(alloc, call, 0)?, boxed(alloc, call, 1)?);
-    Ok(write!(out, "{}", *left == *right)?)
+    let left = boxed(alloc, call, 0)?;
+    let right = boxed(alloc, call, 1)?;
+    show(out, *left == *right)
+}
+
+/// Argument `i`, a data type in a box.
+fn boxed(alloc: Global, call: &Call<'_>, i: usize) -> Result<Box<DataType>, Fault> {
+    Ok(Box::new(alloc, call.data_type(alloc, i)?)?)
 }

@@ -1,22 +1,35 @@
 //! Calls of offsets, of 32 and of 64 bits.
 
-use crate::within::check_within;
+use crate::within::{check_within, show_both};
 use arrow_memory::offset::OffsetsBuffer;
 use arrow_text::call::Call;
 use arrow_text::fault::Fault;
 use arrow_text::number::Integer;
 use arrow_text::parts::read_offsets;
 use arrow_text::piece::Piece;
+use arrow_text::write::show;
 use arrow_types::types::Offset;
 use std::alloc::Global;
 
-/// The calls of offsets, by the method's name and the width of the first argument.
-pub(crate) fn answer(
+/// The methods of offsets.
+#[derive(Clone, Copy)]
+pub(crate) enum Method {
+    Clone,
+    Last,
+    Len,
+    Range,
+    Slice,
+    StartEnd,
+    TryFrom,
+}
+
+/// The calls of offsets, by the width of the first argument.
+pub(crate) fn of_offsets(
     alloc: Global,
-    method: &str,
+    method: Method,
     call: &Call<'_>,
     out: &mut String,
-) -> Result<bool, Fault> {
+) -> Result<(), Fault> {
     match call.arguments.first() {
         Some(piece) if piece.text().starts_with("offsets64") => {
             of_width::<i64>(alloc, method, call, out)
@@ -28,27 +41,33 @@ pub(crate) fn answer(
 /// The calls of offsets of one width.
 fn of_width<O: Offset + Integer>(
     alloc: Global,
-    method: &str,
+    method: Method,
     call: &Call<'_>,
     out: &mut String,
-) -> Result<bool, Fault> {
+) -> Result<(), Fault> {
     match method {
-        "clone" => write_offsets(out, &only::<O>(alloc, call)?.clone()?)?,
-        "last" => write!(out, "{}", only::<O>(alloc, call)?.last().to_usize())?,
-        "len" => write!(out, "{}", only::<O>(alloc, call)?.len())?,
-        "range" => range::<O>(alloc, call, out)?,
-        "slice" => slice::<O>(alloc, call, out)?,
-        "start_end" => start_end::<O>(alloc, call, out)?,
-        "try_from" => write_offsets(out, &only::<O>(alloc, call)?)?,
-        _ => return Ok(false),
+        Method::Range => range::<O>(alloc, call, out),
+        Method::Slice => slice::<O>(alloc, call, out),
+        Method::StartEnd => start_end::<O>(alloc, call, out),
+        method => of_one::<O>(alloc, method, call, out),
     }
-    Ok(true)
 }
 
-/// The only argument, offsets.
-fn only<O: Offset + Integer>(alloc: Global, call: &Call<'_>) -> Result<OffsetsBuffer<O>, Fault> {
+/// The calls that take offsets and nothing else.
+fn of_one<O: Offset + Integer>(
+    alloc: Global,
+    method: Method,
+    call: &Call<'_>,
+    out: &mut String,
+) -> Result<(), Fault> {
     call.takes(1)?;
-    read(alloc, call.argument(0)?)
+    let offsets = read::<O>(alloc, call.argument(0)?)?;
+    match method {
+        Method::Clone => write_copy(out, &offsets),
+        Method::Last => show(out, offsets.last().to_usize()),
+        Method::Len => show(out, offsets.len()),
+        _ => write_offsets(out, &offsets),
+    }
 }
 
 /// Offsets as they stand on a line: `offsets32[0,2,3]`.
@@ -56,13 +75,23 @@ pub(crate) fn read<O: Offset + Integer>(
     alloc: Global,
     piece: Piece<'_>,
 ) -> Result<OffsetsBuffer<O>, Fault> {
-    let opening = if O::IS_LARGE {
+    let numbers = read_offsets::<O>(alloc, piece.between(opening::<O>(), "]")?)?;
+    Ok(OffsetsBuffer::try_from(alloc, numbers)?)
+}
+
+/// What stands before the first of some offsets.
+fn opening<O: Offset>() -> &'static str {
+    if O::IS_LARGE {
         "offsets64["
     } else {
         "offsets32["
-    };
-    let numbers = read_offsets::<O>(alloc, piece.between(opening, "]")?)?;
-    Ok(OffsetsBuffer::try_from(alloc, numbers)?)
+    }
+}
+
+/// Appends a clone of offsets.
+fn write_copy<O: Offset>(out: &mut String, offsets: &OffsetsBuffer<O>) -> Result<(), Fault> {
+    let copy = offsets.clone()?;
+    write_offsets(out, &copy)
 }
 
 /// Appends offsets as they stand on a line.
@@ -70,17 +99,13 @@ pub(crate) fn write_offsets<O: Offset>(
     out: &mut String,
     offsets: &OffsetsBuffer<O>,
 ) -> Result<(), Fault> {
-    out.push_str(if O::IS_LARGE {
-        "offsets64["
-    } else {
-        "offsets32["
-    })?;
+    out.push_str(opening::<O>())?;
     for i in 0..offsets.len() {
         if i > 0 {
             out.push(',')?;
         }
         let (place, _) = offsets.range(i, 0);
-        write!(out, "{place}")?;
+        show(out, place)?;
     }
     Ok(out.push(']')?)
 }
@@ -92,11 +117,11 @@ fn start_end<O: Offset + Integer>(
     out: &mut String,
 ) -> Result<(), Fault> {
     call.takes(2)?;
-    let offsets = read::<O>(alloc, call.argument(0)?)?;
     let i = call.integer(1)?;
+    let offsets = read::<O>(alloc, call.argument(0)?)?;
     check_within(i, 2, offsets.len())?;
     let (start, end) = offsets.start_end(i);
-    Ok(write!(out, "{start} {end}")?)
+    show_both(out, start, end)
 }
 
 /// Where rows begin and end.
@@ -106,11 +131,11 @@ fn range<O: Offset + Integer>(
     out: &mut String,
 ) -> Result<(), Fault> {
     call.takes(3)?;
+    let (start, len) = call.range(1)?;
     let offsets = read::<O>(alloc, call.argument(0)?)?;
-    let (start, len) = (call.integer(1)?, call.integer(2)?);
     check_within(start, len, offsets.len() - 1)?;
     let (start, end) = offsets.range(start, len);
-    Ok(write!(out, "{start} {end}")?)
+    show_both(out, start, end)
 }
 
 /// Offsets of which a part is kept.
@@ -120,12 +145,12 @@ fn slice<O: Offset + Integer>(
     out: &mut String,
 ) -> Result<(), Fault> {
     call.takes(3)?;
-    let mut offsets = read::<O>(alloc, call.argument(0)?)?;
-    let (offset, len) = (call.integer(1)?, call.integer(2)?);
-    check_within(offset, len, offsets.len())?;
+    let (offset, len) = call.range(1)?;
     if len == 0 {
         return Err(Fault::Usage);
     }
+    let mut offsets = read::<O>(alloc, call.argument(0)?)?;
+    check_within(offset, len, offsets.len())?;
     offsets.slice(offset, len);
     write_offsets(out, &offsets)
 }

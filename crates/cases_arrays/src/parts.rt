@@ -1,107 +1,97 @@
 //! Calls of the parts of arrays: keys, offsets, and where the rows of unions lie.
 
-use crate::ranges::equal_range;
-use crate::within::{check_below, check_within};
+use crate::within::{check_within, show_both};
 use arrow_arrays::array::{self, AnyArray};
 use arrow_flat::array::AnyPrimitive;
-use arrow_text::call::Call;
 use arrow_text::fault::Fault;
-use std::alloc::Global;
+use arrow_text::write::show;
 
-/// The calls of parts, by their names.
-pub(crate) fn answer(alloc: Global, call: &Call<'_>, out: &mut String) -> Result<bool, Fault> {
-    match call.name {
-        "AnyKeys::key" => key(alloc, call, out)?,
-        "AnyOffsetsBuffer::start_end" => start_end(alloc, call, out)?,
-        "FlatArray::equal_range" => equal_range(alloc, call, out)?,
-        "UnionArray::index" => index(alloc, call, out)?,
-        _ => return of_one(alloc, call, out),
-    }
-    Ok(true)
-}
-
-/// The calls that take an array and nothing else, and answer a number.
-fn of_one(alloc: Global, call: &Call<'_>, out: &mut String) -> Result<bool, Fault> {
-    match call.name {
-        "AnyKeys::len"
-        | "AnyOffsetsBuffer::len"
-        | "FixedSizeBinaryArray::size"
-        | "FixedSizeListArray::size"
-        | "UnionArray::start" => (),
-        _ => return Ok(false),
-    }
-    call.takes(1)?;
-    let array = call.array(alloc, 0)?;
-    write!(out, "{}", number_of(call.name, &array)?)?;
-    Ok(true)
-}
-
-/// The number that a call answers of an array of its kind.
-fn number_of(name: &str, array: &AnyArray) -> Result<usize, Fault> {
+/// How many keys a dictionary has.
+pub(crate) fn keys(array: &AnyArray, out: &mut String) -> Result<(), Fault> {
     match array {
-        AnyArray::Dictionary(array) if name == "AnyKeys::len" => Ok(array.keys().len()),
-        AnyArray::FixedSizeBinary(array) if name == "FixedSizeBinaryArray::size" => Ok(
-            array.size(),
-        ),
-        AnyArray::FixedSizeList(array) if name == "FixedSizeListArray::size" => Ok(array.size()),
-        AnyArray::List(array) if name == "AnyOffsetsBuffer::len" => Ok(array.offsets().len()),
-        AnyArray::Union(array) if name == "UnionArray::start" => Ok(array.start()),
+        AnyArray::Dictionary(array) => show(out, array.keys().len()),
+        _ => Err(Fault::Usage),
+    }
+}
+
+/// How many offsets a list has.
+pub(crate) fn offsets(array: &AnyArray, out: &mut String) -> Result<(), Fault> {
+    match array {
+        AnyArray::List(array) => show(out, array.offsets().len()),
+        _ => Err(Fault::Usage),
+    }
+}
+
+/// How many bytes a row of bytes of a fixed size has.
+pub(crate) fn bytes_size(array: &AnyArray, out: &mut String) -> Result<(), Fault> {
+    match array {
+        AnyArray::FixedSizeBinary(array) => show(out, array.size()),
+        _ => Err(Fault::Usage),
+    }
+}
+
+/// How many items a row of a list of a fixed size has.
+pub(crate) fn list_size(array: &AnyArray, out: &mut String) -> Result<(), Fault> {
+    match array {
+        AnyArray::FixedSizeList(array) => show(out, array.size()),
+        _ => Err(Fault::Usage),
+    }
+}
+
+/// In which row of its fields a sparse union begins.
+pub(crate) fn start(array: &AnyArray, out: &mut String) -> Result<(), Fault> {
+    match array {
+        AnyArray::Union(array) => show(out, array.start()),
         _ => Err(Fault::Usage),
     }
 }
 
 /// The key of a row of a dictionary.
-fn key(alloc: Global, call: &Call<'_>, out: &mut String) -> Result<(), Fault> {
-    call.takes(2)?;
-    let array = call.array(alloc, 0)?;
-    let i = call.integer(1)?;
-    let AnyArray::Dictionary(array) = &*array else {
-        return Err(Fault::Usage);
-    };
-    let keys = array.keys();
-    check_below(i, keys.len())?;
-    match keys.key(i) {
-        Some(key) => Ok(write!(out, "{key}")?),
-        None => Ok(out.push_str("none")?),
+pub(crate) fn key(array: &AnyArray, i: usize, out: &mut String) -> Result<(), Fault> {
+    match array {
+        AnyArray::Dictionary(array) if i < array.keys().len() => {
+            write_key(out, array.keys().key(i))
+        }
+        _ => Err(Fault::Usage),
+    }
+}
+
+/// Appends a key; `none` of a null.
+fn write_key(out: &mut String, key: Option<usize>) -> Result<(), Fault> {
+    match key {
+        Some(key) => show(out, key),
+        None => show(out, "none"),
     }
 }
 
 /// Where a row of a list begins and ends.
-fn start_end(alloc: Global, call: &Call<'_>, out: &mut String) -> Result<(), Fault> {
-    call.takes(2)?;
-    let array = call.array(alloc, 0)?;
-    let i = call.integer(1)?;
-    let AnyArray::List(array) = &*array else {
+pub(crate) fn start_end(array: &AnyArray, i: usize, out: &mut String) -> Result<(), Fault> {
+    let AnyArray::List(array) = array else {
         return Err(Fault::Usage);
     };
     let offsets = array.offsets();
     check_within(i, 2, offsets.len())?;
     let (start, end) = offsets.start_end(i);
-    Ok(write!(out, "{start} {end}")?)
+    show_both(out, start, end)
 }
 
 /// The field of a union that a row lies in, and in which row of it.
-fn index(alloc: Global, call: &Call<'_>, out: &mut String) -> Result<(), Fault> {
-    call.takes(2)?;
-    let array = call.array(alloc, 0)?;
-    let i = call.integer(1)?;
-    let AnyArray::Union(array) = &*array else {
-        return Err(Fault::Usage);
-    };
-    check_below(i, array.len())?;
-    let (field, place) = array.index(i);
-    Ok(write!(out, "{field} {place}")?)
+pub(crate) fn index(array: &AnyArray, i: usize, out: &mut String) -> Result<(), Fault> {
+    match array {
+        AnyArray::Union(array) if i < array.len() => {
+            let (field, place) = array.index(i);
+            show_both(out, field, place)
+        }
+        _ => Err(Fault::Usage),
+    }
 }
 
 /// Whether each index is null or below a number.
-pub(crate) fn are_within(alloc: Global, call: &Call<'_>, out: &mut String) -> Result<(), Fault> {
-    call.takes(2)?;
-    let array = call.array(alloc, 0)?;
-    let len = call.integer(1)?;
-    let AnyArray::Primitive(array) = &*array else {
-        return Err(Fault::Usage);
-    };
-    Ok(write!(out, "{}", are_indices_within(array, len)?)?)
+pub(crate) fn are_within(array: &AnyArray, len: usize, out: &mut String) -> Result<(), Fault> {
+    match array {
+        AnyArray::Primitive(array) => show(out, are_indices_within(array, len)?),
+        _ => Err(Fault::Usage),
+    }
 }
 
 /// The same of indices of any integer type.

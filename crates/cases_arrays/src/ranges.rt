@@ -8,6 +8,7 @@ use arrow_arrays::array::AnyArray;
 use arrow_flat::array::{AnyPrimitive, FlatArray, Values};
 use arrow_text::call::Call;
 use arrow_text::fault::Fault;
+use arrow_text::write::show;
 use std::alloc::Global;
 
 /// So many rows from one on, and from another on of a second array.
@@ -21,16 +22,29 @@ struct Ranges {
 /// Whether rows of two flat arrays are the same.
 pub(crate) fn equal_range(alloc: Global, call: &Call<'_>, out: &mut String) -> Result<(), Fault> {
     call.takes(5)?;
-    let (left, right) = (call.array(alloc, 0)?, call.array(alloc, 2)?);
+    let start = call.integer(1)?;
+    let (other_start, len) = call.range(3)?;
     let ranges = Ranges {
-        start: call.integer(1)?,
-        other_start: call.integer(3)?,
-        len: call.integer(4)?,
+        start,
+        other_start,
+        len,
     };
-    if left.data_type() != right.data_type() {
+    let left = call.array(alloc, 0)?;
+    let right = call.array(alloc, 2)?;
+    show_equal(&*left.array, &*right.array, ranges, out)
+}
+
+/// The same of two arrays that are lent.
+fn show_equal(
+    left: &AnyArray,
+    right: &AnyArray,
+    ranges: Ranges,
+    out: &mut String,
+) -> Result<(), Fault> {
+    if *left.data_type() != *right.data_type() {
         return Err(Fault::Usage);
     }
-    Ok(write!(out, "{}", are_equal(&left, &right, ranges)?)?)
+    show(out, are_equal(left, right, ranges)?)
 }
 
 /// Whether rows of two arrays of one kind are the same.

@@ -1,30 +1,31 @@
 //! Calls of scalars.
 
-use arrow_flat::scalar::AnyScalar;
 use arrow_text::call::Call;
 use arrow_text::fault::Fault;
 use arrow_text::types::write_type;
-use arrow_text::write::write_scalar;
+use arrow_text::write::{show, write_scalar};
 use std::alloc::Global;
 
-/// The calls of scalars, by the method's name.
-pub(crate) fn answer(
-    alloc: Global,
-    method: &str,
-    call: &Call<'_>,
-    out: &mut String,
-) -> Result<bool, Fault> {
-    match method {
-        "data_type" => write_type(out, only(alloc, call)?.data_type())?,
-        "is_valid" => write!(out, "{}", only(alloc, call)?.is_valid())?,
-        "new" => write_scalar(out, &*only(alloc, call)?)?,
-        _ => return Ok(false),
-    }
-    Ok(true)
+/// The methods of a scalar that take nothing else.
+#[derive(Clone, Copy)]
+pub(crate) enum OfScalar {
+    DataType,
+    IsValid,
+    New,
 }
 
-/// The only argument, a scalar.
-fn only(alloc: Global, call: &Call<'_>) -> Result<Box<AnyScalar>, Fault> {
+/// The calls that take a scalar.
+pub(crate) fn of_scalar(
+    alloc: Global,
+    method: OfScalar,
+    call: &Call<'_>,
+    out: &mut String,
+) -> Result<(), Fault> {
     call.takes(1)?;
-    call.scalar(alloc, 0)
+    let scalar = call.scalar(alloc, 0)?;
+    match method {
+        OfScalar::DataType => write_type(out, scalar.scalar.data_type()),
+        OfScalar::IsValid => show(out, scalar.scalar.is_valid()),
+        OfScalar::New => write_scalar(out, &*scalar.scalar),
+    }
 }

@@ -1,33 +1,36 @@
 //! Arrays under another validity.
 
-use crate::arrays::write_made;
 use arrow_arrays::array::{
     AnyArray, AnyOffset, AnyRows, FixedSizeListArray, ListArray, MapArray, StructArray,
 };
 use arrow_flat::array::validity::fits_rows;
-use arrow_flat::array::{AnyElement, AnyPrimitive, ByteRows, FlatArray, PrimitiveArray, Values};
+use arrow_flat::array::{
+    AnyElement, AnyPrimitive, ByteRows, FixedSizeBinaryArray, FlatArray, PrimitiveArray, Values,
+};
 use arrow_memory::bitmap::Bitmap;
 use arrow_text::call::Call;
 use arrow_text::fault::Fault;
+use arrow_text::write::{write_made, write_truths};
 use std::alloc::Global;
 
-/// An array under another validity, by the array's kind.
+/// An array under another validity.
 pub(crate) fn with_validity(alloc: Global, call: &Call<'_>, out: &mut String) -> Result<(), Fault> {
     call.takes(2)?;
     let array = call.array(alloc, 0)?;
     let validity = call.validity(alloc, 1)?;
-    match &*array {
-        AnyArray::Boolean(array) => {
-            write_made(out, Ok(AnyArray::Boolean(flat(array, validity)?)))
-        }
+    write_under(&*array.array, validity, out)
+}
+
+/// Appends an array under another validity, by the array's kind.
+fn write_under(array: &AnyArray, validity: Option<Bitmap>, out: &mut String) -> Result<(), Fault> {
+    match array {
+        AnyArray::Boolean(array) => write_truths(out, Ok(flat(array, validity)?)),
         AnyArray::Primitive(array) => of_primitive(array, validity, out),
         AnyArray::Utf8(array) => bytes(array, validity, out),
         AnyArray::LargeUtf8(array) => bytes(array, validity, out),
         AnyArray::Binary(array) => bytes(array, validity, out),
         AnyArray::LargeBinary(array) => bytes(array, validity, out),
-        AnyArray::FixedSizeBinary(array) => {
-            write_made(out, Ok(AnyArray::FixedSizeBinary(flat(array, validity)?)))
-        }
+        AnyArray::FixedSizeBinary(array) => fixed_size_binary(array, validity, out),
         AnyArray::List(array) => list(array, validity, out),
         AnyArray::FixedSizeList(array) => fixed_size_list(array, validity, out),
         AnyArray::Struct(array) => struct_of(array, validity, out),
@@ -81,7 +84,7 @@ fn primitive<T: AnyElement>(
     out: &mut String,
 ) -> Result<(), Fault> {
     let array = flat(array, validity)?;
-    write_made(out, Ok(AnyArray::Primitive(T::to_any(&array)?)))
+    write_made(out, T::to_any(&array).map(AnyArray::Primitive))
 }
 
 /// Texts or bytes under another validity.
@@ -90,7 +93,18 @@ fn bytes<O: AnyOffset, K: AnyRows>(
     validity: Option<Bitmap>,
     out: &mut String,
 ) -> Result<(), Fault> {
-    write_made(out, K::to_any(&flat(array, validity)?))
+    let array = flat(array, validity)?;
+    write_made(out, K::to_any(&array))
+}
+
+/// Bytes of a fixed size under another validity.
+fn fixed_size_binary(
+    array: &FixedSizeBinaryArray,
+    validity: Option<Bitmap>,
+    out: &mut String,
+) -> Result<(), Fault> {
+    let array = flat(array, validity)?;
+    write_made(out, Ok(AnyArray::FixedSizeBinary(array)))
 }
 
 /// Lists under another validity.

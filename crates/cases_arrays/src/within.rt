@@ -3,6 +3,7 @@
 ghost use Rattle.std.specs.Prelude.{◌+◌, ◌<◌, ◌≤◌, OnOk};
 
 use arrow_text::fault::Fault;
+use std::fmt::Display;
 
 /// That `i` is a place of so many.
 pub(crate) fn check_below(i: usize, count: usize) -> Result<(), Fault>
@@ -20,4 +21,13 @@ pub(crate) fn check_within(offset: usize, len: usize, count: usize) -> Result<()
     } else {
         Err(Fault::Usage)
     }
+}
+
+/// Appends two values, parted by a space.
+pub(crate) fn show_both<T: Display + Drop, U: Display + Drop>(
+    out: &mut String,
+    first: T,
+    second: U,
+) -> Result<(), Fault> {
+    Ok(write!(out, "{first} {second}")?)
 }
