@@ -251,8 +251,8 @@ fn offsets_step<O: Offset + Integer>(
     }
 }
 
-/// A step of a kind, and what it prints.
-fn take_step<O: Offset + Integer>(
+/// A step of a kind on offsets, and what it prints.
+fn take_offsets_step<O: Offset + Integer>(
     alloc: Global,
     kind: OffsetsStep,
     offsets: &mut Offsets<O>,

@@ -84,7 +84,7 @@ fn primitive<T: AnyElement>(
     out: &mut String,
 ) -> Result<(), Fault> {
     let array = flat(array, validity)?;
-    write_made(out, T::to_any(&array).map(AnyArray::Primitive))
+    write_made(out, Ok(AnyArray::Primitive(T::to_any(&array)?)))
 }
 
 /// Texts or bytes under another validity.
