@@ -3,77 +3,60 @@
 ghost use Rattle.std.specs.Prelude.{◌≤◌, length, IsTrue};
 ghost use Rattle.arrow_arrays.specs.StructParts.{HaveRows};
 
-use crate::lists::{is_of_type, write_arrays, write_outcome};
+use crate::lists::{as_boolean, as_primitive, write_arrays};
 use arrow_arrays::array::AnyArray;
 use arrow_arrays::chunk::Chunk;
-use arrow_flat::array::{AnyElement, AnyPrimitive, BooleanArray, PrimitiveArray};
+use arrow_flat::array::{AnyElement, AnyPrimitive, PrimitiveArray};
 use arrow_memory::buffer::Buffer;
 use arrow_select::filter::{Filter, build_filter, extend_from_word, filter, filter_chunk};
 use arrow_text::call::Call;
 use arrow_text::fault::Fault;
+use arrow_text::write::{show, write_made};
+use arrow_types::datatypes::DataType;
 use arrow_types::error::Error;
 use std::alloc::Global;
 
-/// Appends the answer to one of these calls. `false` where the name is another.
-pub(crate) fn answer(
-    alloc: Global,
-    name: &str,
-    call: &Call<'_>,
-    out: &mut String,
-) -> Result<bool, Fault> {
-    match name {
-        "filter" => answer_filter(alloc, call, out)?,
-        "filter_chunk" => answer_chunk(alloc, call, out)?,
-        "build_filter" => answer_prepared(alloc, call, out)?,
-        "extend_from_word" => answer_word(alloc, call, out)?,
-        _ => return Ok(false),
-    }
-    Ok(true)
-}
-
 /// The rows of an array at which a predicate is true.
-fn answer_filter(alloc: Global, call: &Call<'_>, out: &mut String) -> Result<(), Fault> {
-    call.takes(2)?;
-    let array = call.array(alloc, 0)?;
-    let predicate = call.array(alloc, 1)?;
-    filter_rows(alloc, &array, as_boolean(&predicate)?, out)
+pub(crate) fn answer_filter(alloc: Global, call: &Call<'_>, out: &mut String) -> Result<(), Fault> {
+    let given = call.pair(alloc)?;
+    filter_rows(alloc, &*given.left, &*given.right, out)
 }
 
 /// The same of arrays that are lent.
 fn filter_rows(
     alloc: Global,
     array: &AnyArray,
-    predicate: &BooleanArray,
+    predicate: &AnyArray,
     out: &mut String,
 ) -> Result<(), Fault> {
+    let predicate = as_boolean(predicate)?;
     if array.len() != predicate.len() {
         return Err(Fault::Usage);
     }
-    write_outcome(out, filter(alloc, array, predicate))
-}
-
-/// The array of truth values that an array is.
-fn as_boolean(array: &AnyArray) -> Result<&BooleanArray, Fault> {
-    match array {
-        AnyArray::Boolean(array) => Ok(array),
-        _ => Err(Fault::Usage),
-    }
+    write_made(out, filter(alloc, array, predicate))
 }
 
 /// The rows of each column of a batch at which a predicate is true.
-fn answer_chunk(alloc: Global, call: &Call<'_>, out: &mut String) -> Result<(), Fault> {
+pub(crate) fn answer_chunk(alloc: Global, call: &Call<'_>, out: &mut String) -> Result<(), Fault> {
     let predicate = call.array(alloc, 0)?;
-    let columns = Chunk::try_new(call.arrays(alloc, 1)?)?;
-    filter_columns(alloc, as_boolean(&predicate)?, &columns, out)
+    let columns = read_columns(alloc, call)?;
+    filter_columns(alloc, &*predicate.array, &columns, out)
 }
 
-/// The same of a batch that is lent.
+/// The batch of all arguments but the first.
+fn read_columns(alloc: Global, call: &Call<'_>) -> Result<Chunk, Fault> {
+    let given = call.arrays(alloc, 1)?;
+    Ok(Chunk::try_new(given.into_inner())?)
+}
+
+/// The rows of each column of a batch that is lent.
 fn filter_columns(
     alloc: Global,
-    predicate: &BooleanArray,
+    predicate: &AnyArray,
     columns: &Chunk,
     out: &mut String,
 ) -> Result<(), Fault> {
+    let predicate = as_boolean(predicate)?;
     if !have_rows(columns, predicate.len()) {
         return Err(Fault::Usage);
     }
@@ -89,21 +72,37 @@ fn have_rows(columns: &Chunk, len: usize) -> bool
 }
 
 /// A prepared filter: how many rows it keeps and of how many, and the rows that it keeps of each array.
-fn answer_prepared(alloc: Global, call: &Call<'_>, out: &mut String) -> Result<(), Fault> {
-    let predicate = call.array(alloc, 0)?;
-    let arrays = call.arrays(alloc, 1)?;
-    let prepared = build_filter(alloc, as_boolean(&predicate)?)?;
-    write_prepared(alloc, &prepared, &arrays, out)
+pub(crate) fn answer_prepared(
+    alloc: Global,
+    call: &Call<'_>,
+    out: &mut String,
+) -> Result<(), Fault> {
+    let prepared = read_filter(alloc, call)?;
+    let given = call.arrays(alloc, 1)?;
+    write_prepared(alloc, &prepared, &given.arrays, out)
 }
 
-/// The same of a filter that is lent.
+/// The filter of the first argument.
+fn read_filter(alloc: Global, call: &Call<'_>) -> Result<Filter, Fault> {
+    let given = call.array(alloc, 0)?;
+    prepare(alloc, &*given.array)
+}
+
+/// The filter of a predicate that is lent.
+fn prepare(alloc: Global, predicate: &AnyArray) -> Result<Filter, Fault> {
+    Ok(build_filter(alloc, as_boolean(predicate)?)?)
+}
+
+/// What a filter that is lent keeps.
 fn write_prepared(
     alloc: Global,
     prepared: &Filter,
     arrays: &[AnyArray],
     out: &mut String,
 ) -> Result<(), Fault> {
-    write!(out, "{} {}", prepared.count(), prepared.mask_len())?;
+    show(out, prepared.count())?;
+    out.push(' ')?;
+    show(out, prepared.mask_len())?;
     for array in arrays {
         out.push(' ')?;
         apply(alloc, prepared, array, out)?;
@@ -121,16 +120,16 @@ fn apply(
     if prepared.mask_len() != array.len() {
         return Err(Fault::Usage);
     }
-    write_outcome(out, prepared.apply(alloc, array))
+    write_made(out, prepared.apply(alloc, array))
 }
 
 /// The values of an array behind which those of another stand whose bit in a word is set.
-fn answer_word(alloc: Global, call: &Call<'_>, out: &mut String) -> Result<(), Fault> {
+pub(crate) fn answer_word(alloc: Global, call: &Call<'_>, out: &mut String) -> Result<(), Fault> {
     call.takes(3)?;
+    let word = call.integer(2)?;
     let grown = call.array(alloc, 0)?;
     let values = call.array(alloc, 1)?;
-    let word = call.integer(2)?;
-    extend(alloc, &grown, &values, word, out)
+    extend(alloc, &*grown.array, &*values.array, word, out)
 }
 
 /// The same of arrays that are lent.
@@ -141,79 +140,63 @@ fn extend(
     word: u64,
     out: &mut String,
 ) -> Result<(), Fault> {
-    if !is_of_type(grown, values) || grown.null_count() > 0 || values.null_count() > 0 {
-        return Err(Fault::Usage);
-    }
-    match grown {
-        AnyArray::Primitive(grown) => extend_primitive(alloc, grown, values, word, out),
-        _ => Err(Fault::Usage),
-    }
-}
-
-/// The same of an array of any element type.
-fn extend_primitive(
-    alloc: Global,
-    grown: &AnyPrimitive,
-    values: &AnyArray,
-    word: u64,
-    out: &mut String,
-) -> Result<(), Fault> {
-    let AnyArray::Primitive(values) = values else {
-        return Err(Fault::Usage);
-    };
-    macro_rules! of_element {
-        ($grown:ident, $element:ident) => {
-            match values {
-                AnyPrimitive::$element(values) => extend_elements(alloc, $grown, values, word, out),
-                _ => Err(Fault::Usage),
-            }
-        };
-    }
-    match grown {
-        AnyPrimitive::Int8(grown) => of_element!(grown, Int8),
-        AnyPrimitive::Int16(grown) => of_element!(grown, Int16),
-        AnyPrimitive::Int32(grown) => of_element!(grown, Int32),
-        AnyPrimitive::Int64(grown) => of_element!(grown, Int64),
-        AnyPrimitive::Int128(grown) => of_element!(grown, Int128),
-        AnyPrimitive::Int256(grown) => of_element!(grown, Int256),
-        AnyPrimitive::UInt8(grown) => of_element!(grown, UInt8),
-        AnyPrimitive::UInt16(grown) => of_element!(grown, UInt16),
-        AnyPrimitive::UInt32(grown) => of_element!(grown, UInt32),
-        AnyPrimitive::UInt64(grown) => of_element!(grown, UInt64),
-        AnyPrimitive::DaysMs(grown) => of_element!(grown, DaysMs),
-        AnyPrimitive::MonthDayNano(grown) => of_element!(grown, MonthDayNano),
+    let values = as_primitive(values)?;
+    match as_primitive(grown)? {
+        AnyPrimitive::Int8(grown) => extend_elements(alloc, grown, values, word, out),
+        AnyPrimitive::Int16(grown) => extend_elements(alloc, grown, values, word, out),
+        AnyPrimitive::Int32(grown) => extend_elements(alloc, grown, values, word, out),
+        AnyPrimitive::Int64(grown) => extend_elements(alloc, grown, values, word, out),
+        AnyPrimitive::Int128(grown) => extend_elements(alloc, grown, values, word, out),
+        AnyPrimitive::Int256(grown) => extend_elements(alloc, grown, values, word, out),
+        AnyPrimitive::UInt8(grown) => extend_elements(alloc, grown, values, word, out),
+        AnyPrimitive::UInt16(grown) => extend_elements(alloc, grown, values, word, out),
+        AnyPrimitive::UInt32(grown) => extend_elements(alloc, grown, values, word, out),
+        AnyPrimitive::UInt64(grown) => extend_elements(alloc, grown, values, word, out),
+        AnyPrimitive::DaysMs(grown) => extend_elements(alloc, grown, values, word, out),
+        AnyPrimitive::MonthDayNano(grown) => extend_elements(alloc, grown, values, word, out),
     }
 }
 
-/// The same of two arrays of one element type.
+/// The same of arrays of one data type, without nulls, of which the second has a word of values at most.
 fn extend_elements<T: AnyElement>(
     alloc: Global,
     grown: &PrimitiveArray<T>,
-    values: &PrimitiveArray<T>,
+    values: &AnyPrimitive,
     word: u64,
     out: &mut String,
 ) -> Result<(), Fault> {
-    if values.len() > 64 {
+    if *grown.data_type() != *values.data_type() {
         return Err(Fault::Usage);
     }
-    write_outcome(
-        out,
-        extended(alloc, grown, values.values().as_slice(), word),
-    )
+    let values = T::of_any(values);
+    if grown.null_count() > 0 || values.null_count() > 0 || values.len() > 64 {
+        return Err(Fault::Usage);
+    }
+    let items = extended(
+        alloc,
+        grown.values().as_slice(),
+        values.values().as_slice(),
+        word,
+    )?;
+    write_made(out, array_of(grown.data_type(), items))
 }
 
-/// An array of the values of another and of those whose bit is set.
+/// Values, and behind them those of others whose bit is set.
 fn extended<T: AnyElement>(
     alloc: Global,
-    array: &PrimitiveArray<T>,
+    grown: &[T],
     values: &[T],
     word: u64,
-) -> Result<AnyArray, Error>
+) -> Result<Buffer<T>, Error>
     requires { length values.now ≤ 64 }
 {
-    let mut items = Vec::from_slice(alloc, array.values().as_slice())?;
+    let mut items = Vec::from_slice(alloc, grown)?;
     extend_from_word(&mut items, values, word)?;
-    let items = Buffer::from_vec(alloc, items)?;
-    let array = PrimitiveArray::try_new(array.data_type().clone()?, items, None)?;
-    Ok(AnyArray::Primitive(T::to_any(&array)?))
+    Buffer::from_vec(alloc, items)
+}
+
+/// An array of values of a data type.
+fn array_of<T: AnyElement>(data_type: &DataType, items: Buffer<T>) -> Result<AnyArray, Error> {
+    let array = PrimitiveArray::try_new(data_type.clone()?, items, None)?;
+    T::to_any(&array).map(AnyArray::Primitive)
 }

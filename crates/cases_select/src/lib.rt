@@ -8,21 +8,46 @@ mod kernels;
 mod lists;
 mod take;
 
-use arrow_text::call::Call;
+use arrow_text::call::{Answer, Call, answer_by};
 use arrow_text::fault::Fault;
 use std::alloc::Global;
 
+/// What answers the calls, by their names.
+const CALLS: [(&str, Answer); 31] = [
+    ("make_growable", growable::answer),
+    ("GrowableNull", growable::answer),
+    ("GrowableBoolean", growable::answer),
+    ("GrowablePrimitive", growable::answer),
+    ("GrowableUtf8", growable::answer),
+    ("GrowableBinary", growable::answer),
+    ("GrowableFixedSizeBinary", growable::answer),
+    ("GrowableList", growable::answer),
+    ("GrowableFixedSizeList", growable::answer),
+    ("GrowableStruct", growable::answer),
+    ("GrowableMap", growable::answer),
+    ("GrowableUnion", growable::answer),
+    ("GrowableDictionary", growable::answer),
+    ("join_arrays", kernels::answer_join),
+    ("concatenate::concatenate", kernels::answer_concatenate),
+    ("window::shift", kernels::answer_shift),
+    ("if_then_else::if_then_else", kernels::answer_choice),
+    ("filter::filter", filter::answer_filter),
+    ("filter::filter_chunk", filter::answer_chunk),
+    ("filter::build_filter", filter::answer_prepared),
+    ("filter::extend_from_word", filter::answer_word),
+    ("take::can_take", take::answer_can_take),
+    ("take::take", take::answer),
+    ("take::primitive::take", take::answer),
+    ("take::boolean::take", take::answer),
+    ("take::utf8::take", take::answer),
+    ("take::binary::take", take::answer),
+    ("take::dict::take", take::answer),
+    ("take::list::take", take::answer),
+    ("take::fixed_size_list::take", take::answer),
+    ("take::structure::take", take::answer),
+];
+
 /// Appends the answer to a call. `false` where its name is none of those that are answered here.
 pub fn answer(alloc: Global, call: &Call<'_>, out: &mut String) -> Result<bool, Fault> {
-    if let Some(name) = call.name.strip_prefix("take::") {
-        return take::answer(alloc, name, call, out);
-    }
-    if let Some(name) = call.name.strip_prefix("filter::") {
-        return filter::answer(alloc, name, call, out);
-    }
-    if let Some(kind) = growable::kind_of_name(call.name) {
-        growable::answer(alloc, kind, call, out)?;
-        return Ok(true);
-    }
-    kernels::answer(alloc, call, out)
+    answer_by(alloc, &CALLS, call, out)
 }

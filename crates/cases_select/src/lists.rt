@@ -1,4 +1,4 @@
-//! Lists of arrays: how they are read, lent, compared by type, and written.
+//! Arrays: how they are told apart, lent, compared by type, and written.
 
 ghost use Rattle.std.specs.Prelude.{◌≡◌, ◌<◌, length, All, IsTrue};
 ghost use Rattle.arrow_arrays.specs.Any.{any_array_type, layouts_in};
@@ -6,32 +6,31 @@ ghost use Rattle.arrow_arrays.specs.Layout.{type_of_layout};
 ghost use Rattle.arrow_flat_growable.specs.Grown.{AreOfOneType};
 
 use arrow_arrays::array::AnyArray;
+use arrow_flat::array::{AnyPrimitive, BooleanArray};
 use arrow_text::fault::Fault;
-use arrow_text::piece::Piece;
-use arrow_text::read::read_array;
+use arrow_text::given::Arrays;
 use arrow_text::write::write_array;
-use arrow_types::error::Error;
 use std::alloc::Global;
 
-/// The arrays that these pieces are.
-pub(crate) fn read_arrays(alloc: Global, pieces: &[Piece<'_>]) -> Result<Vec<AnyArray>, Fault> {
-    let mut arrays: Vec<AnyArray> = Vec::with_capacity(alloc, pieces.len())?;
-    for piece in pieces {
-        arrays.push(Box::into_inner(read_array(alloc, *piece)?))?;
+/// The array of truth values that an array is.
+pub(crate) fn as_boolean(array: &AnyArray) -> Result<&BooleanArray, Fault> {
+    match array {
+        AnyArray::Boolean(array) => Ok(array),
+        _ => Err(Fault::Usage),
     }
-    Ok(arrays)
+}
+
+/// The array of numbers or intervals that an array is.
+pub(crate) fn as_primitive(array: &AnyArray) -> Result<&AnyPrimitive, Fault> {
+    match array {
+        AnyArray::Primitive(array) => Ok(array),
+        _ => Err(Fault::Usage),
+    }
 }
 
 /// The arrays, lent.
-pub(crate) fn lend_all<'a>(
-    alloc: Global,
-    arrays: &'a [AnyArray],
-) -> Result<Vec<&'a AnyArray>, Fault> {
-    let mut lent: Vec<&'a AnyArray> = Vec::with_capacity(alloc, arrays.len())?;
-    for array in arrays {
-        lent.push(array)?;
-    }
-    Ok(lent)
+pub(crate) fn lend_all<'a>(alloc: Global, given: &'a Arrays) -> Result<Vec<&'a AnyArray>, Fault> {
+    Ok(given.arrays.iter().collect(alloc)?)
 }
 
 /// Whether there is an array, and all are of one data type.
@@ -58,35 +57,22 @@ fn have_type_of(arrays: &[&AnyArray], first: &AnyArray) -> bool
 }
 
 /// Whether two arrays are of one data type.
-pub(crate) fn is_of_type(array: &AnyArray, other: &AnyArray) -> bool
+fn is_of_type(array: &AnyArray, other: &AnyArray) -> bool
     ensures { IsTrue result → any_array_type array.now ≡ any_array_type other.now }
 {
     *array.data_type() == *other.data_type()
 }
 
-/// Appends the array that a call gives.
-pub(crate) fn write_outcome(
-    out: &mut String,
-    outcome: Result<AnyArray, Error>,
-) -> Result<(), Fault> {
-    match outcome {
-        Ok(array) => write_array(out, &array),
-        Err(error) => Err(Fault::Refused(error)),
-    }
-}
-
 /// Appends the arrays with a space between two, and `none` where there is no array.
 pub(crate) fn write_arrays(out: &mut String, arrays: &[AnyArray]) -> Result<(), Fault> {
-    let mut is_first = true;
-    for array in arrays {
-        if !is_first {
+    if arrays.is_empty() {
+        return Ok(out.push_str("none")?);
+    }
+    for (place, array) in arrays.iter().enumerate() {
+        if place > 0 {
             out.push(' ')?;
         }
         write_array(out, array)?;
-        is_first = false;
-    }
-    if is_first {
-        out.push_str("none")?;
     }
     Ok(())
 }
