@@ -1,52 +1,64 @@
-//! Arrays from texts, and what lies in them.
+//! What lies in arrays, and how tests show it.
 
 use arrow_arrays::array::AnyArray;
 use arrow_flat::array::{AnyPrimitive, BooleanArray, PrimitiveArray};
-use arrow_flat::scalar::AnyScalar;
 use arrow_text::fault::Fault;
-use arrow_text::piece::Piece;
-use arrow_text::read::read_array;
-use arrow_text::scalar::read_scalar;
+use arrow_text::given::Array;
+use arrow_text::write::{write_array, write_bytes};
 use arrow_types::error::Error;
 use std::alloc::Global;
-use std::process::Abort;
 
-/// What was read from a text; `Failed` where the text has not that form.
-fn read<T: Drop>(answer: Result<T, Fault>) -> Result<T, Error> {
-    match answer {
-        Ok(made) => Ok(made),
-        Err(Fault::Refused(error)) => Err(error),
-        Err(_) => Err(Error::Failed),
-    }
-}
+/// Numbers of 32 bits.
+pub type Numbers = PrimitiveArray<i32>;
 
-/// The array that a text stands for.
-pub fn array(alloc: Global, text: &str) -> Result<Box<AnyArray>, Error> {
-    read(read_array(alloc, Piece::new(0, text)))
-}
-
-/// The scalar that a text stands for.
-pub fn scalar(alloc: Global, text: &str) -> Result<Box<AnyScalar>, Error> {
-    read(read_scalar(alloc, Piece::new(0, text)))
-}
-
-/// An array in a box of its own. What owns a box is proved faster than what owns an array.
-pub fn boxed(alloc: Global, array: AnyArray) -> Result<Box<AnyArray>, Error> {
-    Ok(Box::new(alloc, array)?)
-}
-
-/// An array of numbers of 32 bits.
-pub fn numbers<'a>(rt: &impl Abort, array: &'a AnyArray) -> &'a PrimitiveArray<i32> {
+/// An array of numbers.
+pub fn numbers(array: &AnyArray) -> Result<&Numbers, Fault> {
     match array {
-        AnyArray::Primitive(AnyPrimitive::Int32(numbers)) => numbers,
-        _ => panic!(rt; "no array of numbers"),
+        AnyArray::Primitive(AnyPrimitive::Int32(numbers)) => Ok(numbers),
+        _ => Err(Fault::Usage),
     }
 }
 
 /// An array of truth values.
-pub fn truths<'a>(rt: &impl Abort, array: &'a AnyArray) -> &'a BooleanArray {
+pub fn truths(array: &AnyArray) -> Result<&BooleanArray, Fault> {
     match array {
-        AnyArray::Boolean(truths) => truths,
-        _ => panic!(rt; "no array of truth values"),
+        AnyArray::Boolean(truths) => Ok(truths),
+        _ => Err(Fault::Usage),
+    }
+}
+
+/// Appends the numbers that a call made, and what they store, unless it was refused.
+pub fn write_numbers(
+    alloc: Global,
+    out: &mut String,
+    outcome: Result<Numbers, Error>,
+) -> Result<(), Fault> {
+    let numbers = outcome?;
+    write_made_stored(
+        alloc,
+        out,
+        Ok(AnyArray::Primitive(AnyPrimitive::Int32(numbers))),
+    )
+}
+
+/// The same of an array of any type.
+pub fn write_made_stored(
+    alloc: Global,
+    out: &mut String,
+    outcome: Result<AnyArray, Error>,
+) -> Result<(), Fault> {
+    let made = Array::new(alloc, outcome?)?;
+    write_stored(out, &made.array)
+}
+
+/// Appends an array, and what it stores, beneath nulls too: numbers, or the bytes of texts.
+pub fn write_stored(out: &mut String, array: &AnyArray) -> Result<(), Fault> {
+    write_array(out, array)?;
+    match array {
+        AnyArray::Primitive(AnyPrimitive::Int32(array)) => {
+            Ok(write!(out, "{:?}", array.values().as_slice())?)
+        }
+        AnyArray::Utf8(array) => write_bytes(out, array.values().as_slice()),
+        _ => Ok(()),
     }
 }

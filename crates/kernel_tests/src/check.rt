@@ -2,6 +2,7 @@
 
 ghost use Rattle.std.specs.Prelude.{IsTrue};
 
+use arrow_text::fault::Fault;
 use arrow_types::error::Error;
 use std::fmt::Debug;
 use std::process::Abort;
@@ -20,14 +21,7 @@ pub fn check_case(rt: &impl Abort, holds: bool, case: impl Copy + Debug)
     assert!(rt; holds, "{case:?}");
 }
 
-/// The first of two that were made alike or, where a request for memory was refused then, the second. Any other error
-/// of the first ends the test.
-pub fn either<T: Drop>(rt: &impl Abort, first: Result<T, Error>, second: Result<T, Error>) -> T {
-    match first {
-        Ok(made) => made,
-        Err(error) => {
-            assert!(rt; error == Error::OutOfMemory, "{error:?}");
-            second.expect(rt, "it is made where memory is there")
-        }
-    }
+/// Whether memory was refused.
+pub fn is_refused(outcome: &Result<bool, Fault>) -> bool {
+    *outcome == Err(Fault::Refused(Error::OutOfMemory))
 }

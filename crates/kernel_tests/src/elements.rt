@@ -1,6 +1,6 @@
 //! Native types, and the integers that name rows.
 
-ghost use Rattle.std.specs.Prelude.{◌≡◌, ◌↔◌, ◌≤ℤ◌, IsTrue};
+ghost use Rattle.std.specs.Prelude.{◌≡◌, ◌<◌, ◌↔◌, ◌≤ℤ◌, IsTrue};
 ghost use Rattle.arrow_types.specs.Relation.{related, eq};
 ghost use Rattle.arrow_types.specs.Slot.{Boolean};
 
@@ -13,6 +13,7 @@ use arrow_types::types::{
     DictionaryKey, Index, NativeOrd, NativeType, Offset, PrimitiveType, days_ms, i256,
     months_days_ns,
 };
+use std::cmp::Ordering;
 use std::fmt::Debug;
 use std::process::Abort;
 
@@ -37,86 +38,103 @@ fn larger<T: NativeOrd>(a: T, b: T) -> T
     if a < b { b } else { a }
 }
 
+/// The halves of numbers of 256 bits that rise.
+const HIGH: [i128; 9] = [-1, -1, -1, 0, 0, 0, 1, 1, 1];
+
+const LOW: [u128; 9] = [0, 1, u128::MAX, 0, 1, u128::MAX, 0, 1, u128::MAX];
+
+/// Two numbers are in this order, each way that it is asked for.
+fn check_order(rt: &impl Abort, a: i256, b: i256, order: Ordering) {
+    check!(rt; a.cmp(&b) == order);
+    check!(rt; order_agrees(a, b) == order);
+    check!(rt; a.partial_cmp(&b) == Some(order));
+    check!(rt; (a == b) == order.is_eq());
+    check!(rt; equal_is_same(a, b) == order.is_eq());
+    check!(rt; order_turns(a, b) == order.reverse());
+    check!(rt; order_is_total(a, b) == order.is_le());
+    check!(rt; order_chains(a, a, b) == order.is_le());
+}
+
 #[test]
 fn wide_numbers_in_order(rt: HostRuntime) {
-    let mut numbers = [i256::default(); 9];
-    let mut count = 0;
-    for high in [-1, 0, 1] {
-        for low in [0, 1, u128::MAX] {
-            if count < numbers.len() {
-                numbers[count] = i256::new(high, low);
-                count += 1;
-            }
-            let number = i256::new(high, low);
-            check!(&rt; number.high() == high);
-            check!(&rt; number.low() == low);
-        }
-    }
-    for (i, a) in numbers.iter().enumerate() {
-        for (j, b) in numbers.iter().enumerate() {
-            check!(&rt; a.cmp(b) == i.cmp(&j));
-            check!(&rt; order_agrees(*a, *b) == i.cmp(&j));
-            check!(&rt; (a == b) == (i == j));
-            check!(&rt; equal_is_same(*a, *b) == (i == j));
-            check!(&rt; order_turns(*a, *b) == j.cmp(&i));
-            check!(&rt; order_is_total(*a, *b) == (i <= j));
-            check!(&rt; order_chains(*a, *a, *b) == (i <= j));
-            check!(&rt; a.partial_cmp(b) == Some(i.cmp(&j)));
+    for i in 0..9usize {
+        let number = i256::new(HIGH[i], LOW[i]);
+        check!(&rt; number.high() == HIGH[i]);
+        check!(&rt; number.low() == LOW[i]);
+        for j in 0..9usize {
+            check_order(&rt, number, i256::new(HIGH[j], LOW[j]), i.cmp(&j));
         }
     }
     check!(&rt; i256::default() == i256::new(0, 0));
     check!(&rt; larger(i256::new(-1, u128::MAX), i256::new(0, 0)).high() == 0);
 }
 
+/// The parts of intervals of days, of which the first is zero.
+const DAYS: [i32; 4] = [0, -3, -3, 3];
+
+const MILLISECONDS: [i32; 4] = [0, 2_000, 2_001, 2_000];
+
+/// The parts of intervals of months, of which the first is zero.
+const MONTHS: [i32; 5] = [0, 1, 1, 1, 0];
+
+const MONTHS_DAYS: [i32; 5] = [0, -2, -2, 2, -2];
+
+const NANOSECONDS: [i64; 5] = [0, i64::MIN, 0, i64::MIN, i64::MIN];
+
 #[test]
-fn intervals(rt: HostRuntime) {
-    let days = [(0, 0), (-3, 2_000), (-3, 2_001), (3, 2_000)];
-    for (i, (day, milliseconds)) in days.iter().enumerate() {
-        let left = days_ms::new(*day, *milliseconds);
-        check!(&rt; left.days() == *day);
-        check!(&rt; left.milliseconds() == *milliseconds);
+fn intervals_of_days(rt: HostRuntime) {
+    for i in 0..4usize {
+        let left = days_ms::new(DAYS[i], MILLISECONDS[i]);
+        check!(&rt; left.days() == DAYS[i]);
+        check!(&rt; left.milliseconds() == MILLISECONDS[i]);
         check!(&rt; is_zero(left) == (i == 0));
-        for (j, (day, milliseconds)) in days.iter().enumerate() {
-            check!(&rt; (left == days_ms::new(*day, *milliseconds)) == (i == j));
+        for j in 0..4usize {
+            check!(&rt; (left == days_ms::new(DAYS[j], MILLISECONDS[j])) == (i == j));
         }
     }
-    let months = [
-        (0, 0, 0),
-        (1, -2, i64::MIN),
-        (1, -2, 0),
-        (1, 2, i64::MIN),
-        (0, -2, i64::MIN),
-    ];
-    for (i, (month, day, ns)) in months.iter().enumerate() {
-        let left = months_days_ns::new(*month, *day, *ns);
-        check!(&rt; left.months() == *month);
-        check!(&rt; left.days() == *day);
-        check!(&rt; left.ns() == *ns);
+}
+
+/// The interval of months at a place.
+fn interval(i: usize) -> months_days_ns
+    requires { i < 5 }
+{
+    months_days_ns::new(MONTHS[i], MONTHS_DAYS[i], NANOSECONDS[i])
+}
+
+#[test]
+fn intervals_of_months(rt: HostRuntime) {
+    for i in 0..5usize {
+        let left = interval(i);
+        check!(&rt; left.months() == MONTHS[i]);
+        check!(&rt; left.days() == MONTHS_DAYS[i]);
+        check!(&rt; left.ns() == NANOSECONDS[i]);
         check!(&rt; is_zero(left) == (i == 0));
-        for (j, (month, day, ns)) in months.iter().enumerate() {
-            check!(&rt; are_equal_rows(left, months_days_ns::new(*month, *day, *ns)) == (i == j));
+        for j in 0..5usize {
+            check!(&rt; are_equal_rows(left, interval(j)) == (i == j));
         }
     }
 }
 
 /// The greatest number of an index type, one above it, and rows of none, of one and of all.
 fn check_index<I: Index + DictionaryKey + Debug>(rt: &impl Abort, greatest: usize) {
-    check!(rt; I::from_usize(0) == Some(I::default()));
-    let last = I::from_usize(greatest);
-    check!(rt; key_of_number::<I>(greatest) == Some(greatest));
-    check!(rt; index_of_number::<I>(greatest) == Some(greatest));
-    if let Some(above) = greatest.checked_add(1) {
-        check!(rt; I::from_usize(above) == None);
-        check!(rt; last.is_some_and(|last| last.in_range(above)));
-    }
-    check!(rt; last.is_some_and(|last| !last.in_range(greatest)));
     let zero = I::default();
+    check!(rt; I::from_usize(0) == Some(zero));
     check!(rt; zero.in_range(1));
     check!(rt; !zero.in_range(0));
+    check!(rt; key_of_number::<I>(greatest) == Some(greatest));
+    check!(rt; index_of_number::<I>(greatest) == Some(greatest));
+    let Some(last) = I::from_usize(greatest) else {
+        panic!(rt; "no index of {greatest}");
+    };
+    check!(rt; !last.in_range(greatest));
+    if let Some(above) = greatest.checked_add(1) {
+        check!(rt; I::from_usize(above) == None);
+        check!(rt; last.in_range(above));
+    }
 }
 
 #[test]
-fn indices_keys_and_offsets(rt: HostRuntime) {
+fn indices(rt: HostRuntime) {
     check_index::<i8>(&rt, 127);
     check_index::<i16>(&rt, 32_767);
     check_index::<i32>(&rt, 2_147_483_647);
@@ -125,13 +143,16 @@ fn indices_keys_and_offsets(rt: HostRuntime) {
     check_index::<u16>(&rt, 65_535);
     check_index::<u32>(&rt, 4_294_967_295);
     check_index::<u64>(&rt, 18_446_744_073_709_551_615);
-    for negative in [-1, i32::MIN] {
-        check!(&rt; !negative.in_range(usize::MAX));
-    }
+    check!(&rt; !(-1i32).in_range(usize::MAX));
+    check!(&rt; !i32::MIN.in_range(usize::MAX));
     check!(&rt; !(-1i8).in_range(1));
     check!(&rt; !i16::MIN.in_range(1));
     check!(&rt; !(-1i64).in_range(usize::MAX));
     check!(&rt; number_of_index(7u16) == Some(7));
+}
+
+#[test]
+fn keys_and_offsets(rt: HostRuntime) {
     check!(&rt; i8::KEY_TYPE == IntegerType::Int8);
     check!(&rt; u64::KEY_TYPE == IntegerType::UInt64);
     check!(&rt; offset_of_number::<i32>(2_147_483_647) == Some(2_147_483_647));
@@ -147,23 +168,42 @@ fn indices_keys_and_offsets(rt: HostRuntime) {
 
 #[test]
 fn element_types(rt: HostRuntime) {
-    let types = [
-        (i8::PRIMITIVE, PrimitiveType::Int8),
-        (i16::PRIMITIVE, PrimitiveType::Int16),
-        (i32::PRIMITIVE, PrimitiveType::Int32),
-        (i64::PRIMITIVE, PrimitiveType::Int64),
-        (i128::PRIMITIVE, PrimitiveType::Int128),
-        (i256::PRIMITIVE, PrimitiveType::Int256),
-        (u8::PRIMITIVE, PrimitiveType::UInt8),
-        (u16::PRIMITIVE, PrimitiveType::UInt16),
-        (u32::PRIMITIVE, PrimitiveType::UInt32),
-        (u64::PRIMITIVE, PrimitiveType::UInt64),
-        (days_ms::PRIMITIVE, PrimitiveType::DaysMs),
-        (months_days_ns::PRIMITIVE, PrimitiveType::MonthDayNano),
+    let numbers = [
+        i8::PRIMITIVE,
+        i16::PRIMITIVE,
+        i32::PRIMITIVE,
+        i64::PRIMITIVE,
     ];
-    for (found, want) in types {
-        check!(&rt; found == want);
-    }
+    check!(&rt; numbers == [
+        PrimitiveType::Int8,
+        PrimitiveType::Int16,
+        PrimitiveType::Int32,
+        PrimitiveType::Int64,
+    ]);
+    let natural_numbers = [
+        u8::PRIMITIVE,
+        u16::PRIMITIVE,
+        u32::PRIMITIVE,
+        u64::PRIMITIVE,
+    ];
+    check!(&rt; natural_numbers == [
+        PrimitiveType::UInt8,
+        PrimitiveType::UInt16,
+        PrimitiveType::UInt32,
+        PrimitiveType::UInt64,
+    ]);
+    let others = [
+        i128::PRIMITIVE,
+        i256::PRIMITIVE,
+        days_ms::PRIMITIVE,
+        months_days_ns::PRIMITIVE,
+    ];
+    check!(&rt; others == [
+        PrimitiveType::Int128,
+        PrimitiveType::Int256,
+        PrimitiveType::DaysMs,
+        PrimitiveType::MonthDayNano,
+    ]);
     check!(&rt; are_equal_rows(7u8, 7));
     check!(&rt; !are_equal_rows(i128::MIN, i128::MAX));
 }

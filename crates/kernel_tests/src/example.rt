@@ -6,6 +6,8 @@ use arrow_memory::bitmap::Bitmap;
 use arrow_memory::buffer::Buffer;
 use arrow_select::concatenate::concatenate;
 use arrow_select::filter::filter;
+use arrow_text::fault::Fault;
+use arrow_text::given::Array;
 use arrow_types::datatypes::DataType;
 use arrow_types::{ArgumentFault, Error};
 use std::alloc::Global;
@@ -28,23 +30,31 @@ fn kept(alloc: Global, array: &AnyArray, mask: &[bool]) -> Result<AnyArray, Erro
 }
 
 /// The numbers at which a mask is true.
-fn kept_numbers(alloc: Global, values: &[i32], mask: &[bool]) -> Result<Box<AnyArray>, Error> {
-    let array = numbers(alloc, Vec::from_slice(alloc, values)?)?;
-    Ok(Box::new(alloc, kept(alloc, &array, mask)?)?)
+fn kept_numbers(alloc: Global, values: &[i32], mask: &[bool]) -> Result<Array, Fault> {
+    let values = Vec::from_slice(alloc, values)?;
+    let all = Array::new(alloc, numbers(alloc, values)?)?;
+    Array::new(alloc, kept(alloc, &all.array, mask)?)
 }
 
 /// Those of two arrays, one behind the other.
-fn joined(alloc: Global) -> Result<Box<AnyArray>, Error> {
+fn joined(alloc: Global) -> Result<Array, Fault> {
     let low = kept_numbers(alloc, &[5, 6, 7], &[true, false, false])?;
     let high = kept_numbers(alloc, &[8, 9], &[true, false])?;
-    Ok(Box::new(alloc, concatenate(alloc, &[&low, &high])?)?)
+    Array::new(alloc, concatenate(alloc, &[&low.array, &high.array])?)
+}
+
+/// Whether these are 5 and 8.
+fn are_as_wanted(alloc: Global) -> Result<bool, Fault> {
+    let both = joined(alloc)?;
+    match &*both.array {
+        AnyArray::Primitive(AnyPrimitive::Int32(rows)) => {
+            Ok(rows.values().as_slice() == [5, 8].as_slice())
+        }
+        _ => Ok(false),
+    }
 }
 
 #[test]
 fn example(rt: HostRuntime) {
-    let both = made!(&rt; joined(rt.alloc()));
-    let AnyArray::Primitive(AnyPrimitive::Int32(rows)) = &*both else {
-        panic!(rt; "no array of numbers");
-    };
-    check!(&rt; rows.values().as_slice() == [5, 8].as_slice());
+    tried!(&rt; are_as_wanted(rt.alloc()), "example");
 }

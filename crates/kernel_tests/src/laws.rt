@@ -1,11 +1,15 @@
 //! The laws: each is called at a concrete type, where its conditions are met by what was tested or answered. What a law says
 //! stands in its contract.
 
-use crate::arrays::{array, numbers, scalar, truths};
+ghost use Rattle.std.specs.Prelude.{◌≡◌, IsTrue};
+ghost use Rattle.arrow_arrays.specs.Any.{any_array_meaning};
+
+use crate::arrays::{Numbers, numbers, truths};
+use crate::lines::{Answer, Line, check_lines};
 use arrow_arrays::array::{AnyArray, are_within};
 use arrow_compare::comparison::can_eq;
 use arrow_compare::laws as compared;
-use arrow_flat::array::{BooleanArray, PrimitiveArray};
+use arrow_flat::array::BooleanArray;
 use arrow_flat::scalar::AnyScalar;
 use arrow_logic::laws as logical;
 use arrow_relate::relation::Relation;
@@ -14,12 +18,41 @@ use arrow_select::filter::filter;
 use arrow_select::laws as selected;
 use arrow_select::take::{can_take, take};
 use arrow_select::window::shift;
-use arrow_types::error::Error;
+use arrow_text::fault::Fault;
+use arrow_text::given::{Array, Scalar};
+use arrow_text::piece::Piece;
+use arrow_text::scalar::read_scalar;
+use arrow_text::write::show;
 use arrow_types::laws::{equals_both_ways, equals_itself, equals_through};
 use std::alloc::Global;
-use std::process::Abort;
+
+/// The laws, by a name for those that are called together. Where laws can be called nothing is answered, but by those of
+/// equality.
+const ANSWERS: [(&str, Answer); 10] = [
+    ("logic", logic),
+    ("types", types),
+    ("comparisons", comparisons),
+    ("scalar", scalar),
+    ("selection", selection),
+    ("concatenate", concatenated),
+    ("shift", shifted),
+    ("filter", filtered),
+    ("take", taken),
+    ("equality", equality),
+];
 
 /// The laws of both logics.
+fn logic(_alloc: Global, arrays: &[AnyArray], _out: &mut String) -> Result<(), Fault> {
+    match arrays {
+        [array] => {
+            call_logic(truths(array)?);
+            Ok(())
+        }
+        _ => Err(Fault::Usage),
+    }
+}
+
+/// The same of three arrays that are one.
 fn call_logic(left: &BooleanArray) {
     let (middle, right) = (left, left);
     logical::both_is_commutative(left, right);
@@ -36,7 +69,10 @@ fn call_logic(left: &BooleanArray) {
 }
 
 /// Those of nulls, of parts and of the types that calls named `can_` list.
-fn call_types(array: &AnyArray) {
+fn types(_alloc: Global, arrays: &[AnyArray], _out: &mut String) -> Result<(), Fault> {
+    let [array] = arrays else {
+        return Err(Fault::Usage);
+    };
     let data_type = array.data_type();
     logical::valid_is_negated_null(array);
     logical::part_of_part_of_text("a text", 1, Some(4), 2, None);
@@ -48,10 +84,14 @@ fn call_types(array: &AnyArray) {
     compared::can_lt_has_order(data_type);
     compared::can_eq_scalar_has_equality(data_type);
     compared::can_lt_scalar_has_order(data_type);
+    Ok(())
 }
 
 /// Those of comparisons.
-fn call_compared(lhs: &AnyArray, rhs: &AnyArray, predicate: &BooleanArray) {
+fn comparisons(_alloc: Global, arrays: &[AnyArray], _out: &mut String) -> Result<(), Fault> {
+    let [lhs, rhs, predicate] = arrays else {
+        return Err(Fault::Usage);
+    };
     compared::differs_is_negated_same(lhs, rhs);
     compared::same_is_no_null(lhs, rhs);
     compared::same_is_symmetric(lhs, rhs);
@@ -60,104 +100,166 @@ fn call_compared(lhs: &AnyArray, rhs: &AnyArray, predicate: &BooleanArray) {
     compared::lt_eq_is_negated_gt(lhs, rhs);
     compared::gt_eq_is_negated_lt(lhs, rhs);
     compared::nulled_by_itself(lhs);
-    compared::chosen_by_negated(predicate, lhs, rhs);
+    compared::chosen_by_negated(truths(predicate)?, lhs, rhs);
+    Ok(())
 }
 
-/// That of a scalar.
-fn call_scalar(rt: &impl Abort, lhs: &AnyArray, rhs: &AnyScalar) {
+/// That of a scalar, beside numbers.
+fn scalar(alloc: Global, arrays: &[AnyArray], _out: &mut String) -> Result<(), Fault> {
+    let scalar = read_scalar(alloc, Piece::new(0, "i32(3)"))?;
+    let three = Scalar { scalar };
+    match arrays {
+        [array] => call_scalar(array, &three.scalar),
+        _ => Err(Fault::Usage),
+    }
+}
+
+/// The same of an array and a scalar.
+fn call_scalar(lhs: &AnyArray, rhs: &AnyScalar) -> Result<(), Fault> {
     let (left, right) = (lhs.data_type(), rhs.data_type());
     compared::can_eq_has_equality(left);
-    assert!(rt; *left == *right);
-    assert!(rt; can_eq(left));
+    if *left != *right || !can_eq(left) {
+        return Err(Fault::Usage);
+    }
     compared::scalar_is_repeated(Relation::Lt, lhs, rhs);
+    Ok(())
 }
 
 /// Those of rows that are selected, taken and joined.
-fn call_selected(
-    rt: &impl Abort,
-    array: &AnyArray,
-    predicate: &BooleanArray,
-    indices: &PrimitiveArray<i32>,
-) {
+fn selection(_alloc: Global, arrays: &[AnyArray], _out: &mut String) -> Result<(), Fault> {
+    match arrays {
+        [array, predicate, indices] => {
+            call_selected(array, truths(predicate)?)?;
+            call_taken(array, numbers(indices)?)
+        }
+        _ => Err(Fault::Usage),
+    }
+}
+
+/// Those of a predicate, and of joined rows.
+fn call_selected(array: &AnyArray, predicate: &BooleanArray) -> Result<(), Fault> {
     let len = array.len();
-    assert!(rt; predicate.len() == len);
+    if predicate.len() != len || len < 1 {
+        return Err(Fault::Usage);
+    }
     selected::select_is_gather(array, predicate);
-    assert!(rt; are_within(indices, indices.len()));
-    selected::gather_of_gather(array, indices, indices);
     selected::joined_is_associative(array, array, array);
-    assert!(rt; 1 <= len);
     selected::joined_of_cut(array, 1);
+    Ok(())
+}
+
+/// Those of indices.
+fn call_taken(array: &AnyArray, indices: &Numbers) -> Result<(), Fault> {
     let data_type = array.data_type();
-    assert!(rt; can_take(data_type));
+    if !are_within(indices, indices.len()) || !can_take(data_type) {
+        return Err(Fault::Usage);
+    }
+    selected::gather_of_gather(array, indices, indices);
     selected::can_take_is_implemented(data_type, indices);
-}
-
-/// Arrays of the same rows are concatenated to the same rows, and shifted to the same rows.
-fn call_joined_and_moved(
-    rt: &impl Abort,
-    alloc: Global,
-    array: &AnyArray,
-    other: &AnyArray,
-) -> Result<(), Error> {
-    assert!(rt; *array == *other);
-    let all = concatenate(alloc, &[array, other])?;
-    let other_all = concatenate(alloc, &[other, array])?;
-    selected::concatenate_goes_by_rows(&[array, other], &all, &[other, array], &other_all);
-    let moved = shift(alloc, array, 1)?;
-    let other_moved = shift(alloc, other, 1)?;
-    selected::shift_goes_by_rows(array, &moved, other, &other_moved, 1);
     Ok(())
 }
 
-/// They are filtered and taken to the same rows.
-fn call_kept_and_taken(
-    rt: &impl Abort,
-    alloc: Global,
-    array: &AnyArray,
-    other: &AnyArray,
-    predicate: &BooleanArray,
-    indices: &PrimitiveArray<i32>,
-) -> Result<(), Error> {
-    assert!(rt; *array == *other);
-    assert!(rt; predicate.len() == array.len());
-    let kept = filter(alloc, array, predicate)?;
-    let other_kept = filter(alloc, other, predicate)?;
-    selected::filter_goes_by_rows(array, predicate, &kept, other, predicate, &other_kept);
-    assert!(rt; are_within(indices, array.len()));
-    let taken = take(alloc, array, indices)?;
-    let other_taken = take(alloc, other, indices)?;
-    selected::take_goes_by_rows(array, indices, &taken, other, indices, &other_taken);
+/// Whether two arrays are equal.
+fn are_equal(array: &AnyArray, other: &AnyArray) -> bool
+    ensures { IsTrue result → any_array_meaning other.now ≡ any_array_meaning array.now }
+{
+    *array == *other
+}
+
+/// Arrays of the same rows are concatenated to the same rows.
+fn concatenated(alloc: Global, arrays: &[AnyArray], _out: &mut String) -> Result<(), Fault> {
+    match arrays {
+        [array, other] if are_equal(array, other) => {
+            let (left, right) = ([array, other], [other, array]);
+            let all = Array::new(alloc, concatenate(alloc, &left)?)?;
+            let other_all = Array::new(alloc, concatenate(alloc, &right)?)?;
+            selected::concatenate_goes_by_rows(&left, &all.array, &right, &other_all.array);
+            Ok(())
+        }
+        _ => Err(Fault::Usage),
+    }
+}
+
+/// They are shifted to the same rows.
+fn shifted(alloc: Global, arrays: &[AnyArray], _out: &mut String) -> Result<(), Fault> {
+    match arrays {
+        [array, other] if are_equal(array, other) => {
+            let moved = Array::new(alloc, shift(alloc, array, 1)?)?;
+            let other_moved = Array::new(alloc, shift(alloc, other, 1)?)?;
+            selected::shift_goes_by_rows(array, &moved.array, other, &other_moved.array, 1);
+            Ok(())
+        }
+        _ => Err(Fault::Usage),
+    }
+}
+
+/// They are filtered to the same rows.
+fn filtered(alloc: Global, arrays: &[AnyArray], _out: &mut String) -> Result<(), Fault> {
+    let [array, other, predicate] = arrays else {
+        return Err(Fault::Usage);
+    };
+    let mask = truths(predicate)?;
+    if !are_equal(array, other) || mask.len() != array.len() {
+        return Err(Fault::Usage);
+    }
+    let kept = Array::new(alloc, filter(alloc, array, mask)?)?;
+    let other_kept = Array::new(alloc, filter(alloc, other, mask)?)?;
+    selected::filter_goes_by_rows(array, mask, &kept.array, other, mask, &other_kept.array);
     Ok(())
 }
 
-/// The laws of equality, of two arrays that are equal or not.
-fn check_equality(rt: &impl Abort, array: &AnyArray, other: &AnyArray, want: bool) {
-    check!(rt; equals_itself(array));
-    check!(rt; equals_both_ways(array, other) == want);
-    check!(rt; equals_through(array, other, other) == want);
+/// They are taken to the same rows.
+fn taken(alloc: Global, arrays: &[AnyArray], _out: &mut String) -> Result<(), Fault> {
+    let [array, other, indices] = arrays else {
+        return Err(Fault::Usage);
+    };
+    let places = numbers(indices)?;
+    if !are_equal(array, other) || !are_within(places, array.len()) {
+        return Err(Fault::Usage);
+    }
+    let taken = Array::new(alloc, take(alloc, array, places)?)?;
+    let other_taken = Array::new(alloc, take(alloc, other, places)?)?;
+    selected::take_goes_by_rows(
+        array,
+        places,
+        &taken.array,
+        other,
+        places,
+        &other_taken.array,
+    );
+    Ok(())
 }
 
-fn try_laws(rt: &(impl Abort + Alloc<A = Global>)) -> Result<(), Error> {
-    let alloc = rt.alloc();
-    let rows = array(alloc, "i32[1,_2,3]")?;
-    let same = array(alloc, "i32[9,1,_,3]@1+3")?;
-    let others = array(alloc, "i32[3,2,_1]")?;
-    let predicate = array(alloc, "bool[t,_,f]")?;
-    let three = scalar(alloc, "i32(3)")?;
-    check_equality(rt, &rows, &same, true);
-    check_equality(rt, &rows, &others, false);
-    call_logic(truths(rt, &predicate));
-    call_types(&rows);
-    call_compared(&rows, &others, truths(rt, &predicate));
-    call_scalar(rt, &rows, &three);
-    let indices = array(alloc, "i32[2,_9,0]")?;
-    let (predicate, indices) = (truths(rt, &predicate), numbers(rt, &indices));
-    call_selected(rt, &rows, predicate, indices);
-    call_joined_and_moved(rt, alloc, &rows, &same)?;
-    call_kept_and_taken(rt, alloc, &rows, &same, predicate, indices)
+/// Answers whether two arrays are equal, by the laws of equality: each is equal to itself, the left one to the right one as the
+/// right one to the left one, and through a third one.
+fn equality(_alloc: Global, arrays: &[AnyArray], out: &mut String) -> Result<(), Fault> {
+    match arrays {
+        [array, other] if equals_itself(array) && equals_itself(other) => {
+            let both_ways = equals_both_ways(array, other);
+            let through = equals_through(array, other, other);
+            show(out, both_ways)?;
+            show(out, through)
+        }
+        _ => Err(Fault::Usage),
+    }
 }
+
+/// An array, one of the same rows, and one of others; predicates and indices.
+const LINES: [Line; 11] = [
+    ["equality i32[1,_2,3] i32[9,1,_,3]@1+3", "truetrue"],
+    ["equality i32[1,_2,3] i32[3,2,_1]", "falsefalse"],
+    ["logic bool[t,_,f]", ""],
+    ["types i32[1,_2,3]", ""],
+    ["comparisons i32[1,_2,3] i32[3,2,_1] bool[t,_,f]", ""],
+    ["scalar i32[1,_2,3]", ""],
+    ["selection i32[1,_2,3] bool[t,_,f] i32[2,_9,0]", ""],
+    ["concatenate i32[1,_2,3] i32[9,1,_,3]@1+3", ""],
+    ["shift i32[1,_2,3] i32[9,1,_,3]@1+3", ""],
+    ["filter i32[1,_2,3] i32[9,1,_,3]@1+3 bool[t,_,f]", ""],
+    ["take i32[1,_2,3] i32[9,1,_,3]@1+3 i32[2,_9,0]", ""],
+];
 
 #[test]
 fn laws(rt: HostRuntime) {
-    tried!(&rt; try_laws(&rt), "laws");
+    check_lines(&rt, &ANSWERS, &LINES);
 }

@@ -1,6 +1,6 @@
-//! Tests of what lines of text can't show: kernels that call closures, generic functions and laws at a concrete type, texts of
-//! errors, fields, kernels that are refused memory, and the example of the front page. All else stands in lines that the
-//! program `cases` answers.
+//! Tests of what lines of the program `cases` can't show: kernels that call closures, generic functions and laws at a concrete
+//! type, texts of errors, what is stored beneath nulls, and the example of the front page. Where they take arrays they answer
+//! lines of their own.
 #![tactic(auto)]
 
 /// Asserts a fact, and names the case that it is of, if one is given. A call of a function is proved faster than the branch of
@@ -15,24 +15,14 @@ macro_rules! check {
     };
 }
 
-/// What an expression makes. It is made twice, since one request for memory may have been refused: then the other is taken; no
-/// other error of the first passes. So a test has no way out at each call, on which all that it owns is dropped, and which a
-/// proof of it would have to walk.
-#[cfg(test)]
-macro_rules! made {
-    ($rt:expr; $made:expr) => {
-        crate::check::either($rt, $made, $made)
-    };
-}
-
-/// Asserts that what is tried answers `Ok`, at once or, where it answers that memory was refused, when it is tried once more.
-/// So while each request in turn is refused, a test makes each of them once, where `made!` makes it twice.
+/// Asserts that what is tried answers `Ok(true)`, at once or, where it answers that memory was refused, when it is tried once
+/// more. So a test passes while each request for memory is refused in turn.
 #[cfg(test)]
 macro_rules! tried {
     ($rt:expr; $tried:expr, $case:expr) => {{
         let first = $tried;
-        let is_refused = first == Err(arrow_types::error::Error::OutOfMemory);
-        crate::check::check_case($rt, first.is_ok() || is_refused && $tried.is_ok(), $case)
+        let is_refused = crate::check::is_refused(&first);
+        crate::check::check_case($rt, first == Ok(true) || is_refused && $tried == Ok(true), $case)
     }};
 }
 
@@ -49,6 +39,8 @@ mod example;
 #[cfg(test)]
 mod laws;
 #[cfg(test)]
-mod memory;
+mod lines;
+#[cfg(test)]
+mod stored;
 #[cfg(test)]
 mod types;

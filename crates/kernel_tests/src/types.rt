@@ -1,8 +1,7 @@
-//! Fields, the texts of errors, and refused memory.
+//! The texts of errors, and refused memory.
 
-use arrow_types::datatypes::{DataType, Field};
 use arrow_types::error::{ArgumentFault, Error, SpecPart, Unsupported};
-use std::alloc::{AllocError, AllocFailed, Global};
+use std::alloc::{AllocError, AllocFailed};
 use std::fmt::InlineText;
 
 /// Errors and their texts.
@@ -85,26 +84,4 @@ fn texts_and_refused_memory(rt: HostRuntime) {
     }
     check!(&rt; Error::from(AllocError) == Error::OutOfMemory);
     check!(&rt; Error::from(AllocFailed { value: 7 }) == Error::OutOfMemory);
-}
-
-/// A field of this type, named `id`.
-fn field_of(alloc: Global, data_type: DataType, is_nullable: bool) -> Result<Field, Error> {
-    Ok(Field::new(String::from_str(alloc, "id")?, data_type, is_nullable))
-}
-
-/// A copy of a field.
-fn copied(field: &Field) -> Result<Field, Error> {
-    Ok(field.clone()?)
-}
-
-#[test]
-fn fields(rt: HostRuntime) {
-    let field = made!(&rt; field_of(rt.alloc(), DataType::Int64, false));
-    check!(&rt; field.name() == "id");
-    check!(&rt; *field.data_type() == DataType::Int64);
-    check!(&rt; !field.is_nullable());
-    check!(&rt; made!(&rt; copied(&field)) == field);
-    let other = made!(&rt; field_of(rt.alloc(), DataType::Int64, true));
-    check!(&rt; other != field);
-    check!(&rt; other.is_nullable());
 }
