@@ -45,22 +45,18 @@ const LOW: [u128; 9] = [0, 1, u128::MAX, 0, 1, u128::MAX, 0, 1, u128::MAX];
 
 /// Two numbers are in this order, each way that it is asked for.
 fn check_order(rt: &impl Abort, a: i256, b: i256, order: Ordering) {
-    check!(rt; a.cmp(&b) == order);
-    check!(rt; order_agrees(a, b) == order);
+    let (is_equal, is_at_most) = (order.is_eq(), order.is_le());
+    check!(rt; [a.cmp(&b), order_agrees(a, b), order_turns(b, a)] == [order; 3]);
     check!(rt; a.partial_cmp(&b) == Some(order));
-    check!(rt; (a == b) == order.is_eq());
-    check!(rt; equal_is_same(a, b) == order.is_eq());
-    check!(rt; order_turns(a, b) == order.reverse());
-    check!(rt; order_is_total(a, b) == order.is_le());
-    check!(rt; order_chains(a, a, b) == order.is_le());
+    check!(rt; ((a == b) == is_equal) & (equal_is_same(a, b) == is_equal));
+    check!(rt; (order_is_total(a, b) == is_at_most) & (order_chains(a, a, b) == is_at_most));
 }
 
 #[test]
 fn wide_numbers_in_order(rt: HostRuntime) {
     for i in 0..9usize {
         let number = i256::new(HIGH[i], LOW[i]);
-        check!(&rt; number.high() == HIGH[i]);
-        check!(&rt; number.low() == LOW[i]);
+        check!(&rt; (number.high() == HIGH[i]) & (number.low() == LOW[i]));
         for j in 0..9usize {
             check_order(&rt, number, i256::new(HIGH[j], LOW[j]), i.cmp(&j));
         }
@@ -85,8 +81,7 @@ const NANOSECONDS: [i64; 5] = [0, i64::MIN, 0, i64::MIN, i64::MIN];
 fn intervals_of_days(rt: HostRuntime) {
     for i in 0..4usize {
         let left = days_ms::new(DAYS[i], MILLISECONDS[i]);
-        check!(&rt; left.days() == DAYS[i]);
-        check!(&rt; left.milliseconds() == MILLISECONDS[i]);
+        check!(&rt; (left.days() == DAYS[i]) & (left.milliseconds() == MILLISECONDS[i]));
         check!(&rt; is_zero(left) == (i == 0));
         for j in 0..4usize {
             check!(&rt; (left == days_ms::new(DAYS[j], MILLISECONDS[j])) == (i == j));
@@ -105,9 +100,8 @@ fn interval(i: usize) -> months_days_ns
 fn intervals_of_months(rt: HostRuntime) {
     for i in 0..5usize {
         let left = interval(i);
-        check!(&rt; left.months() == MONTHS[i]);
-        check!(&rt; left.days() == MONTHS_DAYS[i]);
-        check!(&rt; left.ns() == NANOSECONDS[i]);
+        let (months, days, ns) = (left.months(), left.days(), left.ns());
+        check!(&rt; (months == MONTHS[i]) & (days == MONTHS_DAYS[i]) & (ns == NANOSECONDS[i]));
         check!(&rt; is_zero(left) == (i == 0));
         for j in 0..5usize {
             check!(&rt; are_equal_rows(left, interval(j)) == (i == j));
@@ -118,18 +112,15 @@ fn intervals_of_months(rt: HostRuntime) {
 /// The greatest number of an index type, one above it, and rows of none, of one and of all.
 fn check_index<I: Index + DictionaryKey + Debug>(rt: &impl Abort, greatest: usize) {
     let zero = I::default();
-    check!(rt; I::from_usize(0) == Some(zero));
-    check!(rt; zero.in_range(1));
-    check!(rt; !zero.in_range(0));
-    check!(rt; key_of_number::<I>(greatest) == Some(greatest));
-    check!(rt; index_of_number::<I>(greatest) == Some(greatest));
     let Some(last) = I::from_usize(greatest) else {
-        panic!(rt; "no index of {greatest}");
+        return check!(rt; false, greatest);
     };
-    check!(rt; !last.in_range(greatest));
+    check!(rt; I::from_usize(0) == Some(zero));
+    check!(rt; zero.in_range(1) & !zero.in_range(0) & !last.in_range(greatest));
+    let numbers = [key_of_number::<I>(greatest), index_of_number::<I>(greatest)];
+    check!(rt; numbers == [Some(greatest); 2]);
     if let Some(above) = greatest.checked_add(1) {
-        check!(rt; I::from_usize(above) == None);
-        check!(rt; last.in_range(above));
+        check!(rt; I::from_usize(above).is_none() & last.in_range(above));
     }
 }
 
@@ -143,27 +134,30 @@ fn indices(rt: HostRuntime) {
     check_index::<u16>(&rt, 65_535);
     check_index::<u32>(&rt, 4_294_967_295);
     check_index::<u64>(&rt, 18_446_744_073_709_551_615);
-    check!(&rt; !(-1i32).in_range(usize::MAX));
-    check!(&rt; !i32::MIN.in_range(usize::MAX));
-    check!(&rt; !(-1i8).in_range(1));
-    check!(&rt; !i16::MIN.in_range(1));
-    check!(&rt; !(-1i64).in_range(usize::MAX));
+    check!(&rt; !((-1i8).in_range(1) | i16::MIN.in_range(1) | i32::MIN.in_range(usize::MAX)));
+    check!(&rt; !((-1i32).in_range(usize::MAX) | (-1i64).in_range(usize::MAX)));
     check!(&rt; number_of_index(7u16) == Some(7));
 }
 
 #[test]
 fn keys_and_offsets(rt: HostRuntime) {
-    check!(&rt; i8::KEY_TYPE == IntegerType::Int8);
-    check!(&rt; u64::KEY_TYPE == IntegerType::UInt64);
-    check!(&rt; offset_of_number::<i32>(2_147_483_647) == Some(2_147_483_647));
-    check!(&rt; offset_of_number::<i32>(2_147_483_648) == None);
-    let greatest = 9_223_372_036_854_775_807;
-    check!(&rt; offset_of_number::<i64>(greatest) == Some(greatest));
-    check!(&rt; offset_of_number::<i64>(greatest + 1) == None);
-    check!(&rt; !i32::IS_LARGE);
-    check!(&rt; i64::IS_LARGE);
-    check!(&rt; 13i32.shifted(10, 4) == 7);
-    check!(&rt; 9_223_372_036_854_775_806i64.shifted(1, 2) == 9_223_372_036_854_775_807);
+    let keys = [i8::KEY_TYPE, u64::KEY_TYPE];
+    check!(&rt; keys == [IntegerType::Int8, IntegerType::UInt64]);
+    let offset = 2_147_483_647;
+    let found = [
+        offset_of_number::<i32>(offset),
+        offset_of_number::<i32>(offset + 1),
+    ];
+    check!(&rt; found == [Some(offset), None]);
+    let offset = 9_223_372_036_854_775_807;
+    let found = [
+        offset_of_number::<i64>(offset),
+        offset_of_number::<i64>(offset + 1),
+    ];
+    check!(&rt; found == [Some(offset), None]);
+    check!(&rt; i64::IS_LARGE & !i32::IS_LARGE);
+    let last = 9_223_372_036_854_775_806i64.shifted(1, 2);
+    check!(&rt; (13i32.shifted(10, 4) == 7) & (last == 9_223_372_036_854_775_807));
 }
 
 #[test]
