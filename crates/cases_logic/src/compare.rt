@@ -2,72 +2,127 @@
 
 mod any;
 
-use crate::asked::{Asked, Kind, asked_of, relation_of};
-use crate::reply::write_truths;
-use crate::{lists, typed, validities};
+use crate::typed;
+use arrow_relate::relation::Relation;
+use arrow_text::call::Call;
 use arrow_text::fault::Fault;
-use arrow_text::piece::Piece;
-use arrow_text::read::read_array;
-use arrow_text::scalar::read_scalar;
+use arrow_text::types::find;
 use std::alloc::Global;
 
-/// Answers a call of `comparison`.
-pub(crate) fn answer(
-    alloc: Global,
-    name: &str,
-    arguments: &[Piece<'_>],
-    out: &mut String,
-) -> Result<bool, Fault> {
-    match name {
-        "finish_eq_validities" => validities::finish(alloc, true, arguments, out),
-        "finish_neq_validities" => validities::finish(alloc, false, arguments, out),
-        _ => match name.strip_prefix("can_") {
-            Some(name) => lists::answer_relation(alloc, name, arguments, out),
-            None => answer_named(alloc, Kind::Any, name, arguments, out),
-        },
+/// The module whose comparison is asked: that of arrays of any type, or of one kind.
+#[derive(Clone, Copy)]
+enum Kind {
+    Any,
+    Boolean,
+    Primitive,
+    Utf8,
+    Binary,
+}
+
+/// The modules.
+const KINDS: [(&str, Kind); 5] = [
+    ("comparison", Kind::Any),
+    ("comparison::boolean", Kind::Boolean),
+    ("comparison::primitive", Kind::Primitive),
+    ("comparison::utf8", Kind::Utf8),
+    ("comparison::binary", Kind::Binary),
+];
+
+/// What is asked of each pair of rows.
+#[derive(Clone, Copy)]
+pub(crate) enum Asked {
+    Eq,
+    Neq,
+    Lt,
+    LtEq,
+    Gt,
+    GtEq,
+    /// Whether both are the same, nulls too.
+    Same,
+    /// Whether they differ, nulls too.
+    Differing,
+    /// A relation, by the call that takes it as a value.
+    Given(Relation),
+}
+
+/// The calls of each module, by the right side: an array, or a scalar.
+#[derive(Clone, Copy)]
+enum Named {
+    Arrays(Asked),
+    Scalar(Asked),
+    Relate,
+    RelateScalar,
+}
+
+/// Their names.
+const NAMES: [(&str, Named); 18] = [
+    ("eq", Named::Arrays(Asked::Eq)),
+    ("eq_and_validity", Named::Arrays(Asked::Same)),
+    ("eq_scalar", Named::Scalar(Asked::Eq)),
+    ("eq_scalar_and_validity", Named::Scalar(Asked::Same)),
+    ("gt", Named::Arrays(Asked::Gt)),
+    ("gt_eq", Named::Arrays(Asked::GtEq)),
+    ("gt_eq_scalar", Named::Scalar(Asked::GtEq)),
+    ("gt_scalar", Named::Scalar(Asked::Gt)),
+    ("lt", Named::Arrays(Asked::Lt)),
+    ("lt_eq", Named::Arrays(Asked::LtEq)),
+    ("lt_eq_scalar", Named::Scalar(Asked::LtEq)),
+    ("lt_scalar", Named::Scalar(Asked::Lt)),
+    ("neq", Named::Arrays(Asked::Neq)),
+    ("neq_and_validity", Named::Arrays(Asked::Differing)),
+    ("neq_scalar", Named::Scalar(Asked::Neq)),
+    ("neq_scalar_and_validity", Named::Scalar(Asked::Differing)),
+    ("relate", Named::Relate),
+    ("relate_scalar", Named::RelateScalar),
+];
+
+/// The relations, for the calls that take one as a value.
+const RELATIONS: [(&str, Relation); 6] = [
+    ("eq", Relation::Eq),
+    ("neq", Relation::Neq),
+    ("lt", Relation::Lt),
+    ("lt_eq", Relation::LtEq),
+    ("gt", Relation::Gt),
+    ("gt_eq", Relation::GtEq),
+];
+
+/// Answers a comparison; `false` where the call is none.
+pub(crate) fn answer(alloc: Global, call: &Call<'_>, out: &mut String) -> Result<bool, Fault> {
+    let Some((kind, named)) = named(call.name) else {
+        return Ok(false);
+    };
+    match named {
+        Named::Arrays(asked) => answer_arrays(alloc, kind, asked, call, out),
+        Named::Scalar(asked) => answer_scalar(alloc, kind, asked, call, out),
+        Named::Relate => answer_arrays(alloc, kind, given(call)?, call, out),
+        Named::RelateScalar => answer_scalar(alloc, kind, given(call)?, call, out),
+    }?;
+    Ok(true)
+}
+
+/// The module and the call of a name. No call of the module for arrays of any type takes a relation as a value.
+fn named(name: &str) -> Option<(Kind, Named)> {
+    let (module, name) = name.rsplit_once("::")?;
+    match (*find(&KINDS, module)?, *find(&NAMES, name)?) {
+        (Kind::Any, Named::Relate | Named::RelateScalar) => None,
+        found => Some(found),
     }
 }
 
-/// Answers a call of the module of a kind.
-pub(crate) fn answer_kind(
-    alloc: Global,
-    kind: Kind,
-    name: &str,
-    arguments: &[Piece<'_>],
-    out: &mut String,
-) -> Result<bool, Fault> {
-    match (name, arguments) {
-        ("relate", [relation, sides @ ..]) => {
-            answer_arrays(alloc, kind, given(*relation)?, sides, out)
-        }
-        ("relate_scalar", [relation, sides @ ..]) => {
-            answer_scalar(alloc, kind, given(*relation)?, sides, out)
-        }
-        ("relate" | "relate_scalar", []) => Err(Fault::Usage),
-        _ => answer_named(alloc, kind, name, arguments, out),
-    }
-}
-
-/// The relation that a piece names, for the calls that take it as a value.
-fn given(piece: Piece<'_>) -> Result<Asked, Fault> {
-    match relation_of(piece.text()) {
-        Some(relation) => Ok(Asked::Given(relation)),
+/// The relation that the first argument says.
+fn given(call: &Call<'_>) -> Result<Asked, Fault> {
+    let piece = call.argument(0)?;
+    match find(&RELATIONS, piece.text()) {
+        Some(relation) => Ok(Asked::Given(*relation)),
         None => Err(piece.fault()),
     }
 }
 
-/// Answers a call that is named for what it asks.
-fn answer_named(
-    alloc: Global,
-    kind: Kind,
-    name: &str,
-    arguments: &[Piece<'_>],
-    out: &mut String,
-) -> Result<bool, Fault> {
-    match asked_of(name) {
-        Some((asked, true)) => answer_scalar(alloc, kind, asked, arguments, out),
-        Some((asked, false)) => answer_arrays(alloc, kind, asked, arguments, out),
-        None => Ok(false),
+/// Which arguments the two sides are, and how many arguments there are.
+fn places(asked: Asked) -> (usize, usize, usize) {
+    match asked {
+        Asked::Given(_) => (1, 2, 3),
+        _ => (0, 1, 2),
     }
 }
 
@@ -76,19 +131,20 @@ fn answer_arrays(
     alloc: Global,
     kind: Kind,
     asked: Asked,
-    arguments: &[Piece<'_>],
+    call: &Call<'_>,
     out: &mut String,
-) -> Result<bool, Fault> {
-    let [lhs, rhs] = arguments else {
-        return Err(Fault::Usage);
-    };
-    let lhs = read_array(alloc, *lhs)?;
-    let rhs = read_array(alloc, *rhs)?;
-    let truths = match kind {
-        Kind::Any => any::relate(alloc, asked, &lhs, &rhs),
-        _ => typed::relate(alloc, kind, asked, &lhs, &rhs),
-    }?;
-    write_truths(alloc, out, truths)
+) -> Result<(), Fault> {
+    let (left, right, count) = places(asked);
+    call.takes(count)?;
+    let (left, right) = (call.array(alloc, left)?, call.array(alloc, right)?);
+    let (lhs, rhs) = (&*left.array, &*right.array);
+    match kind {
+        Kind::Any => any::relate(alloc, asked, lhs, rhs, out),
+        Kind::Boolean => typed::relate_truths(alloc, asked, lhs, rhs, out),
+        Kind::Primitive => typed::relate_primitives(alloc, asked, lhs, rhs, out),
+        Kind::Utf8 => typed::relate_texts(alloc, asked, lhs, rhs, out),
+        Kind::Binary => typed::relate_bytes(alloc, asked, lhs, rhs, out),
+    }
 }
 
 /// Appends what is asked of the rows of an array and a scalar.
@@ -96,17 +152,18 @@ fn answer_scalar(
     alloc: Global,
     kind: Kind,
     asked: Asked,
-    arguments: &[Piece<'_>],
+    call: &Call<'_>,
     out: &mut String,
-) -> Result<bool, Fault> {
-    let [lhs, rhs] = arguments else {
-        return Err(Fault::Usage);
-    };
-    let lhs = read_array(alloc, *lhs)?;
-    let rhs = read_scalar(alloc, *rhs)?;
-    let truths = match kind {
-        Kind::Any => any::relate_scalar(alloc, asked, &lhs, &rhs),
-        _ => typed::relate_scalar(alloc, kind, asked, &lhs, &rhs),
-    }?;
-    write_truths(alloc, out, truths)
+) -> Result<(), Fault> {
+    let (left, right, count) = places(asked);
+    call.takes(count)?;
+    let (left, right) = (call.array(alloc, left)?, call.scalar(alloc, right)?);
+    let (lhs, rhs) = (&*left.array, &*right.scalar);
+    match kind {
+        Kind::Any => any::relate_scalar(alloc, asked, lhs, rhs, out),
+        Kind::Boolean => typed::relate_truth(alloc, asked, lhs, rhs, out),
+        Kind::Primitive => typed::relate_primitive(alloc, asked, lhs, rhs, out),
+        Kind::Utf8 => typed::relate_text(alloc, asked, lhs, rhs, out),
+        Kind::Binary => typed::relate_row(alloc, asked, lhs, rhs, out),
+    }
 }

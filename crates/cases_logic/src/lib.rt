@@ -26,20 +26,35 @@ macro_rules! of_elements {
     };
 }
 
-mod asked;
 mod boolean;
 mod compare;
-mod lists;
 mod nullif;
-mod reply;
 mod texts;
 mod typed;
+mod types;
 mod validities;
 
-use arrow_text::call::Call;
+use arrow_text::call::{Answer, Call, answer_by};
 use arrow_text::fault::Fault;
-use asked::Kind;
 use std::alloc::Global;
+
+/// The calls, but for both logics, comparisons, and whether a call is asked for a data type.
+const CALLS: [(&str, Answer); 11] = [
+    ("comparison::finish_eq_validities", validities::finish_eq),
+    ("comparison::finish_neq_validities", validities::finish_neq),
+    ("length::length", texts::length),
+    ("nullif::can_nullif", nullif::can_nullif),
+    ("nullif::nullif", nullif::nullif),
+    ("nullif::nullif_scalar", nullif::nullif_scalar),
+    ("nullif::primitive_nullif", nullif::primitive_nullif),
+    (
+        "nullif::primitive_nullif_scalar",
+        nullif::primitive_nullif_scalar,
+    ),
+    ("substring::substring", texts::substring),
+    ("utils::check_same_len", validities::check_same_len),
+    ("utils::combine_validities", validities::combine_validities),
+];
 
 /// Answers a call: what it answers is appended to `out`. `false` where no call has the name, and nothing is appended then.
 ///
@@ -47,28 +62,10 @@ use std::alloc::Global;
 /// `Syntax` of an argument that is not of its form, `Usage` where a condition of the call does not hold, and what the call
 /// refuses.
 pub fn answer(alloc: Global, call: &Call<'_>, out: &mut String) -> Result<bool, Fault> {
-    let Some((module, name)) = call.name.rsplit_once("::") else {
-        return Ok(false);
-    };
-    let arguments = call.arguments.as_slice();
-    match module {
-        "boolean" => boolean::answer(alloc, name, arguments, out),
-        "boolean_kleene" => boolean::answer_kleene(alloc, name, arguments, out),
-        "utils" => validities::answer(alloc, name, arguments, out),
-        "length" => texts::answer_length(alloc, name, arguments, out),
-        "substring" => texts::answer_substring(alloc, name, arguments, out),
-        "nullif" => nullif::answer(alloc, name, arguments, out),
-        "comparison" => compare::answer(alloc, name, arguments, out),
-        "comparison::boolean" => compare::answer_kind(alloc, Kind::Boolean, name, arguments, out),
-        "comparison::primitive" => compare::answer_kind(
-            alloc,
-            Kind::Primitive,
-            name,
-            arguments,
-            out,
-        ),
-        "comparison::utf8" => compare::answer_kind(alloc, Kind::Utf8, name, arguments, out),
-        "comparison::binary" => compare::answer_kind(alloc, Kind::Binary, name, arguments, out),
-        _ => Ok(false),
-    }
+    Ok(
+        answer_by(alloc, &CALLS, call, out)?
+            || boolean::answer(alloc, call, out)?
+            || types::answer(alloc, call, out)?
+            || compare::answer(alloc, call, out)?,
+    )
 }

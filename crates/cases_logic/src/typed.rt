@@ -4,15 +4,15 @@
 macro_rules! of_arrays {
     ($asked:expr, $module:ident($alloc:expr, $lhs:expr, $rhs:expr)) => {
         match $asked {
+            Asked::Eq => $module::eq($alloc, $lhs, $rhs),
+            Asked::Neq => $module::neq($alloc, $lhs, $rhs),
+            Asked::Lt => $module::lt($alloc, $lhs, $rhs),
+            Asked::LtEq => $module::lt_eq($alloc, $lhs, $rhs),
+            Asked::Gt => $module::gt($alloc, $lhs, $rhs),
+            Asked::GtEq => $module::gt_eq($alloc, $lhs, $rhs),
             Asked::Same => $module::eq_and_validity($alloc, $lhs, $rhs),
             Asked::Differing => $module::neq_and_validity($alloc, $lhs, $rhs),
             Asked::Given(relation) => $module::relate($alloc, relation, $lhs, $rhs),
-            Asked::Named(Relation::Eq) => $module::eq($alloc, $lhs, $rhs),
-            Asked::Named(Relation::Neq) => $module::neq($alloc, $lhs, $rhs),
-            Asked::Named(Relation::Lt) => $module::lt($alloc, $lhs, $rhs),
-            Asked::Named(Relation::LtEq) => $module::lt_eq($alloc, $lhs, $rhs),
-            Asked::Named(Relation::Gt) => $module::gt($alloc, $lhs, $rhs),
-            Asked::Named(Relation::GtEq) => $module::gt_eq($alloc, $lhs, $rhs),
         }
     };
 }
@@ -21,169 +21,189 @@ macro_rules! of_arrays {
 macro_rules! of_scalar {
     ($asked:expr, $module:ident($alloc:expr, $lhs:expr, $rhs:expr)) => {
         match $asked {
+            Asked::Eq => $module::eq_scalar($alloc, $lhs, $rhs),
+            Asked::Neq => $module::neq_scalar($alloc, $lhs, $rhs),
+            Asked::Lt => $module::lt_scalar($alloc, $lhs, $rhs),
+            Asked::LtEq => $module::lt_eq_scalar($alloc, $lhs, $rhs),
+            Asked::Gt => $module::gt_scalar($alloc, $lhs, $rhs),
+            Asked::GtEq => $module::gt_eq_scalar($alloc, $lhs, $rhs),
             Asked::Same => $module::eq_scalar_and_validity($alloc, $lhs, $rhs),
             Asked::Differing => $module::neq_scalar_and_validity($alloc, $lhs, $rhs),
             Asked::Given(relation) => $module::relate_scalar($alloc, relation, $lhs, $rhs),
-            Asked::Named(Relation::Eq) => $module::eq_scalar($alloc, $lhs, $rhs),
-            Asked::Named(Relation::Neq) => $module::neq_scalar($alloc, $lhs, $rhs),
-            Asked::Named(Relation::Lt) => $module::lt_scalar($alloc, $lhs, $rhs),
-            Asked::Named(Relation::LtEq) => $module::lt_eq_scalar($alloc, $lhs, $rhs),
-            Asked::Named(Relation::Gt) => $module::gt_scalar($alloc, $lhs, $rhs),
-            Asked::Named(Relation::GtEq) => $module::gt_eq_scalar($alloc, $lhs, $rhs),
         }
     };
 }
 
 mod primitive;
 
-use crate::asked::{Asked, Kind};
+use crate::compare::Asked;
 use arrow_arrays::array::AnyArray;
-use arrow_flat::array::{BinaryArray, BooleanArray, Utf8Array};
+use arrow_flat::array::{BinaryArray, Utf8Array};
 use arrow_flat::scalar::AnyScalar;
 use arrow_relate::comparison::{binary, boolean, utf8};
-use arrow_relate::relation::Relation;
 use arrow_text::fault::Fault;
+use arrow_text::write::write_truths;
 use arrow_types::types::Offset;
-use primitive::{relate_primitive, relate_primitives};
+pub(crate) use primitive::{relate_primitive, relate_primitives};
 use std::alloc::Global;
 
-/// What is asked of the rows of two arrays. `Usage` unless both are of this kind and one layout, and have as many rows.
-pub(crate) fn relate(
+/// Appends what is asked of two arrays of truth values. `Usage` unless both are, and have as many rows.
+pub(crate) fn relate_truths(
     alloc: Global,
-    kind: Kind,
     asked: Asked,
     lhs: &AnyArray,
     rhs: &AnyArray,
-) -> Result<BooleanArray, Fault> {
-    match (kind, lhs, rhs) {
-        (Kind::Boolean, AnyArray::Boolean(lhs), AnyArray::Boolean(rhs)) => {
-            relate_truths(alloc, asked, lhs, rhs)
-        }
-        (Kind::Primitive, AnyArray::Primitive(lhs), AnyArray::Primitive(rhs)) => {
-            relate_primitives(alloc, asked, lhs, rhs)
-        }
-        (Kind::Utf8, AnyArray::Utf8(lhs), AnyArray::Utf8(rhs)) => {
-            relate_texts(alloc, asked, lhs, rhs)
-        }
-        (Kind::Utf8, AnyArray::LargeUtf8(lhs), AnyArray::LargeUtf8(rhs)) => {
-            relate_texts(alloc, asked, lhs, rhs)
-        }
-        (Kind::Binary, AnyArray::Binary(lhs), AnyArray::Binary(rhs)) => {
-            relate_bytes(alloc, asked, lhs, rhs)
-        }
-        (Kind::Binary, AnyArray::LargeBinary(lhs), AnyArray::LargeBinary(rhs)) => {
-            relate_bytes(alloc, asked, lhs, rhs)
+    out: &mut String,
+) -> Result<(), Fault> {
+    match (lhs, rhs) {
+        (AnyArray::Boolean(lhs), AnyArray::Boolean(rhs)) if lhs.len() == rhs.len() => {
+            write_truths(out, of_arrays!(asked, boolean(alloc, lhs, rhs)))
         }
         _ => Err(Fault::Usage),
     }
 }
 
-/// What is asked of the rows of an array and a scalar. `Usage` unless both are of this kind and one layout, and where the
-/// scalar is null.
-pub(crate) fn relate_scalar(
+/// Appends what is asked of truth values and one of them. `Usage` unless they are, and where it is null.
+pub(crate) fn relate_truth(
     alloc: Global,
-    kind: Kind,
     asked: Asked,
     lhs: &AnyArray,
     rhs: &AnyScalar,
-) -> Result<BooleanArray, Fault> {
-    match (kind, lhs, rhs) {
-        (Kind::Boolean, AnyArray::Boolean(lhs), AnyScalar::Boolean(rhs)) => {
-            relate_truth(alloc, asked, lhs, rhs.value())
-        }
-        (Kind::Primitive, AnyArray::Primitive(lhs), AnyScalar::Primitive(rhs)) => {
-            relate_primitive(alloc, asked, lhs, rhs)
-        }
-        (Kind::Utf8, AnyArray::Utf8(lhs), AnyScalar::Utf8(rhs)) => {
-            relate_text(alloc, asked, lhs, rhs.value())
-        }
-        (Kind::Utf8, AnyArray::LargeUtf8(lhs), AnyScalar::LargeUtf8(rhs)) => {
-            relate_text(alloc, asked, lhs, rhs.value())
-        }
-        (Kind::Binary, AnyArray::Binary(lhs), AnyScalar::Binary(rhs)) => {
-            relate_row(alloc, asked, lhs, rhs.value())
-        }
-        (Kind::Binary, AnyArray::LargeBinary(lhs), AnyScalar::LargeBinary(rhs)) => {
-            relate_row(alloc, asked, lhs, rhs.value())
+    out: &mut String,
+) -> Result<(), Fault> {
+    let (AnyArray::Boolean(lhs), AnyScalar::Boolean(rhs)) = (lhs, rhs) else {
+        return Err(Fault::Usage);
+    };
+    match rhs.value() {
+        Some(rhs) => write_truths(out, of_scalar!(asked, boolean(alloc, lhs, rhs))),
+        None => Err(Fault::Usage),
+    }
+}
+
+/// Appends what is asked of two arrays of texts. `Usage` unless both are of one layout.
+pub(crate) fn relate_texts(
+    alloc: Global,
+    asked: Asked,
+    lhs: &AnyArray,
+    rhs: &AnyArray,
+    out: &mut String,
+) -> Result<(), Fault> {
+    match (lhs, rhs) {
+        (AnyArray::Utf8(lhs), AnyArray::Utf8(rhs)) => of_texts(alloc, asked, lhs, rhs, out),
+        (AnyArray::LargeUtf8(lhs), AnyArray::LargeUtf8(rhs)) => {
+            of_texts(alloc, asked, lhs, rhs, out)
         }
         _ => Err(Fault::Usage),
     }
 }
 
-/// Of two arrays of truth values. `Usage` unless they have as many rows.
-fn relate_truths(
-    alloc: Global,
-    asked: Asked,
-    lhs: &BooleanArray,
-    rhs: &BooleanArray,
-) -> Result<BooleanArray, Fault> {
-    if lhs.len() != rhs.len() {
-        return Err(Fault::Usage);
-    }
-    Ok(of_arrays!(asked, boolean(alloc, lhs, rhs))?)
-}
-
-/// Of truth values and one of them. `Usage` where it is null.
-fn relate_truth(
-    alloc: Global,
-    asked: Asked,
-    lhs: &BooleanArray,
-    rhs: Option<bool>,
-) -> Result<BooleanArray, Fault> {
-    let Some(rhs) = rhs else {
-        return Err(Fault::Usage);
-    };
-    Ok(of_scalar!(asked, boolean(alloc, lhs, rhs))?)
-}
-
-/// Of two arrays of texts. `Usage` unless they have as many rows.
-fn relate_texts<O: Offset>(
+/// The same of texts of one layout. `Usage` unless both have as many rows.
+fn of_texts<O: Offset>(
     alloc: Global,
     asked: Asked,
     lhs: &Utf8Array<O>,
     rhs: &Utf8Array<O>,
-) -> Result<BooleanArray, Fault> {
+    out: &mut String,
+) -> Result<(), Fault> {
     if lhs.len() != rhs.len() {
         return Err(Fault::Usage);
     }
-    Ok(of_arrays!(asked, utf8(alloc, lhs, rhs))?)
+    write_truths(out, of_arrays!(asked, utf8(alloc, lhs, rhs)))
 }
 
-/// Of texts and one of them. `Usage` where it is null.
-fn relate_text<O: Offset>(
+/// Appends what is asked of texts and one of them. `Usage` unless both are of one layout.
+pub(crate) fn relate_text(
+    alloc: Global,
+    asked: Asked,
+    lhs: &AnyArray,
+    rhs: &AnyScalar,
+    out: &mut String,
+) -> Result<(), Fault> {
+    match (lhs, rhs) {
+        (AnyArray::Utf8(lhs), AnyScalar::Utf8(rhs)) => {
+            of_text(alloc, asked, lhs, rhs.value(), out)
+        }
+        (AnyArray::LargeUtf8(lhs), AnyScalar::LargeUtf8(rhs)) => {
+            of_text(alloc, asked, lhs, rhs.value(), out)
+        }
+        _ => Err(Fault::Usage),
+    }
+}
+
+/// The same of texts of one layout. `Usage` where the scalar is null.
+fn of_text<O: Offset>(
     alloc: Global,
     asked: Asked,
     lhs: &Utf8Array<O>,
     rhs: Option<&str>,
-) -> Result<BooleanArray, Fault> {
-    let Some(rhs) = rhs else {
-        return Err(Fault::Usage);
-    };
-    Ok(of_scalar!(asked, utf8(alloc, lhs, rhs))?)
+    out: &mut String,
+) -> Result<(), Fault> {
+    match rhs {
+        Some(rhs) => write_truths(out, of_scalar!(asked, utf8(alloc, lhs, rhs))),
+        None => Err(Fault::Usage),
+    }
 }
 
-/// Of two arrays of bytes. `Usage` unless they have as many rows.
-fn relate_bytes<O: Offset>(
+/// Appends what is asked of two arrays of bytes. `Usage` unless both are of one layout.
+pub(crate) fn relate_bytes(
+    alloc: Global,
+    asked: Asked,
+    lhs: &AnyArray,
+    rhs: &AnyArray,
+    out: &mut String,
+) -> Result<(), Fault> {
+    match (lhs, rhs) {
+        (AnyArray::Binary(lhs), AnyArray::Binary(rhs)) => of_bytes(alloc, asked, lhs, rhs, out),
+        (AnyArray::LargeBinary(lhs), AnyArray::LargeBinary(rhs)) => {
+            of_bytes(alloc, asked, lhs, rhs, out)
+        }
+        _ => Err(Fault::Usage),
+    }
+}
+
+/// The same of bytes of one layout. `Usage` unless both have as many rows.
+fn of_bytes<O: Offset>(
     alloc: Global,
     asked: Asked,
     lhs: &BinaryArray<O>,
     rhs: &BinaryArray<O>,
-) -> Result<BooleanArray, Fault> {
+    out: &mut String,
+) -> Result<(), Fault> {
     if lhs.len() != rhs.len() {
         return Err(Fault::Usage);
     }
-    Ok(of_arrays!(asked, binary(alloc, lhs, rhs))?)
+    write_truths(out, of_arrays!(asked, binary(alloc, lhs, rhs)))
 }
 
-/// Of rows of bytes and one of them. `Usage` where it is null.
-fn relate_row<O: Offset>(
+/// Appends what is asked of rows of bytes and one of them. `Usage` unless both are of one layout.
+pub(crate) fn relate_row(
+    alloc: Global,
+    asked: Asked,
+    lhs: &AnyArray,
+    rhs: &AnyScalar,
+    out: &mut String,
+) -> Result<(), Fault> {
+    match (lhs, rhs) {
+        (AnyArray::Binary(lhs), AnyScalar::Binary(rhs)) => {
+            of_row(alloc, asked, lhs, rhs.value(), out)
+        }
+        (AnyArray::LargeBinary(lhs), AnyScalar::LargeBinary(rhs)) => {
+            of_row(alloc, asked, lhs, rhs.value(), out)
+        }
+        _ => Err(Fault::Usage),
+    }
+}
+
+/// The same of bytes of one layout. `Usage` where the scalar is null.
+fn of_row<O: Offset>(
     alloc: Global,
     asked: Asked,
     lhs: &BinaryArray<O>,
     rhs: Option<&[u8]>,
-) -> Result<BooleanArray, Fault> {
-    let Some(rhs) = rhs else {
-        return Err(Fault::Usage);
-    };
-    Ok(of_scalar!(asked, binary(alloc, lhs, rhs))?)
+    out: &mut String,
+) -> Result<(), Fault> {
+    match rhs {
+        Some(rhs) => write_truths(out, of_scalar!(asked, binary(alloc, lhs, rhs))),
+        None => Err(Fault::Usage),
+    }
 }

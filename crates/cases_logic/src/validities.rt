@@ -3,48 +3,41 @@
 ghost use Rattle.std.specs.Prelude.{IsTrue, option_copied};
 ghost use Rattle.arrow_logic.specs.Validities.{AreOneLength};
 
-use crate::reply::write_truths;
 use arrow_arrays::array::AnyArray;
 use arrow_flat::array::BooleanArray;
 use arrow_flat::array::validity::fits_rows;
-use arrow_logic::utils::{check_same_len, combine_validities};
+use arrow_logic::utils;
 use arrow_memory::bitmap::Bitmap;
 use arrow_relate::comparison::{finish_eq_validities, finish_neq_validities};
-use arrow_text::bits::read_validity;
+use arrow_text::call::Call;
 use arrow_text::fault::Fault;
-use arrow_text::piece::Piece;
-use arrow_text::read::read_array;
-use arrow_text::write::write_validity;
+use arrow_text::write::{show, write_truths, write_validity};
 use std::alloc::Global;
 
-/// Answers a call of `utils`.
-pub(crate) fn answer(
+/// Appends the validity of rows that are null where those of either side are. `Usage` unless two that are there have as many
+/// bits.
+pub(crate) fn combine_validities(
     alloc: Global,
-    name: &str,
-    arguments: &[Piece<'_>],
+    call: &Call<'_>,
     out: &mut String,
-) -> Result<bool, Fault> {
-    match name {
-        "combine_validities" => combine(alloc, arguments, out),
-        "check_same_len" => check_lengths(alloc, arguments, out),
-        _ => Ok(false),
-    }
+) -> Result<(), Fault> {
+    call.takes(2)?;
+    let (lhs, rhs) = (call.validity(alloc, 0)?, call.validity(alloc, 1)?);
+    write_combined(alloc, lhs.as_ref(), rhs.as_ref(), out)
 }
 
-/// Appends the validity of rows that are null where those of either side are.
-fn combine(alloc: Global, arguments: &[Piece<'_>], out: &mut String) -> Result<bool, Fault> {
-    let [lhs, rhs] = arguments else {
-        return Err(Fault::Usage);
-    };
-    let lhs = read_validity(alloc, *lhs)?;
-    let rhs = read_validity(alloc, *rhs)?;
-    let (lhs, rhs) = (lhs.as_ref(), rhs.as_ref());
+/// The same of validities that are read.
+fn write_combined(
+    alloc: Global,
+    lhs: Option<&Bitmap>,
+    rhs: Option<&Bitmap>,
+    out: &mut String,
+) -> Result<(), Fault> {
     if !are_one_length(lhs, rhs) {
         return Err(Fault::Usage);
     }
-    let combined = combine_validities(alloc, lhs, rhs)?;
-    write_validity(out, combined.as_ref())?;
-    Ok(true)
+    let combined = utils::combine_validities(alloc, lhs, rhs)?;
+    write_validity(out, combined.as_ref())
 }
 
 /// Whether two validities have as many bits, where both are there.
@@ -58,52 +51,59 @@ fn are_one_length(lhs: Option<&Bitmap>, rhs: Option<&Bitmap>) -> bool
 }
 
 /// Appends `ok` where two arrays have as many rows.
-fn check_lengths(alloc: Global, arguments: &[Piece<'_>], out: &mut String) -> Result<bool, Fault> {
-    let [lhs, rhs] = arguments else {
-        return Err(Fault::Usage);
-    };
-    let lhs = read_array(alloc, *lhs)?;
-    let rhs = read_array(alloc, *rhs)?;
-    check_same_len(&lhs, &rhs)?;
-    out.push_str("ok")?;
-    Ok(true)
+pub(crate) fn check_same_len(
+    alloc: Global,
+    call: &Call<'_>,
+    out: &mut String,
+) -> Result<(), Fault> {
+    let pair = call.pair(alloc)?;
+    utils::check_same_len(&pair.left, &pair.right)?;
+    show(out, "ok")
+}
+
+/// Appends comparisons of equal rows that two validities finish.
+pub(crate) fn finish_eq(alloc: Global, call: &Call<'_>, out: &mut String) -> Result<(), Fault> {
+    finish(alloc, true, call, out)
+}
+
+/// Appends comparisons of differing rows that two validities finish.
+pub(crate) fn finish_neq(alloc: Global, call: &Call<'_>, out: &mut String) -> Result<(), Fault> {
+    finish(alloc, false, call, out)
 }
 
 /// Appends comparisons that two validities finish: of equal rows, or of those that differ.
-pub(crate) fn finish(
-    alloc: Global,
-    of_equal: bool,
-    arguments: &[Piece<'_>],
-    out: &mut String,
-) -> Result<bool, Fault> {
-    let [truths, lhs, rhs] = arguments else {
-        return Err(Fault::Usage);
-    };
-    let truths = read_array(alloc, *truths)?;
-    let lhs = read_validity(alloc, *lhs)?;
-    let rhs = read_validity(alloc, *rhs)?;
-    let finished = finished(alloc, of_equal, &truths, lhs, rhs)?;
-    write_truths(alloc, out, finished)
+fn finish(alloc: Global, of_equal: bool, call: &Call<'_>, out: &mut String) -> Result<(), Fault> {
+    call.takes(3)?;
+    let array = call.array(alloc, 0)?;
+    let truths = truths_of(&array.array)?;
+    let (lhs, rhs) = (call.validity(alloc, 1)?, call.validity(alloc, 2)?);
+    write_finished(alloc, of_equal, truths, lhs, rhs, out)
 }
 
-/// What two validities finish. `Usage` unless the array is of truth values, and each validity has a bit for each.
-fn finished(
+/// A copy of an array of truth values. `Usage` of any other.
+fn truths_of(array: &AnyArray) -> Result<BooleanArray, Fault> {
+    match array {
+        AnyArray::Boolean(truths) => Ok(truths.clone()?),
+        _ => Err(Fault::Usage),
+    }
+}
+
+/// Appends what two validities finish. `Usage` unless each has a bit for each truth value.
+fn write_finished(
     alloc: Global,
     of_equal: bool,
-    truths: &AnyArray,
+    truths: BooleanArray,
     lhs: Option<Bitmap>,
     rhs: Option<Bitmap>,
-) -> Result<BooleanArray, Fault> {
-    let AnyArray::Boolean(truths) = truths else {
-        return Err(Fault::Usage);
-    };
+    out: &mut String,
+) -> Result<(), Fault> {
     if !fits_rows(&lhs, truths.len()) || !fits_rows(&rhs, truths.len()) {
         return Err(Fault::Usage);
     }
-    let truths = truths.clone()?;
-    Ok(if of_equal {
+    let finished = if of_equal {
         finish_eq_validities(alloc, truths, lhs, rhs)
     } else {
         finish_neq_validities(alloc, truths, lhs, rhs)
-    }?)
+    };
+    write_truths(out, finished)
 }

@@ -7,25 +7,25 @@ ghost use Rattle.arrow_flat.specs.AnyScalar.{meaning_of};
 ghost use Rattle.arrow_arrays.specs.Any.{any_array_type};
 ghost use Rattle.arrow_compare.specs.Compared.{HasEquality, HasEqualityThrough, HasOrder, HasOrderThrough};
 
-use crate::asked::Asked;
+use super::Asked;
 use arrow_arrays::array::AnyArray;
 use arrow_compare::comparison;
-use arrow_flat::array::BooleanArray;
 use arrow_flat::scalar::AnyScalar;
-use arrow_relate::relation::Relation;
 use arrow_text::fault::Fault;
+use arrow_text::write::write_truths;
 use arrow_types::datatypes::{DataType, PhysicalType};
 use arrow_types::types::PrimitiveType;
 use std::alloc::Global;
 
-/// What is asked of the rows of two arrays. `Usage` unless both have as many rows and one data type, extensions around each
-/// apart, whose rows compare.
-pub(crate) fn relate(
+/// Appends what is asked of the rows of two arrays. `Usage` unless both have as many rows and one data type, extensions around
+/// each apart, whose rows compare.
+pub(super) fn relate(
     alloc: Global,
     asked: Asked,
     lhs: &AnyArray,
     rhs: &AnyArray,
-) -> Result<BooleanArray, Fault> {
+    out: &mut String,
+) -> Result<(), Fault> {
     if lhs.len() != rhs.len() || !are_of_one_type(lhs, rhs) {
         return Err(Fault::Usage);
     }
@@ -33,44 +33,47 @@ pub(crate) fn relate(
     if !has_equality(layout) {
         return Err(Fault::Usage);
     }
-    Ok(match asked {
+    let truths = match asked {
+        Asked::Eq => comparison::eq(alloc, lhs, rhs),
+        Asked::Neq => comparison::neq(alloc, lhs, rhs),
         Asked::Same => comparison::eq_and_validity(alloc, lhs, rhs),
         Asked::Differing => comparison::neq_and_validity(alloc, lhs, rhs),
-        Asked::Named(Relation::Eq) => comparison::eq(alloc, lhs, rhs),
-        Asked::Named(Relation::Neq) => comparison::neq(alloc, lhs, rhs),
         _ if !has_order(layout) => return Err(Fault::Usage),
-        Asked::Named(Relation::Lt) => comparison::lt(alloc, lhs, rhs),
-        Asked::Named(Relation::LtEq) => comparison::lt_eq(alloc, lhs, rhs),
-        Asked::Named(Relation::Gt) => comparison::gt(alloc, lhs, rhs),
-        Asked::Named(Relation::GtEq) => comparison::gt_eq(alloc, lhs, rhs),
+        Asked::Lt => comparison::lt(alloc, lhs, rhs),
+        Asked::LtEq => comparison::lt_eq(alloc, lhs, rhs),
+        Asked::Gt => comparison::gt(alloc, lhs, rhs),
+        Asked::GtEq => comparison::gt_eq(alloc, lhs, rhs),
         Asked::Given(_) => return Err(Fault::Usage),
-    }?)
+    };
+    write_truths(out, truths)
 }
 
-/// What is asked of the rows of an array and a scalar. `Usage` unless both have one data type, extensions around each apart,
-/// whose rows compare, through dictionaries at any depth.
-pub(crate) fn relate_scalar(
+/// Appends what is asked of the rows of an array and a scalar. `Usage` unless both have one data type, extensions around each
+/// apart, whose rows compare, through dictionaries at any depth.
+pub(super) fn relate_scalar(
     alloc: Global,
     asked: Asked,
     lhs: &AnyArray,
     rhs: &AnyScalar,
-) -> Result<BooleanArray, Fault> {
+    out: &mut String,
+) -> Result<(), Fault> {
     let left = lhs.data_type();
     if !is_of_one_type(lhs, rhs) || !has_equality_through(left) {
         return Err(Fault::Usage);
     }
-    Ok(match asked {
+    let truths = match asked {
+        Asked::Eq => comparison::eq_scalar(alloc, lhs, rhs),
+        Asked::Neq => comparison::neq_scalar(alloc, lhs, rhs),
         Asked::Same => comparison::eq_scalar_and_validity(alloc, lhs, rhs),
         Asked::Differing => comparison::neq_scalar_and_validity(alloc, lhs, rhs),
-        Asked::Named(Relation::Eq) => comparison::eq_scalar(alloc, lhs, rhs),
-        Asked::Named(Relation::Neq) => comparison::neq_scalar(alloc, lhs, rhs),
         _ if !has_order_through(left) => return Err(Fault::Usage),
-        Asked::Named(Relation::Lt) => comparison::lt_scalar(alloc, lhs, rhs),
-        Asked::Named(Relation::LtEq) => comparison::lt_eq_scalar(alloc, lhs, rhs),
-        Asked::Named(Relation::Gt) => comparison::gt_scalar(alloc, lhs, rhs),
-        Asked::Named(Relation::GtEq) => comparison::gt_eq_scalar(alloc, lhs, rhs),
+        Asked::Lt => comparison::lt_scalar(alloc, lhs, rhs),
+        Asked::LtEq => comparison::lt_eq_scalar(alloc, lhs, rhs),
+        Asked::Gt => comparison::gt_scalar(alloc, lhs, rhs),
+        Asked::GtEq => comparison::gt_eq_scalar(alloc, lhs, rhs),
         Asked::Given(_) => return Err(Fault::Usage),
-    }?)
+    };
+    write_truths(out, truths)
 }
 
 /// Whether two arrays are of one data type, extensions around each apart.
