@@ -88,7 +88,7 @@ const RELATIONS: [(&str, Relation); 6] = [
 
 /// Answers a comparison; `false` where the call is none.
 pub(crate) fn answer(alloc: Global, call: &Call<'_>, out: &mut String) -> Result<bool, Fault> {
-    let Some((kind, named)) = named(call.name) else {
+    let Some((kind, named)) = kind_and_call(call.name) else {
         return Ok(false);
     };
     match named {
@@ -101,7 +101,7 @@ pub(crate) fn answer(alloc: Global, call: &Call<'_>, out: &mut String) -> Result
 }
 
 /// The module and the call of a name. No call of the module for arrays of any type takes a relation as a value.
-fn named(name: &str) -> Option<(Kind, Named)> {
+fn kind_and_call(name: &str) -> Option<(Kind, Named)> {
     let (module, name) = name.rsplit_once("::")?;
     match (*find(&KINDS, module)?, *find(&NAMES, name)?) {
         (Kind::Any, Named::Relate | Named::RelateScalar) => None,
