@@ -4,12 +4,15 @@ use Rattle.std.specs.Borrow.{Bor}
 use Rattle.arrow_types.specs.Physical.{physical_type_of}
 use Rattle.arrow_arrays.specs.Any.{Kind, kind_in}
 use Rattle.arrow_arrays.specs.Layout.{Layout}
-use Rattle.arrow_flat_growable.specs.Grown.{AreOfOneType, first_type}
+use Rattle.arrow_flat_growable.specs.Grown.{Grown, AreOfOneType, first_type}
 
 -- those that are bound to it, or any where none is
-abbrev pub TakesRowsOf : List Layout → Option (List Layout) → Type 0
-TakesRowsOf layouts None = Unit {0}
-TakesRowsOf layouts (Some sources) = sources ≡ layouts
+abbrev pub AreSources : Option (List Layout) → List Layout → Type 0
+AreSources None layouts = Unit {0}
+AreSources (Some sources) layouts = sources ≡ layouts
+
+abbrev pub TakesRowsOf : List Layout → Grown → Type 0
+TakesRowsOf layouts g = AreSources g.sources layouts
 
 -- the layouts of borrowed arrays, by that of each
 abbrev pub layouts_by : {A : Type 0} → (A → Layout) → List (Bor A) → List Layout

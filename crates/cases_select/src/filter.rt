@@ -3,7 +3,7 @@
 ghost use Rattle.std.specs.Prelude.{◌≤◌, length, IsTrue};
 ghost use Rattle.arrow_arrays.specs.StructParts.{HaveRows};
 
-use crate::lists::{as_boolean, as_primitive, write_arrays};
+use crate::lists::{as_any, as_boolean, as_primitive, write_arrays};
 use arrow_arrays::array::AnyArray;
 use arrow_arrays::chunk::Chunk;
 use arrow_flat::array::{AnyElement, AnyPrimitive, PrimitiveArray};
@@ -12,7 +12,6 @@ use arrow_select::filter::{Filter, build_filter, extend_from_word, filter, filte
 use arrow_text::call::Call;
 use arrow_text::fault::Fault;
 use arrow_text::write::{show, write_made};
-use arrow_types::datatypes::DataType;
 use arrow_types::error::Error;
 use std::alloc::Global;
 
@@ -172,17 +171,25 @@ fn extend_elements<T: AnyElement>(
     if grown.null_count() > 0 || values.null_count() > 0 || values.len() > 64 {
         return Err(Fault::Usage);
     }
-    let items = extended(
-        alloc,
-        grown.values().as_slice(),
-        values.values().as_slice(),
-        word,
-    )?;
-    write_made(out, array_of(grown.data_type(), items))
+    let array = extended(alloc, grown, values.values().as_slice(), word)?;
+    write_made(out, as_any(&array))
 }
 
-/// Values, and behind them those of others whose bit is set.
+/// An array of values and, behind them, those of others whose bit is set.
 fn extended<T: AnyElement>(
+    alloc: Global,
+    grown: &PrimitiveArray<T>,
+    values: &[T],
+    word: u64,
+) -> Result<PrimitiveArray<T>, Error>
+    requires { length values.now ≤ 64 }
+{
+    let items = extended_items(alloc, grown.values().as_slice(), values, word)?;
+    PrimitiveArray::try_new(grown.data_type().clone()?, items, None)
+}
+
+/// The values of such an array.
+fn extended_items<T: AnyElement>(
     alloc: Global,
     grown: &[T],
     values: &[T],
@@ -193,10 +200,4 @@ fn extended<T: AnyElement>(
     let mut items = Vec::from_slice(alloc, grown)?;
     extend_from_word(&mut items, values, word)?;
     Buffer::from_vec(alloc, items)
-}
-
-/// An array of values of a data type.
-fn array_of<T: AnyElement>(data_type: &DataType, items: Buffer<T>) -> Result<AnyArray, Error> {
-    let array = PrimitiveArray::try_new(data_type.clone()?, items, None)?;
-    T::to_any(&array).map(AnyArray::Primitive)
 }

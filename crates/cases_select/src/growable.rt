@@ -1,8 +1,9 @@
 //! Growables of arrays of any type and of each kind, step by step.
 
-ghost use Rattle.std.specs.Prelude.{◌<◌, length};
+ghost use Rattle.std.specs.Prelude.{◌<◌, length, IfOk};
 ghost use Rattle.arrow_arrays.specs.Any.{layouts_in};
 ghost use Rattle.arrow_flat_growable.specs.Grown.{AreOfOneType};
+ghost use Rattle.cases_select.specs.Sources.{TakesRowsOf};
 
 mod steps;
 mod typed;
@@ -11,11 +12,12 @@ use crate::growable::steps::take_steps;
 use crate::growable::typed::run_kind;
 use crate::lists::{are_of_one_type, lend_all};
 use arrow_arrays::array::AnyArray;
-use arrow_growable::growable::make_growable;
+use arrow_growable::growable::{Growable, make_growable};
 use arrow_text::call::{Call, read_arrays};
 use arrow_text::fault::Fault;
 use arrow_text::piece::Piece;
 use arrow_types::datatypes::PhysicalType;
+use arrow_types::error::Error;
 use std::alloc::Global;
 
 /// What a line asks of a growable.
@@ -118,6 +120,20 @@ fn run_any(
     if plan.is_consumed {
         return Err(Fault::Usage);
     }
-    let mut growable = make_growable(alloc, arrays, plan.use_validity, plan.capacity)?;
+    let made = make_growable(alloc, arrays, plan.use_validity, plan.capacity);
+    run_made(alloc, made, arrays, plan, out)
+}
+
+/// Takes the steps over a growable of these arrays, if it was made.
+fn run_made<'a, G: Growable<'a> + Drop>(
+    alloc: Global,
+    made: Result<G, Error>,
+    arrays: &[&AnyArray],
+    plan: &Plan<'_>,
+    out: &mut String,
+) -> Result<(), Fault>
+    requires { IfOk made (λ growable. TakesRowsOf (layouts_in arrays.now) (G.state growable)) }
+{
+    let mut growable = made?;
     take_steps(alloc, &mut growable, arrays, plan, out)
 }

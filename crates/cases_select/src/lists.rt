@@ -6,10 +6,11 @@ ghost use Rattle.arrow_arrays.specs.Layout.{type_of_layout};
 ghost use Rattle.arrow_flat_growable.specs.Grown.{AreOfOneType};
 
 use arrow_arrays::array::AnyArray;
-use arrow_flat::array::{AnyPrimitive, BooleanArray};
+use arrow_flat::array::{AnyElement, AnyPrimitive, BooleanArray, PrimitiveArray};
 use arrow_text::fault::Fault;
 use arrow_text::given::Arrays;
 use arrow_text::write::write_array;
+use arrow_types::error::Error;
 use std::alloc::Global;
 
 /// The array of truth values that an array is.
@@ -26,6 +27,11 @@ pub(crate) fn as_primitive(array: &AnyArray) -> Result<&AnyPrimitive, Fault> {
         AnyArray::Primitive(array) => Ok(array),
         _ => Err(Fault::Usage),
     }
+}
+
+/// An array of numbers or intervals as one of any type.
+pub(crate) fn as_any<T: AnyElement>(array: &PrimitiveArray<T>) -> Result<AnyArray, Error> {
+    Ok(AnyArray::Primitive(T::to_any(array)?))
 }
 
 /// The arrays, lent.

@@ -6,7 +6,7 @@ ghost use Rattle.arrow_flat.specs.Parts.{rows_by};
 ghost use Rattle.arrow_arrays.specs.Any.{any_array_rows};
 ghost use Rattle.arrow_arrays.specs.KeyedParts.{AreKeys};
 
-use crate::lists::as_primitive;
+use crate::lists::{as_any, as_primitive};
 use arrow_arrays::array::{AnyArray, are_within};
 use arrow_flat::array::{AnyElement, AnyPrimitive, PrimitiveArray};
 use arrow_select::take::{
@@ -102,21 +102,19 @@ fn take_typed<I: Index>(
 {
     match array {
         AnyArray::Primitive(array) => take_primitive(alloc, array, indices),
-        AnyArray::Boolean(array) => boolean::take(alloc, array, indices).map(AnyArray::Boolean),
-        AnyArray::Utf8(array) => utf8::take(alloc, array, indices).map(AnyArray::Utf8),
-        AnyArray::LargeUtf8(array) => utf8::take(alloc, array, indices).map(AnyArray::LargeUtf8),
-        AnyArray::Binary(array) => binary::take(alloc, array, indices).map(AnyArray::Binary),
+        AnyArray::Boolean(array) => Ok(AnyArray::Boolean(boolean::take(alloc, array, indices)?)),
+        AnyArray::Utf8(array) => Ok(AnyArray::Utf8(utf8::take(alloc, array, indices)?)),
+        AnyArray::LargeUtf8(array) => Ok(AnyArray::LargeUtf8(utf8::take(alloc, array, indices)?)),
+        AnyArray::Binary(array) => Ok(AnyArray::Binary(binary::take(alloc, array, indices)?)),
         AnyArray::LargeBinary(array) => {
-            binary::take(alloc, array, indices).map(AnyArray::LargeBinary)
+            Ok(AnyArray::LargeBinary(binary::take(alloc, array, indices)?))
         }
-        AnyArray::List(array) => list::take(alloc, array, indices).map(AnyArray::List),
+        AnyArray::List(array) => Ok(AnyArray::List(list::take(alloc, array, indices)?)),
         AnyArray::FixedSizeList(array) => {
-            fixed_size_list::take(alloc, array, indices).map(AnyArray::FixedSizeList)
+            Ok(AnyArray::FixedSizeList(fixed_size_list::take(alloc, array, indices)?))
         }
-        AnyArray::Struct(array) => structure::take(alloc, array, indices).map(AnyArray::Struct),
-        AnyArray::Dictionary(array) => {
-            dict::take(alloc, array, indices).map(AnyArray::Dictionary)
-        }
+        AnyArray::Struct(array) => Ok(AnyArray::Struct(structure::take(alloc, array, indices)?)),
+        AnyArray::Dictionary(array) => Ok(AnyArray::Dictionary(dict::take(alloc, array, indices)?)),
         array => take(alloc, array, indices),
     }
 }
@@ -154,5 +152,5 @@ fn take_elements<T: AnyElement, I: Index>(
     requires { AreKeys (length (rows_by (map T.slot) array.now)) (rows_by (map I.slot) indices.now) }
 {
     let taken = primitive::take(alloc, array, indices)?;
-    T::to_any(&taken).map(AnyArray::Primitive)
+    as_any(&taken)
 }

@@ -31,7 +31,7 @@ pub(super) fn take_steps<'a, G: Growable<'a>>(
     plan: &Plan<'_>,
     out: &mut String,
 ) -> Result<(), Fault>
-    requires { TakesRowsOf (layouts_in arrays.now) (G.state growable.old).sources }
+    requires { TakesRowsOf (layouts_in arrays.now) (G.state growable.old) }
 {
     for (place, step) in plan.steps.iter().enumerate() {
         if place > 0 {
@@ -64,7 +64,7 @@ fn action_of(step: &Step<'_>) -> Result<Action, Fault> {
         [] if step.name == "len" => Ok(Action::Len),
         [] if step.name == "as_box" => Ok(Action::AsBox),
         [additional] if step.name == "extend_validity" => {
-            additional.integer().map(Action::ExtendValidity)
+            Ok(Action::ExtendValidity(additional.integer()?))
         }
         [index, start, len] if step.name == "extend" => {
             Ok(Action::Extend(index.integer()?, start.integer()?, len.integer()?))
@@ -80,7 +80,7 @@ fn take_step<'a, G: Growable<'a>>(
     action: Action,
     out: &mut String,
 ) -> Result<(), Fault>
-    requires { TakesRowsOf (layouts_in arrays.now) (G.state growable.old).sources }
+    requires { TakesRowsOf (layouts_in arrays.now) (G.state growable.old) }
     ensures { (G.state growable.new).sources ≡ (G.state growable.old).sources }
 {
     match action {
@@ -103,7 +103,7 @@ fn extend<'a, G: Growable<'a>>(
     len: usize,
     out: &mut String,
 ) -> Result<(), Fault>
-    requires { TakesRowsOf (layouts_in arrays.now) (G.state growable.old).sources }
+    requires { TakesRowsOf (layouts_in arrays.now) (G.state growable.old) }
     ensures { (G.state growable.new).sources ≡ (G.state growable.old).sources }
 {
     if index >= arrays.len() {

@@ -49,7 +49,7 @@ trait Typed<'a>: Growable<'a> + Drop {
     fn over(alloc: Global, bound: Vec<&'a Self::Source>, plan: &Plan<'_>) -> Result<Self, Error>
         requires some { 0 < length bound.items }
         requires one_type { AreOfOneType (layouts_by layout_in bound.items) }
-        ensures { IfOk result (λ g. TakesRowsOf (layouts_by layout_in bound.entry.items) (state g).sources) };
+        ensures { IfOk result (λ g. TakesRowsOf (layouts_by layout_in bound.entry.items) (Self.state g)) };
 
     /// The array of all rows.
     fn into_any(self) -> Result<AnyArray, Error>;
@@ -79,7 +79,7 @@ impl<'a> Typed<'a> for GrowableNull {
     }
 
     fn into_any(self) -> Result<AnyArray, Error> {
-        self.into_array().map(AnyArray::Null)
+        Ok(AnyArray::Null(self.into_array()?))
     }
 }
 
@@ -144,7 +144,10 @@ impl<'a, A: Nested> Typed<'a> for GrowableOf<'a, A> {
 
     ghost kind = { A.kind };
 
-    fn of_any(array: &AnyArray) -> &A {
+    fn of_any(array: &AnyArray) -> &A
+        requires { kind_of array.now ≡ A.kind }
+        ensures { A.layout_in result.now ≡ layout_of array.now }
+    {
         A::of_any(array)
     }
 
@@ -164,7 +167,10 @@ impl<'a> Typed<'a> for GrowableDictionary<'a> {
 
     ghost kind = { dictionary_kind };
 
-    fn of_any(array: &AnyArray) -> &DictionaryArray {
+    fn of_any(array: &AnyArray) -> &DictionaryArray
+        requires { kind_of array.now ≡ dictionary_kind }
+        ensures { keyed_layout result.now ≡ layout_of array.now }
+    {
         match array {
             AnyArray::Dictionary(array) => array,
             _ => unreachable!(),
@@ -180,7 +186,7 @@ impl<'a> Typed<'a> for GrowableDictionary<'a> {
     }
 
     fn into_any(self) -> Result<AnyArray, Error> {
-        self.into_array().map(AnyArray::Dictionary)
+        Ok(AnyArray::Dictionary(self.into_array()?))
     }
 }
 
@@ -191,7 +197,10 @@ impl<'a> Typed<'a> for GrowableUnion<'a> {
 
     ghost kind = { union_kind };
 
-    fn of_any(array: &AnyArray) -> &UnionArray {
+    fn of_any(array: &AnyArray) -> &UnionArray
+        requires { kind_of array.now ≡ union_kind }
+        ensures { union_layout result.now ≡ layout_of array.now }
+    {
         match array {
             AnyArray::Union(array) => array,
             _ => unreachable!(),
@@ -207,7 +216,7 @@ impl<'a> Typed<'a> for GrowableUnion<'a> {
     }
 
     fn into_any(self) -> Result<AnyArray, Error> {
-        self.into_array().map(AnyArray::Union)
+        Ok(AnyArray::Union(self.into_array()?))
     }
 }
 
@@ -235,6 +244,8 @@ fn run<'a, T: Typed<'a> + 'a>(
     plan: &Plan<'_>,
     out: &mut String,
 ) -> Result<(), Fault>
+where
+    T::Source: 'a,
     requires { AreOfKind T.kind (layouts_in arrays.now) }
 {
     let bound = bind::<T>(alloc, arrays)?;

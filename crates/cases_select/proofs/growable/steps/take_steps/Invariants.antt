@@ -4,4 +4,4 @@ use Rattle.cases_select.proofs.growable.steps.take_steps.Given as goal
 
 -- it takes rows of the same arrays still
 abbrev pub invariant-loop-place : goal.invariant-loop-place
-invariant-loop-place g l = TakesRowsOf (layouts_in l.arrays) (g.G.Growable.state l.growable).sources
+invariant-loop-place g l = TakesRowsOf (layouts_in l.arrays) (g.G.Growable.state l.growable)
