@@ -118,7 +118,8 @@ fn scalar(alloc: Global, arrays: &[AnyArray], _out: &mut String) -> Result<(), F
 fn call_scalar(lhs: &AnyArray, rhs: &AnyScalar) -> Result<(), Fault> {
     let (left, right) = (lhs.data_type(), rhs.data_type());
     compared::can_eq_has_equality(left);
-    if *left != *right || !can_eq(left) {
+    let are_alike = *left == *right;
+    if !are_alike || !can_eq(left) {
         return Err(Fault::Usage);
     }
     compared::scalar_is_repeated(Relation::Lt, lhs, rhs);

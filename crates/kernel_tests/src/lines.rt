@@ -17,12 +17,17 @@ pub type Line = [&'static str; 2];
 pub type Answer = fn(Global, &[AnyArray], &mut String) -> Result<(), Fault>;
 
 /// Appends the answer to a line; `Usage` where none has its name.
+///
+/// # Requires
+/// Each function of the table may be called on all arguments.
 pub fn answer(
     alloc: Global,
     answers: &[(&str, Answer)],
     line: &str,
     out: &mut String,
-) -> Result<(), Fault> {
+) -> Result<(), Fault>
+    requires { (answer : _) (alloc : _) (arrays : _) (out : _) → pre answer alloc arrays out }
+{
     let call = Call::read(alloc, line)?;
     let answer = find(answers, call.name).ok_or(Fault::Usage)?;
     let arrays = call.arrays(alloc, 0)?;
@@ -30,7 +35,9 @@ pub fn answer(
 }
 
 /// Whether a line is answered as it is wanted: by a text, or by the fault that has this name.
-fn is_answered(alloc: Global, answers: &[(&str, Answer)], line: &Line) -> Result<bool, Fault> {
+fn is_answered(alloc: Global, answers: &[(&str, Answer)], line: &Line) -> Result<bool, Fault>
+    requires { (answer : _) (alloc : _) (arrays : _) (out : _) → pre answer alloc arrays out }
+{
     let mut out = String::new(alloc);
     match answer(alloc, answers, line[0], &mut out) {
         Ok(()) => Ok(()),
@@ -45,7 +52,9 @@ pub fn check_lines(
     rt: &(impl Abort + Alloc<A = Global>),
     answers: &[(&str, Answer)],
     lines: &[Line],
-) {
+)
+    requires { (answer : _) (alloc : _) (arrays : _) (out : _) → pre answer alloc arrays out }
+{
     for line in lines {
         tried!(rt; is_answered(rt.alloc(), answers, line), *line);
     }
