@@ -9,22 +9,22 @@ use Rattle.arrow_types.specs.ArrowType.{ArrowType}
 use Rattle.arrow_arrays.specs.Layout.{Layout, rows, type_of_layout}
 use Rattle.arrow_flat_growable.specs.Grown.{Grown, AreThere, bound_to, source_at}
 use Rattle.arrow_flat_growable.proofs.FlatLemmas.{source_is}
-use Rattle.cases_select.specs.Sources.{AreSources, TakesRowsOf}
+use Rattle.cases_select.specs.Sources.{TakesRowsOf}
 
 -- rows of the arrays are there
-pub there : (sources : Option (List Layout)) (layouts : List Layout) (i start len : ℕ) → AreSources sources layouts → i < length layouts → start + len ≤ length (rows (source_at layouts i)) → AreThere sources i start len
+pub there : (sources : Option (List Layout)) (layouts : List Layout) (i start len : ℕ) → TakesRowsOf layouts sources → i < length layouts → start + len ≤ length (rows (source_at layouts i)) → AreThere sources i start len
 there None layouts i start len from bound within = tt
 there (Some sources) layouts i start len from bound within =
     subst (λ ls. AreThere (Some ls) i start len) (sym from) (bound, within)
 
 -- the same of an array that was read at the index
-pub rows_there : {B : Type 0} (h : B → Layout) (arrays : List B) (b : B) (sources : Option (List Layout)) (i start len : ℕ) → AreSources sources (map h arrays) → i < length arrays → b ≡ get_or arrays i b → start + len ≤ length (rows (h b)) → AreThere sources i start len
+pub rows_there : {B : Type 0} (h : B → Layout) (arrays : List B) (b : B) (sources : Option (List Layout)) (i start len : ℕ) → TakesRowsOf (map h arrays) sources → i < length arrays → b ≡ get_or arrays i b → start + len ≤ length (rows (h b)) → AreThere sources i start len
 rows_there h arrays b sources i start len from bound read within =
     there sources (map h arrays) i start len from (omega (arith, bound, length-map arrays h)) (subst (λ l. start + len ≤ length (rows l)) (sym (source_is h arrays i b bound read)) within)
 
 -- a growable that is bound to them
-pub takes_bound : (g : Grown) (layouts same : List Layout) → g ≡ bound_to layouts → layouts ≡ same → TakesRowsOf same g
-takes_bound g layouts same bound is = subst (λ (h : Grown). TakesRowsOf same h) (sym bound) is
+pub takes_bound : (g : Grown) (layouts same : List Layout) → g ≡ bound_to layouts → layouts ≡ same → TakesRowsOf same g.sources
+takes_bound g layouts same bound is = subst (λ (h : Grown). TakesRowsOf same h.sources) (sym bound) is
 
 -- one more array of a type
 pub typed_next : {B : Type 0} (h : B → Layout) (arrays : List B) (b : B) (i : ℕ) (t : ArrowType) → i < length arrays → b ≡ get_or arrays i b → type_of_layout (h b) ≡ t → All (λ l. type_of_layout l ≡ t) (take i (map h arrays)) → All (λ l. type_of_layout l ≡ t) (take (i + 1) (map h arrays))

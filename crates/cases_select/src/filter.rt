@@ -164,7 +164,8 @@ fn extend_elements<T: AnyElement>(
     word: u64,
     out: &mut String,
 ) -> Result<(), Fault> {
-    if *grown.data_type() != *values.data_type() {
+    let are_alike = *grown.data_type() == *values.data_type();
+    if !are_alike {
         return Err(Fault::Usage);
     }
     let values = T::of_any(values);

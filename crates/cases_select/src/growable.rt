@@ -1,139 +1,151 @@
-//! Growables of arrays of any type and of each kind, step by step.
+//! Growables of arrays of any type and of each type, step by step.
 
-ghost use Rattle.std.specs.Prelude.{◌<◌, length, IfOk};
+ghost use Rattle.std.specs.Prelude.{◌<◌, length};
 ghost use Rattle.arrow_arrays.specs.Any.{layouts_in};
 ghost use Rattle.arrow_flat_growable.specs.Grown.{AreOfOneType};
-ghost use Rattle.cases_select.specs.Sources.{TakesRowsOf};
 
+mod plan;
 mod steps;
 mod typed;
 
-use crate::growable::steps::take_steps;
-use crate::growable::typed::run_kind;
+use crate::growable::plan::Plan;
+use crate::growable::steps::run_actions;
+use crate::growable::typed::run_typed;
 use crate::lists::{are_of_one_type, lend_all};
 use arrow_arrays::array::AnyArray;
-use arrow_growable::growable::{Growable, make_growable};
+use arrow_growable::growable::make_growable;
 use arrow_text::call::{Call, read_arrays};
 use arrow_text::fault::Fault;
 use arrow_text::piece::Piece;
+use arrow_text::types::find;
+use arrow_text::write::show;
 use arrow_types::datatypes::PhysicalType;
-use arrow_types::error::Error;
 use std::alloc::Global;
 
-/// What a line asks of a growable.
-#[derive(Clone, Copy)]
-struct Plan<'a> {
-    name: &'a str,
-    use_validity: bool,
-    capacity: usize,
-    arrays: &'a [Piece<'a>],
-    steps: &'a [Piece<'a>],
-    /// Whether it becomes an array at the end, which is then none of the steps.
-    is_consumed: bool,
+/// The arrays that a growable takes rows of.
+#[derive(Clone, Copy, PartialEq, Eq)]
+pub(crate) enum Kind {
+    Any,
+    Null,
+    Boolean,
+    Primitive,
+    Utf8,
+    Binary,
+    FixedSizeBinary,
+    List,
+    FixedSizeList,
+    Struct,
+    Map,
+    Union,
+    Dictionary,
 }
 
-impl<'a> Plan<'a> {
-    /// Reads how the growable is made, the arrays up to a colon, and the steps behind it.
-    fn read(call: &'a Call<'a>) -> Result<Plan<'a>, Fault> {
-        let use_validity = call.argument(0)?.truth()?;
-        let capacity = call.integer(1)?;
-        let (arrays, steps) = parts_of(&call.arguments)?;
-        let (steps, is_consumed) = match steps.split_last() {
-            Some((last, before)) if last.text() == "into_array()" => (before, true),
-            _ => (steps, false),
-        };
-        Ok(Plan {
-            name: call.name,
-            use_validity,
-            capacity,
-            arrays,
-            steps,
-            is_consumed,
-        })
+/// The names of the growables.
+const KINDS: [(&str, Kind); 13] = [
+    ("make_growable", Kind::Any),
+    ("GrowableNull", Kind::Null),
+    ("GrowableBoolean", Kind::Boolean),
+    ("GrowablePrimitive", Kind::Primitive),
+    ("GrowableUtf8", Kind::Utf8),
+    ("GrowableBinary", Kind::Binary),
+    ("GrowableFixedSizeBinary", Kind::FixedSizeBinary),
+    ("GrowableList", Kind::List),
+    ("GrowableFixedSizeList", Kind::FixedSizeList),
+    ("GrowableStruct", Kind::Struct),
+    ("GrowableMap", Kind::Map),
+    ("GrowableUnion", Kind::Union),
+    ("GrowableDictionary", Kind::Dictionary),
+];
+
+/// The arrays that lie in memory so.
+fn kind_of_type(physical_type: PhysicalType) -> Kind {
+    match physical_type {
+        PhysicalType::Null => Kind::Null,
+        PhysicalType::Boolean => Kind::Boolean,
+        PhysicalType::Primitive(_) => Kind::Primitive,
+        PhysicalType::Utf8 | PhysicalType::LargeUtf8 => Kind::Utf8,
+        PhysicalType::Binary | PhysicalType::LargeBinary => Kind::Binary,
+        PhysicalType::FixedSizeBinary => Kind::FixedSizeBinary,
+        PhysicalType::List | PhysicalType::LargeList => Kind::List,
+        PhysicalType::FixedSizeList => Kind::FixedSizeList,
+        PhysicalType::Struct => Kind::Struct,
+        PhysicalType::Union => Kind::Union,
+        PhysicalType::Map => Kind::Map,
+        PhysicalType::Dictionary(_) => Kind::Dictionary,
     }
 }
 
-/// The arguments from the third one on up to a colon, and those behind it.
-fn parts_of<'a>(arguments: &'a [Piece<'a>]) -> Result<(&'a [Piece<'a>], &'a [Piece<'a>]), Fault> {
-    match arguments.iter().position(|argument| argument.text() == ":") {
-        Some(colon) if colon >= 2 => Ok((&arguments[2..colon], &arguments[colon + 1..])),
-        _ => Err(Fault::Usage),
-    }
-}
-
-/// Makes a growable over arrays, takes the steps, and appends what each answers.
+/// Makes a growable over the arrays that stand before a colon, takes the steps behind it, and appends what each
+/// answers.
 pub(crate) fn answer(alloc: Global, call: &Call<'_>, out: &mut String) -> Result<(), Fault> {
-    let plan = Plan::read(call)?;
-    let given = read_arrays(alloc, plan.arrays)?;
-    let arrays = lend_all(alloc, &given)?;
-    run(alloc, &arrays, &plan, out)
+    let kind = *find(&KINDS, call.name).ok_or(Fault::Usage)?;
+    let (arrays, steps) = parts_of(call)?;
+    let arrays = read_arrays(alloc, arrays)?;
+    let plan = Plan::read(alloc, call, steps)?;
+    let lent = lend_all(alloc, &arrays)?;
+    write_answers(alloc, kind, &lent, &plan, out)
 }
 
-/// The same over arrays that are lent, of one data type and of the kind that the growable's name says.
+/// Appends what each step answers, and `none` of no step.
+fn write_answers(
+    alloc: Global,
+    kind: Kind,
+    arrays: &[&AnyArray],
+    plan: &Plan,
+    out: &mut String,
+) -> Result<(), Fault> {
+    let mut answers = String::new(alloc);
+    run(alloc, kind, arrays, plan, &mut answers)?;
+    show(
+        out,
+        if answers.is_empty() {
+            "none"
+        } else {
+            answers.as_str()
+        },
+    )
+}
+
+/// The arrays and the steps among the arguments: those from the third one on, and those behind a colon.
+fn parts_of<'a, 'b>(call: &'b Call<'a>) -> Result<(&'b [Piece<'a>], &'b [Piece<'a>]), Fault> {
+    let arguments = call.arguments.as_slice();
+    for (i, argument) in arguments.iter().enumerate() {
+        if argument.text() == ":" && i >= 2 {
+            return Ok((&arguments[2..i], &arguments[i + 1..]));
+        }
+    }
+    Err(Fault::Usage)
+}
+
+/// The same over arrays that are lent, of one data type and of the kind that is asked.
 fn run(
     alloc: Global,
+    kind: Kind,
     arrays: &[&AnyArray],
-    plan: &Plan<'_>,
+    plan: &Plan,
     out: &mut String,
 ) -> Result<(), Fault> {
     if !are_of_one_type(arrays) {
         return Err(Fault::Usage);
     }
-    if plan.name == "make_growable" {
+    if kind == Kind::Any {
         return run_any(alloc, arrays, plan, out);
     }
     let physical_type = arrays[0].data_type().to_physical_type();
-    if plan.name != name_for(physical_type) {
+    if kind_of_type(physical_type) != kind {
         return Err(Fault::Usage);
     }
-    run_kind(alloc, arrays, physical_type, plan, out)
-}
-
-/// The name of the growable of arrays that lie in memory so.
-fn name_for(physical_type: PhysicalType) -> &'static str {
-    match physical_type {
-        PhysicalType::Null => "GrowableNull",
-        PhysicalType::Boolean => "GrowableBoolean",
-        PhysicalType::Primitive(_) => "GrowablePrimitive",
-        PhysicalType::Utf8 | PhysicalType::LargeUtf8 => "GrowableUtf8",
-        PhysicalType::Binary | PhysicalType::LargeBinary => "GrowableBinary",
-        PhysicalType::FixedSizeBinary => "GrowableFixedSizeBinary",
-        PhysicalType::List | PhysicalType::LargeList => "GrowableList",
-        PhysicalType::FixedSizeList => "GrowableFixedSizeList",
-        PhysicalType::Struct => "GrowableStruct",
-        PhysicalType::Union => "GrowableUnion",
-        PhysicalType::Map => "GrowableMap",
-        PhysicalType::Dictionary(_) => "GrowableDictionary",
-    }
+    run_typed(alloc, arrays, physical_type, plan, out)
 }
 
 /// A growable of arrays of any type, which becomes no array.
-fn run_any(
-    alloc: Global,
-    arrays: &[&AnyArray],
-    plan: &Plan<'_>,
-    out: &mut String,
-) -> Result<(), Fault>
+fn run_any(alloc: Global, arrays: &[&AnyArray], plan: &Plan, out: &mut String) -> Result<(), Fault>
     requires some { 0 < length arrays.now }
     requires one_type { AreOfOneType (layouts_in arrays.now) }
 {
     if plan.is_consumed {
         return Err(Fault::Usage);
     }
-    let made = make_growable(alloc, arrays, plan.use_validity, plan.capacity);
-    run_made(alloc, made, arrays, plan, out)
-}
-
-/// Takes the steps over a growable of these arrays, if it was made.
-fn run_made<'a, G: Growable<'a> + Drop>(
-    alloc: Global,
-    made: Result<G, Error>,
-    arrays: &[&AnyArray],
-    plan: &Plan<'_>,
-    out: &mut String,
-) -> Result<(), Fault>
-    requires { IfOk made (λ growable. TakesRowsOf (layouts_in arrays.now) (G.state growable)) }
-{
-    let mut growable = made?;
-    take_steps(alloc, &mut growable, arrays, plan, out)
+    let mut growable = make_growable(alloc, arrays, plan.use_validity, plan.capacity)?;
+    run_actions(&mut growable, arrays, &plan.actions, out)
 }

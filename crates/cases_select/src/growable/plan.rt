@@ -1,0 +1,95 @@
+//! What a line asks of a growable: how it is made, and the steps.
+
+use arrow_text::call::Call;
+use arrow_text::fault::Fault;
+use arrow_text::piece::Piece;
+use std::alloc::Global;
+
+/// What is asked of a growable.
+#[derive(Clone, Copy)]
+pub(super) enum Action {
+    /// Rows of the array at an index: a first row, and how many.
+    Extend(usize, usize, usize),
+    ExtendValidity(usize),
+    Len,
+    AsBox,
+    IntoArray,
+}
+
+/// How a growable is made, and what is asked of it.
+#[derive(Drop)]
+pub(super) struct Plan {
+    pub use_validity: bool,
+    pub capacity: usize,
+    pub actions: Vec<Action>,
+    /// Whether it becomes an array at the end.
+    pub is_consumed: bool,
+}
+
+impl Plan {
+    /// Reads the first two arguments, and the steps behind a colon.
+    pub(super) fn read(alloc: Global, call: &Call<'_>, steps: &[Piece<'_>]) -> Result<Plan, Fault> {
+        let use_validity = call.argument(0)?.truth()?;
+        let capacity = call.integer(1)?;
+        let mut actions = read_actions(alloc, steps)?;
+        let is_consumed = matches!(actions.last(), Some(Action::IntoArray));
+        if is_consumed {
+            let _ = actions.pop();
+        }
+        Ok(Plan {
+            use_validity,
+            capacity,
+            actions,
+            is_consumed,
+        })
+    }
+}
+
+/// The steps, in order.
+fn read_actions(alloc: Global, steps: &[Piece<'_>]) -> Result<Vec<Action>, Fault> {
+    let mut actions = Vec::new(alloc);
+    for step in steps {
+        actions.push(read_action(alloc, *step)?)?;
+    }
+    Ok(actions)
+}
+
+/// One step.
+fn read_action(alloc: Global, piece: Piece<'_>) -> Result<Action, Fault> {
+    let step = piece.step(alloc)?;
+    match step.name {
+        "extend" => read_extend(&step.arguments),
+        "extend_validity" => read_extend_validity(&step.arguments),
+        "len" => without_arguments(&step.arguments, Action::Len),
+        "as_box" => without_arguments(&step.arguments, Action::AsBox),
+        "into_array" => without_arguments(&step.arguments, Action::IntoArray),
+        _ => Err(Fault::Usage),
+    }
+}
+
+/// Rows of an array.
+fn read_extend(arguments: &[Piece<'_>]) -> Result<Action, Fault> {
+    match arguments {
+        [index, start, len] => {
+            Ok(Action::Extend(index.integer()?, start.integer()?, len.integer()?))
+        }
+        _ => Err(Fault::Usage),
+    }
+}
+
+/// Null slots.
+fn read_extend_validity(arguments: &[Piece<'_>]) -> Result<Action, Fault> {
+    match arguments {
+        [additional] => Ok(Action::ExtendValidity(additional.integer()?)),
+        _ => Err(Fault::Usage),
+    }
+}
+
+/// A step that has no arguments.
+fn without_arguments(arguments: &[Piece<'_>], action: Action) -> Result<Action, Fault> {
+    if arguments.is_empty() {
+        Ok(action)
+    } else {
+        Err(Fault::Usage)
+    }
+}
