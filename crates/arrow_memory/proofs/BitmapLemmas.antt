@@ -7,7 +7,7 @@ use Rattle.std.specs.Cmp.Lexicographic.{pointwise, pointwise_decides}
 use Rattle.std.specs.Int.{bit_at}
 use Rattle.std.specs.List.{count_by}
 use Rattle.std.proofs.lemmas.Bool.{cases_lt}
-use Rattle.std.proofs.lemmas.List.{length-replicate, ext_get_or, get_or-take, get_or-drop, get_or_append_left, get_or_push, length-append, take_all, take_at, drop_at, take_min, drop_min, drop-drop}
+use Rattle.std.proofs.lemmas.List.{length-replicate, ext_get_or, get_or-replicate, get_or-take, get_or-drop, get_or_append_left, get_or_push, length-append, take_all, take_at, drop_at, take_min, drop_min, drop-drop}
 use Rattle.std.proofs.lemmas.List.Sums.{sum_by-cons}
 use Rattle.std.proofs.lemmas.Nat.Bits.{shr_and_one, bit_at-zero}
 use Rattle.std.proofs.lemmas.Option.{slice_get-get_or}
@@ -149,6 +149,15 @@ pub bits_in-zeros : (words : List ℕ) (len : ℕ) → ((k : ℕ) → slice_inde
 bits_in-zeros words len each =
     let seen = bits_in_is words (replicate len false) (λ i h. ap (λ word. bit_at word (i % 64) == 1) (each (i / 64)) ∙ (ap (λ x. x == 1) (bit_at-zero (i % 64)) ∙ sym (get_or-replicate_same len i))) in
     subst (λ n. bits_in words 0 n ≡ replicate len false) (length-replicate len false) seen
+
+-- words of equal bits hold such bits
+pub bits_in-constant : (words : List ℕ) (value : Bool) (n word len : ℕ) → words ≡ replicate n word → len ≤ 64 * n → word ≡ word_of (replicate 64 value) → bits_in words 0 len ≡ replicate len value
+bits_in-constant words value n word len all within is =
+    subst (λ m. bits_in words 0 m ≡ replicate len value) (length-replicate len value) (bits_in_is words (replicate len value) (λ i h.
+    let below : i < len = omega (arith, h, length-replicate len value) in
+    let in_word : i % 64 < 64 = omega arith in
+    let read : slice_index words (i / 64) ≡ word = ap (λ xs. slice_index xs (i / 64)) all ∙ get_or-replicate n (i / 64) word 0 (omega (arith, below, within)) in
+    ap (λ w. bit_at w (i % 64) == 1) (read ∙ is) ∙ (bit_of-word_of (replicate 64 value) (i % 64) ∙ (get_or-replicate 64 (i % 64) value false in_word ∙ sym (get_or-replicate len i value false below)))))
 
 -- ---- one word of the bits
 

@@ -2,10 +2,10 @@
 use Rattle.std.proofs.Common.{◌≡◌, ℕ, ◌+◌, ◌-◌, ◌*◌, ◌/◌, ◌%◌, ◌^◌, ◌<◌, ◌≤◌, min, max, map, zero, suc, w64, ◌&&◌, ◌||◌, Bool, false, not, List, [], ◌∷◌, length, get_or, refl, ap, sym, ◌∙◌, arith, slice_index, inl, inr}
 use Rattle.std.specs.Prelude.{◌==◌, bit_and, bit_or, set}
 use Rattle.std.specs.Int.{bit_at, bit_not}
-use Rattle.std.proofs.lemmas.Bool.{cases_eq, cases_lt}
+use Rattle.std.proofs.lemmas.Bool.{cases_eq}
 use Rattle.std.proofs.lemmas.Bool.Decides.{nat_tests}
 use Rattle.std.proofs.lemmas.List.{get_or-set_same, get_or-set_other, length-map}
-use Rattle.std.proofs.lemmas.Nat.Bits.{bit_at_above, bit_at_and, bit_at_or, bit_at_not, bit_at-lt}
+use Rattle.std.proofs.lemmas.Nat.Bits.{bit_at_and, bit_at_or, bit_at_not, bit_at-lt}
 use Rattle.arrow_memory.specs.Bits.{paired}
 use Rattle.arrow_memory.specs.Words.{is_set, bits_in, word_of}
 use Rattle.arrow_memory.proofs.BitmapLemmas.{bit_of-word_of, bits_in_is}
@@ -31,13 +31,9 @@ or_each a b k = ap (λ x. x == 1) (bit_at_or a b k) ∙ max_is (bit_at a k) (bit
 pub not_each : (a k : ℕ) → a < 2 ^ 64 → k < 64 → (bit_at (bit_not w64 a) k == 1) ≡ not (bit_at a k == 1)
 not_each a k small below = ap (λ x. x == 1) (bit_at_not w64 a k small below) ∙ turned_is (bit_at a k) (bit_at-lt a k)
 
--- past a word's 64 bits none of the first is set
-pub and_not_each : (a b k : ℕ) → a < 2 ^ 64 → b < 2 ^ 64 → (bit_at (bit_and a (bit_not w64 b)) k == 1) ≡ ((bit_at a k == 1) && not (bit_at b k == 1))
-and_not_each a b k small other =
-    and_each a (bit_not w64 b) k ∙ (elim (cases_lt k 64) as (λ _. ((bit_at a k == 1) && (bit_at (bit_not w64 b) k == 1)) ≡ ((bit_at a k == 1) && not (bit_at b k == 1))) [
-      | inl below ↦ ap (λ bit. (bit_at a k == 1) && bit) (not_each b k other below)
-      | inr past ↦ let unset : (bit_at a k == 1) ≡ false = ap (λ x. x == 1) (bit_at_above a 64 k small past) in rw unset refl
-    ])
+pub and_not_each : (a b k : ℕ) → b < 2 ^ 64 → k < 64 → (bit_at (bit_and a (bit_not w64 b)) k == 1) ≡ ((bit_at a k == 1) && not (bit_at b k == 1))
+and_not_each a b k small below =
+    and_each a (bit_not w64 b) k ∙ ap (λ bit. (bit_at a k == 1) && bit) (not_each b k small below)
 
 -- ---- one word after the other
 
@@ -72,12 +68,12 @@ bit_from words from i =
 
 -- one word more, given with that of others
 pub combines_more : (bits : Bool → Bool → Bool) (old words others : List ℕ) (from j left right value : ℕ) → GivesUpTo (λ bit i. bits bit (is_set others (from + i))) old words j → j < length words → left ≡ slice_index words j → right ≡ word_of (bits_in others (from + 64 * j) 64)
-    → ((k : ℕ) → (bit_at value k == 1) ≡ bits (bit_at left k == 1) (bit_at right k == 1)) → GivesUpTo (λ bit i. bits bit (is_set others (from + i))) old (set words j value) (j + 1)
+    → ((k : ℕ) → k < 64 → (bit_at value k == 1) ≡ bits (bit_at left k == 1) (bit_at right k == 1)) → GivesUpTo (λ bit i. bits bit (is_set others (from + i))) old (set words j value) (j + 1)
 combines_more bits old words others from j left right value before within left_is right_is gives =
     gives_more (λ bit i. bits bit (is_set others (from + i))) old words j value before within (λ i here.
     let here_left : (bit_at left (i % 64) == 1) ≡ is_set words i = ap (λ w. bit_at w (i % 64) == 1) (left_is ∙ ap (slice_index words) (sym here)) in
     let here_right : (bit_at right (i % 64) == 1) ≡ is_set others (from + i) = ap (λ w. bit_at w (i % 64) == 1) (right_is ∙ ap (λ q. word_of (bits_in others (from + 64 * q) 64)) (sym here)) ∙ bit_from others from i in
-    gives (i % 64) ∙ (λ t. bits (here_left t) (here_right t)))
+    gives (i % 64) (omega arith) ∙ (λ t. bits (here_left t) (here_right t)))
 
 -- ---- lists of bits
 

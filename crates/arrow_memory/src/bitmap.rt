@@ -11,11 +11,13 @@ ghost use Rattle.arrow_memory.specs.Sliced.{sliced};
 ghost use Rattle.arrow_memory.specs.Words.{bits_in, word_of, AppendsBits};
 
 mod bitmap_ops;
+mod collect;
 mod mutable;
 mod runs;
 
 pub use crate::words::WORD_BITS;
-use crate::words::{append_bits, bits_from, count_ones, pack, word_within};
+pub use crate::words::logic::Logic;
+use crate::words::{append_bits, bits_from, count_ones, equal_bits, pack, word_within};
 use arrow_types::error::Error;
 pub use mutable::MutableBitmap;
 pub use runs::BitRuns;
@@ -79,6 +81,18 @@ impl Bitmap {
         ensures err { IsOkUnless result Error.OutOfMemory }
     {
         let words = vec![in alloc; 0; len.div_ceil(WORD_BITS)]?;
+        Bitmap::from_words(alloc, words, len)
+    }
+
+    /// So many bits that are equal to `value`.
+    ///
+    /// # Errors
+    /// `OutOfMemory` as of [`Bitmap::new_zeroed`].
+    pub fn new_constant(alloc: Global, value: bool, len: usize) -> Result<Bitmap, Error>
+        ensures ok { IfOk result (λ bitmap. bitmap ≡ replicate len value) }
+        ensures err { IsOkUnless result Error.OutOfMemory }
+    {
+        let words = vec![in alloc; equal_bits(WORD_BITS, value); len.div_ceil(WORD_BITS)]?;
         Bitmap::from_words(alloc, words, len)
     }
 

@@ -117,7 +117,7 @@ pub(crate) fn across(low: u64, high: u64, shift: usize) -> u64
 }
 
 /// A word of so many equal bits, with zeros above.
-fn equal_bits(count: usize, bit: bool) -> u64
+pub(crate) fn equal_bits(count: usize, bit: bool) -> u64
     requires { count ≤ 64 }
     ensures { result ≡ word_of (replicate count bit) }
 {

@@ -18,7 +18,7 @@ pub(crate) struct And;
 impl Logic for And {
     ghost bits = { λ x y. x && y };
 
-    fn of(left: u64, right: u64) -> u64 {
+    fn of_words(left: u64, right: u64) -> u64 {
         left & right
     }
 }
@@ -29,7 +29,7 @@ pub(crate) struct AndNot;
 impl Logic for AndNot {
     ghost bits = { λ x y. x && not y };
 
-    fn of(left: u64, right: u64) -> u64 {
+    fn of_words(left: u64, right: u64) -> u64 {
         left & !right
     }
 }
@@ -40,7 +40,7 @@ pub(crate) struct Or;
 impl Logic for Or {
     ghost bits = { λ x y. x || y };
 
-    fn of(left: u64, right: u64) -> u64 {
+    fn of_words(left: u64, right: u64) -> u64 {
         left | right
     }
 }
@@ -104,8 +104,14 @@ impl Bitmap {
         Bitmap::from_words(alloc, words, self.len())
     }
 
-    /// What each bit gives with the other's.
-    fn combined<L: Logic>(&self, alloc: Global, other: &Bitmap) -> Result<Bitmap, Error>
+    /// What each bit gives with the other's, word by word.
+    ///
+    /// # Requires
+    /// Both have as many bits.
+    ///
+    /// # Errors
+    /// `OutOfMemory` as of [`Bitmap::new_zeroed`].
+    pub fn combined<L: Logic>(&self, alloc: Global, other: &Bitmap) -> Result<Bitmap, Error>
         requires { length self.now ≡ length other.now }
         ensures ok { IfOk result (λ bitmap. bitmap ≡ paired L.bits self.now other.now) }
         ensures err { IsOkUnless result Error.OutOfMemory }

@@ -6,13 +6,13 @@ ghost use Rattle.arrow_memory.specs.Words.{is_set};
 
 use crate::words::{WORD_BITS, across, word_from};
 
-/// What two bits give.
-pub(crate) trait Logic {
+/// What two bits give, known when the program is compiled. Of a word it tells all 64 at once.
+pub trait Logic {
     ghost bits: { Bool → Bool → Bool };
 
     /// What each bit of a word gives with the other's.
-    fn of(left: u64, right: u64) -> u64
-        ensures { (k : ℕ) → (bit_at result k == 1) ≡ bits (bit_at left k == 1) (bit_at right k == 1) };
+    fn of_words(left: u64, right: u64) -> u64
+        ensures { (k : ℕ) → k < 64 → (bit_at result k == 1) ≡ bits (bit_at left k == 1) (bit_at right k == 1) };
 }
 
 /// What the second of two bits is.
@@ -21,7 +21,7 @@ pub(super) struct Second;
 impl Logic for Second {
     ghost bits = { λ x y. y };
 
-    fn of(_left: u64, right: u64) -> u64 {
+    fn of_words(_left: u64, right: u64) -> u64 {
         right
     }
 }
@@ -38,10 +38,10 @@ pub(crate) fn combine<L: Logic>(words: &mut [u64], others: &[u64], from: usize)
     };
     let (first, shift) = (from / WORD_BITS, from % WORD_BITS);
     for j in 0..last {
-        words[j] = L::of(
+        words[j] = L::of_words(
             words[j],
             across(others[first + j], others[first + j + 1], shift),
         );
     }
-    words[last] = L::of(words[last], word_from(others, from + WORD_BITS * last));
+    words[last] = L::of_words(words[last], word_from(others, from + WORD_BITS * last));
 }

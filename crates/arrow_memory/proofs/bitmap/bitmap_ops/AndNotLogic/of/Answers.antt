@@ -1,6 +1,0 @@
-use Rattle.arrow_memory.proofs.LogicLemmas.{and_not_each}
-use Rattle.arrow_memory.proofs.bitmap.bitmap_ops.AndNotLogic.of.Goals as goal
-
-pub returns : goal.returns
-returns c k =
-    and_not_each c.args.left c.args.right k c.ranges.left.fits c.ranges.right.fits

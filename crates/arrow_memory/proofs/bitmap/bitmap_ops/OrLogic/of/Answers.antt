@@ -1,5 +1,0 @@
-use Rattle.arrow_memory.proofs.LogicLemmas.{or_each}
-use Rattle.arrow_memory.proofs.bitmap.bitmap_ops.OrLogic.of.Goals as goal
-
-pub returns : goal.returns
-returns c = or_each c.args.left c.args.right

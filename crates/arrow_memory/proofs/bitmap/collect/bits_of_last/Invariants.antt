@@ -1,0 +1,6 @@
+use Rattle.arrow_memory.specs.Gathered.{GathersBits}
+use Rattle.arrow_memory.proofs.bitmap.collect.bits_of_last.Given as goal
+
+-- the word holds the bits so far
+abbrev pub invariant-loop-k : goal.invariant-loop-k
+invariant-loop-k g l = GathersBits (goal.F-post g l.test) l.start l.k l.word
