@@ -1,6 +1,5 @@
 pub mod AnswerLemmas
 pub mod ConnectiveLemmas
-pub mod EqualLemmas
 pub mod KeptLemmas
 pub mod LawLemmas
 pub mod LayoutLemmas
@@ -9,6 +8,7 @@ pub mod MaskedLemmas
 pub mod NullLemmas
 pub mod NullRowLemmas
 pub mod NullifLemmas
+pub mod PairLemmas
 pub mod PartLemmas
 pub mod SameLemmas
 pub mod ScalarLemmas

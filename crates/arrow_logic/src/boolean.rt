@@ -15,7 +15,7 @@ ghost use Rattle.arrow_logic.specs.Connective.{slot_by};
 ghost use Rattle.arrow_logic.specs.RowByRow.{row_by_row};
 
 use crate::connective::Connective;
-use crate::truths::{equal_bits, truths};
+use crate::truths::truths;
 use crate::utils::combine_validities;
 use crate::validity::shared;
 use arrow_arrays::array::AnyArray;
@@ -124,7 +124,7 @@ pub fn is_null(alloc: Global, input: &AnyArray) -> Result<BooleanArray, Error>
     ensures err { IsOkUnless result Error.OutOfMemory }
 {
     let nulls = match input.validity() {
-        None => equal_bits(alloc, is_of_nulls(input), input.len())?,
+        None => Bitmap::new_constant(alloc, is_of_nulls(input), input.len())?,
         Some(validity) => validity.not(alloc)?,
     };
     Ok(truths(nulls, None))
@@ -142,7 +142,7 @@ pub fn is_not_null(alloc: Global, input: &AnyArray) -> Result<BooleanArray, Erro
     ensures err { IsOkUnless result Error.OutOfMemory }
 {
     let valid = match input.validity() {
-        None => equal_bits(alloc, !is_of_nulls(input), input.len())?,
+        None => Bitmap::new_constant(alloc, !is_of_nulls(input), input.len())?,
         Some(validity) => validity.clone()?,
     };
     Ok(truths(valid, None))
@@ -222,7 +222,7 @@ fn connect_scalar(
     let len = array.len();
     match scalar {
         Some(value) if value == connective.decider() => {
-            let values = equal_bits(alloc, value, len)?;
+            let values = Bitmap::new_constant(alloc, value, len)?;
             Ok(truths(values, shared(array.validity())?))
         }
         Some(_) => Ok(truths(array.values().clone()?, shared(array.validity())?)),

@@ -13,7 +13,7 @@ ghost use Rattle.arrow_logic.specs.Validities.{combined};
 
 use crate::boolean;
 use crate::connective::Connective;
-use crate::truths::{equal_bits, truths};
+use crate::truths::truths;
 use crate::utils::combine_validities;
 use crate::validity::shared;
 use arrow_flat::array::BooleanArray;
@@ -165,7 +165,7 @@ fn connect_scalar(
     let len = array.len();
     match scalar {
         Some(value) if value == connective.decider() => {
-            Ok(truths(equal_bits(alloc, value, len)?, None))
+            Ok(truths(Bitmap::new_constant(alloc, value, len)?, None))
         }
         Some(_) => Ok(truths(array.values().clone()?, shared(array.validity())?)),
         // What decides is known; the values beneath it are that one.

@@ -1,15 +1,12 @@
 //! Arrays of truth values that are made of bits.
 
-ghost use Rattle.std.specs.Prelude.{◌≡◌, length, replicate, IfOk, IsOkUnless};
-ghost use Rattle.arrow_types.specs.declared.error.Error.{Error};
+ghost use Rattle.std.specs.Prelude.{◌≡◌, length};
 ghost use Rattle.arrow_types.specs.ArrowType.{boolean, plain};
 ghost use Rattle.arrow_flat.specs.Parts.{FitsRows};
 
 use arrow_flat::array::BooleanArray;
-use arrow_memory::bitmap::{Bitmap, MutableBitmap};
+use arrow_memory::bitmap::Bitmap;
 use arrow_types::datatypes::DataType;
-use arrow_types::error::Error;
-use std::alloc::Global;
 
 /// An array of type Boolean. It takes no memory.
 ///
@@ -23,17 +20,4 @@ pub fn truths(values: Bitmap, validity: Option<Bitmap>) -> BooleanArray
         unreachable!();
     };
     array
-}
-
-/// A bit so many times.
-///
-/// # Errors
-/// `OutOfMemory` where memory is refused.
-pub fn equal_bits(alloc: Global, bit: bool, len: usize) -> Result<Bitmap, Error>
-    ensures ok { IfOk result (λ bits. bits ≡ replicate len bit) }
-    ensures err { IsOkUnless result Error.OutOfMemory }
-{
-    let mut bits = MutableBitmap::with_capacity(alloc, len)?;
-    bits.extend_constant(len, bit)?;
-    bits.into_bitmap()
 }

@@ -15,12 +15,12 @@ truths-requires-in-None c =
     let deciding = ap length c.in_ok-deciding-in-None.ensures.ok ∙ length-map (boolean_rows array) (decides c.args.connective) in
     omega (arith, deciding, ap length values, c.len-len.ensures.rows, c.len-len.ensures.values, length-map array.values Boolean)
 
-pub returns-in_ok-equal_bits-in-Some-clause-rows : goal.returns-in_ok-equal_bits-in-Some-clause-rows
-returns-in_ok-equal_bits-in-Some-clause-rows c =
+pub returns-in_ok-new_constant-in-Some-clause-rows : goal.returns-in_ok-new_constant-in-Some-clause-rows
+returns-in_ok-new_constant-in-Some-clause-rows c =
     let array = c.args.array.now in
     let value = c.in-Some.value in
     let is : value ≡ decider c.args.connective = search rules in
-    ap boolean_rows c.truths.ensures ∙ (ap (map Boolean) c.in_ok-equal_bits-in-Some.ensures.ok ∙ (kleene_decided_rows c.args.connective array.validity array.values value c.len-len.result is c.len-len.ensures.rows
+    ap boolean_rows c.truths.ensures ∙ (ap (map Boolean) c.in_ok-new_constant-in-Some.ensures.ok ∙ (kleene_decided_rows c.args.connective array.validity array.values value c.len-len.result is c.len-len.ensures.rows
     ∙ ap (λ o. map (λ s. kleene_by c.args.connective s (scalar_slot Boolean o)) (boolean_rows array)) (sym c.in-Some.is)))
 
 pub returns-in_ok-shared-in-Some-2-clause-rows : goal.returns-in_ok-shared-in-Some-2-clause-rows

@@ -1,13 +1,15 @@
-use Rattle.std.proofs.Common.{◌∙◌}
-use Rattle.arrow_logic.proofs.EqualLemmas.{counted, values_behind}
+use Rattle.std.proofs.Common.{rules, map}
+use Rattle.std.proofs.lemmas.List.{get_or-map, length-map}
+use Rattle.std.proofs.lemmas.Result.{IfOk-weaker}
+use Rattle.arrow_logic.proofs.PairLemmas.{answered_bits}
 use Rattle.arrow_logic.proofs.nullif.equal.equal_to_value.Goals as goal
 
-pub loop-chunk-preserved : goal.loop-chunk-preserved
-loop-chunk-preserved g c =
-    let steps = c.in-Some.ensures.steps in
-    let so_far = c.loop-chunk.invariant in
-    record {
-      split = values_behind (λ x. g.T.PartialEq.eq x c.args.other) _ _ _ c.in-Some.chunk.now _ _ c.equal_to_word.ensures c.in_ok-push_word.ensures.ok steps.1.0 ∙ so_far.split;
-      count = counted _ _ _ c.in-Some.chunk.now _ _ _ c.in_ok-push_word.ensures.ok steps.1.0 so_far.count;
-      size = steps.0 ∙ so_far.size;
-    }
+pub returns-clause-ok : goal.returns-clause-ok
+returns-clause-ok g c =
+    let equals = λ (x : g.row.T.Denot). g.T.PartialEq.eq x c.args.other in
+    let long = length-map c.args.values.now equals in
+    answered_bits c.collect_bool.result _ _ (map equals c.args.values.now) long (λ row bit within answered. search (rules, get_or-map)) c.collect_bool.ensures.ok
+
+pub returns-clause-count : goal.returns-clause-count
+returns-clause-count g c =
+    IfOk-weaker c.collect_bool.result _ _ (λ bits answers. answers.count) c.collect_bool.ensures.ok
