@@ -1,6 +1,6 @@
--- Relations of rows of bytes: whether two are equal, rows that are lent as slices, and what is answered to rows.
-use Rattle.std.proofs.Common.{◌≡◌, ℕ, ◌<◌, ℤ, pos, Bool, true, false, Some, List, length, map, get_or, slice_index, unsigned_abs, refl, ap, sym, subst, ◌∙◌, arith}
-use Rattle.std.specs.Prelude.{Result, Ok, Err, IfOk, option_map, slice_get, nat_eq}
+-- Relations of rows of bytes: whether two are equal, and rows that are lent as slices.
+use Rattle.std.proofs.Common.{◌≡◌, ℕ, ◌<◌, ℤ, pos, Bool, true, false, Some, List, length, map, get_or, slice_index, unsigned_abs, refl, ap, sym, subst, ◌∙◌}
+use Rattle.std.specs.Prelude.{option_map, slice_get, nat_eq}
 use Rattle.std.specs.Bool.{Decides}
 use Rattle.std.specs.Ordering.{is_eq}
 use Rattle.std.specs.Str.{bytes_eq}
@@ -15,7 +15,6 @@ use Rattle.arrow_memory.proofs.OffsetLemmas.{as_seen, number_at}
 use Rattle.arrow_flat.specs.ByteRows.{ByteParts, AreByteRows}
 use Rattle.arrow_logic.specs.RowByRow.{row_by_row}
 use Rattle.arrow_relate.specs.LentRows.{AreLentRows, lent_parts}
-use Rattle.arrow_relate.specs.Words.{AnswersRows}
 use Rattle.arrow_relate.proofs.RowLemmas.{read-row_by_row}
 
 -- ---- whether two rows have the same bytes
@@ -68,9 +67,3 @@ given_at slot give xs ys i x y bit left right is =
 pub given_of : (slot : List ℕ → Slot) (give : Slot → Slot) (xs : List (List ℕ)) (i : ℕ) (x : List ℕ) (bit : Bool) → slice_get xs i ≡ Some x → Boolean bit ≡ give (slot x) → slice_get (map give (map slot xs)) i ≡ Some (Boolean bit)
 given_of slot give xs i x bit read is =
     slice_get-map give (map slot xs) i ∙ (ap (option_map give) (slot_at slot xs i x read) ∙ ap Some (sym is))
-
--- bits that are answered to rows are those rows
-pub answered_rows : {E : Type 0} (r : Result (List Bool) E) (answered : ℕ → Bool → Type 0) (len : ℕ) (rows : List Slot) → length rows ≡ len → ((row : ℕ) (bit : Bool) → row < len → answered row bit → slice_get rows row ≡ Some (Boolean bit)) → IfOk r (λ bits. AnswersRows answered len bits) → IfOk r (λ bits. map Boolean bits ≡ rows)
-answered_rows (Ok bits) answered len rows long each all =
-    all rows long (λ row bit within known. each row bit (omega (arith, within, long)) known)
-answered_rows (Err e) answered len rows long each all = tt

@@ -17,7 +17,8 @@ use Rattle.arrow_flat.proofs.PartsLemmas.{length-masked, row_at}
 use Rattle.arrow_logic.specs.RowByRow.{row_by_row}
 use Rattle.arrow_memory.proofs.LogicLemmas.{and_each, not_each, or_each}
 use Rattle.arrow_relate.specs.Finished.{finished}
-use Rattle.arrow_relate.proofs.RowLemmas.{get_or-row_by_row, length-row_by_row, row_by_row-replicate}
+use Rattle.arrow_logic.proofs.PairLemmas.{get_or-row_by_row, length-row_by_row}
+use Rattle.arrow_relate.proofs.RowLemmas.{row_by_row-replicate}
 use Rattle.arrow_relate.proofs.TruthLemmas.{is_one, not_equal_word, relates}
 
 -- ---- one row at a time
@@ -35,6 +36,15 @@ finished_at give bits v w i b p q within bit left right =
     let below : i < length rows = omega (arith, within, length-map bits Boolean) in
     let read = get_or-finished give rows v w i Null below ∙ (λ t. give ((get_or-map Boolean bits i false Null within ∙ ap Boolean (sym bit)) t) (sym left t) (sym right t)) in
     slice_get-get_or (finished give rows v w) i Null (omega (arith, below, length-finished give rows v w)) ∙ ap Some read
+
+-- where all rows are valid
+pub finished_valid : (give : Slot → Bool → Bool → Slot) → ((b : Bool) → give (Boolean b) true true ≡ Boolean b) → (bits : List Bool) (v w : Option (List Bool)) → v ≡ None → w ≡ None → map Boolean bits ≡ finished give (map Boolean bits) v w
+finished_valid give valid bits v w left right =
+    let rows = map Boolean bits in
+    rw (left, right) (same_lists rows (finished give rows None None) (sym (length-finished give rows None None)) (λ i d within.
+    let below : i < length bits = omega (arith, within, length-map bits Boolean) in
+    let read = get_or-map Boolean bits i false Null below in
+    get_or-map Boolean bits i false d below ∙ sym (get_or-finished give rows None None i d within ∙ (ap (λ s. give s true true) read ∙ valid (get_or bits i false)))))
 
 -- ---- all rows
 

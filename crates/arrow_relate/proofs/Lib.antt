@@ -1,4 +1,5 @@
 pub mod ByteLemmas
+pub mod ChunkLemmas
 pub mod FinishLemmas
 pub mod NullLemmas
 pub mod RowLemmas

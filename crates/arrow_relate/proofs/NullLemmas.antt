@@ -10,7 +10,7 @@ use Rattle.arrow_flat.proofs.PartsLemmas.{length-masked}
 use Rattle.arrow_logic.specs.RowByRow.{row_by_row}
 use Rattle.arrow_logic.specs.Validities.{combined}
 use Rattle.arrow_logic.proofs.MaskedLemmas.{fits_combined, map-masked}
-use Rattle.arrow_relate.proofs.RowLemmas.{length-row_by_row}
+use Rattle.arrow_logic.proofs.PairLemmas.{length-row_by_row}
 
 module _ (give : Slot → Slot → Slot) (left_null : (s : Slot) → give Null s ≡ Null) (right_null : (s : Slot) → give s Null ≡ Null) where
   left_masked : (vs : List Bool) (xs ys : List Slot) → row_by_row give (mask vs xs) ys ≡ mask vs (row_by_row give xs ys)

@@ -1,17 +1,18 @@
 -- What each pair of members of two lists gives, one pair at a time.
-use Rattle.std.proofs.Common.{◌≡◌, ◌∙◌, ℕ, zero, suc, get_or, ◌<◌, Bool, Some, List, [], ◌∷◌, length, map, replicate, arith, ap, sym, refl}
-use Rattle.std.specs.Prelude.{Result, Ok, Err, IfOk, slice_get}
+use Rattle.std.proofs.Common.{◌≡◌, ◌∙◌, ℕ, zero, suc, get_or, ◌<◌, Bool, true, false, Some, List, [], ◌∷◌, if◌then◌else◌, length, map, replicate, arith, ap, sym, refl}
+use Rattle.std.specs.Prelude.{Result, IfOk, slice_get}
+use Rattle.std.specs.Bool.{beq}
+use Rattle.std.specs.Ordering.{bool_cmp}
 use Rattle.std.proofs.lemmas.List.{get_or-map, length-map}
 use Rattle.std.proofs.lemmas.Option.{slice_get-get_or}
-use Rattle.arrow_types.specs.Relation.{Relation, related}
+use Rattle.std.proofs.lemmas.Simd.{map-map}
+use Rattle.arrow_types.specs.Relation.{Relation, bool_order, related}
 use Rattle.arrow_types.specs.Slot.{Slot, Boolean}
 use Rattle.arrow_logic.specs.RowByRow.{row_by_row}
-use Rattle.arrow_relate.specs.Words.{AnswersRows}
-
-pub length-row_by_row : {A B C : Type 0} (give : A → B → C) (xs : List A) (ys : List B) → length xs ≡ length ys → length (row_by_row give xs ys) ≡ length xs
-length-row_by_row give [] ys same = refl
-length-row_by_row give (x ∷ xs) [] same = absurd (omega (arith, same))
-length-row_by_row give (x ∷ xs) (y ∷ ys) same = ap suc (length-row_by_row give xs ys (omega (arith, same)))
+use Rattle.arrow_logic.proofs.PairLemmas.{length-row_by_row}
+use Rattle.arrow_memory.specs.Bits.{paired}
+use Rattle.arrow_memory.specs.Gathered.{AnswersBits}
+use Rattle.arrow_relate.proofs.WordLemmas.{answered_rows}
 
 pub read-row_by_row : {A B C : Type 0} (give : A → B → C) (xs : List A) (ys : List B) (i : ℕ) (x : A) (y : B) → slice_get xs i ≡ Some x → slice_get ys i ≡ Some y → slice_get (row_by_row give xs ys) i ≡ Some (give x y)
 read-row_by_row give [] ys i x y left right = cc
@@ -29,20 +30,17 @@ pub read_related : {T : Type 0} (op : Relation) (slot : T → Slot) (xs ys : Lis
 read_related op slot xs ys row x y bit same within left right is =
     read-row_by_row (related op) (map slot xs) (map slot ys) row (slot x) (slot y) (read_slot slot xs row x x within left) (read_slot slot ys row y y (omega (arith, within, same)) right) ∙ ap Some (sym is)
 
--- bits that are answered to their rows
-pub related_rows : {T E : Type 0} (r : Result (List Bool) E) (answered : ℕ → Bool → Type 0) (op : Relation) (slot : T → Slot) (xs ys : List T) → length xs ≡ length ys → ((row : ℕ) (bit : Bool) → row < length xs → answered row bit → slice_get (row_by_row (related op) (map slot xs) (map slot ys)) row ≡ Some (Boolean bit)) → IfOk r (λ bits. AnswersRows answered (length xs) bits) → IfOk r (λ bits. map Boolean bits ≡ row_by_row (related op) (map slot xs) (map slot ys))
-related_rows (Ok bits) answered op slot xs ys same each all =
+-- what a function makes of the slot of a value
+pub read_mapped : {T : Type 0} (by : Slot → Slot) (slot : T → Slot) (xs : List T) (row : ℕ) (x : T) (bit : Bool) → row < length xs → x ≡ get_or xs row x → Boolean bit ≡ by (slot x) → slice_get (map by (map slot xs)) row ≡ Some (Boolean bit)
+read_mapped by slot xs row x bit within left is =
+    ap (λ rows. slice_get rows row) (map-map by slot xs) ∙ (read_slot (λ x. by (slot x)) xs row x x within left ∙ ap Some (sym is))
+
+-- bits that were answered of their rows
+pub related_rows : {T E : Type 0} (r : Result (List Bool) E) (answered : ℕ → Bool → Type 0) (op : Relation) (slot : T → Slot) (xs ys : List T) → length xs ≡ length ys → ((row : ℕ) (bit : Bool) → row < length xs → answered row bit → slice_get (row_by_row (related op) (map slot xs) (map slot ys)) row ≡ Some (Boolean bit)) → IfOk r (λ bits. AnswersBits answered (length xs) bits) → IfOk r (λ bits. map Boolean bits ≡ row_by_row (related op) (map slot xs) (map slot ys))
+related_rows r answered op slot xs ys same each all =
     let rows = row_by_row (related op) (map slot xs) (map slot ys) in
     let long : length rows ≡ length xs = length-row_by_row (related op) (map slot xs) (map slot ys) (omega (arith, same, length-map xs slot, length-map ys slot)) ∙ length-map xs slot in
-    all rows long (λ row bit within known. each row bit (omega (arith, within, long)) known)
-related_rows (Err e) answered op slot xs ys same each all = tt
-
--- the same with a member in the place of what is past a list
-pub get_or-row_by_row : {A B C : Type 0} (give : A → B → C) (xs : List A) (ys : List B) (i : ℕ) (a : A) (b : B) (d : C) → i < length xs → length xs ≡ length ys → get_or (row_by_row give xs ys) i d ≡ give (get_or xs i a) (get_or ys i b)
-get_or-row_by_row give [] ys i a b d within same = absurd (omega (arith, within))
-get_or-row_by_row give (x ∷ xs) [] i a b d within same = absurd (omega (arith, same))
-get_or-row_by_row give (x ∷ xs) (y ∷ ys) zero a b d within same = refl
-get_or-row_by_row give (x ∷ xs) (y ∷ ys) (suc i) a b d within same = get_or-row_by_row give xs ys i a b d (omega (arith, within)) (omega (arith, same))
+    answered_rows r answered (length xs) rows long each all
 
 -- one list and a member that is the same for each
 pub row_by_row-replicate : {A B C : Type 0} (give : A → B → C) (xs : List A) (y : B) → row_by_row give xs (replicate (length xs) y) ≡ map (λ x. give x y) xs
@@ -54,3 +52,41 @@ pub map-row_by_row : {A B C D : Type 0} (f : C → D) (give : A → B → C) (xs
 map-row_by_row f give [] ys = refl
 map-row_by_row f give (x ∷ xs) [] = refl
 map-row_by_row f give (x ∷ xs) (y ∷ ys) = ap (λ zs. f (give x y) ∷ zs) (map-row_by_row f give xs ys)
+
+-- what pairs of truth values give, as bits and as rows
+pub rows_of_pairs : (give : Bool → Bool → Bool) (by : Slot → Slot → Slot) → ((x y : Bool) → Boolean (give x y) ≡ by (Boolean x) (Boolean y)) → (xs ys : List Bool) → map Boolean (paired give xs ys) ≡ row_by_row by (map Boolean xs) (map Boolean ys)
+rows_of_pairs give by each [] ys = refl
+rows_of_pairs give by each (x ∷ xs) [] = refl
+rows_of_pairs give by each (x ∷ xs) (y ∷ ys) = (λ i. each x y i ∷ rows_of_pairs give by each xs ys i)
+
+-- the order of two truth values, as std has it
+pub order_of_bits : (x y : Bool) → bool_cmp x y ≡ bool_order x y
+order_of_bits true true = refl
+order_of_bits true false = refl
+order_of_bits false true = refl
+order_of_bits false false = refl
+
+-- the same of each truth value and another one, from what it gives of each of the two
+pub rows_of_bits : (by : Slot → Slot) (unset set : Bool) → Boolean unset ≡ by (Boolean false) → Boolean set ≡ by (Boolean true) → (xs : List Bool) → map Boolean (map (λ bit. if bit then set else unset) xs) ≡ map by (map Boolean xs)
+rows_of_bits by unset set low high [] = refl
+rows_of_bits by unset set low high (true ∷ xs) = (λ i. high i ∷ rows_of_bits by unset set low high xs i)
+rows_of_bits by unset set low high (false ∷ xs) = (λ i. low i ∷ rows_of_bits by unset set low high xs i)
+
+-- bits that stay as they are, and bits that are all alike
+pub kept_bits : (unset set : Bool) → beq unset set ≡ false → set ≡ true → (xs : List Bool) → xs ≡ map (λ bit. if bit then set else unset) xs
+kept_bits true true differ is xs = cc
+kept_bits true false differ is xs = cc
+kept_bits false true differ is [] = refl
+kept_bits false true differ is (true ∷ xs) = ap (λ rest. true ∷ rest) (kept_bits false true differ is xs)
+kept_bits false true differ is (false ∷ xs) = ap (λ rest. false ∷ rest) (kept_bits false true differ is xs)
+kept_bits false false differ is xs = cc
+
+pub equal_bits : (unset set : Bool) → beq unset set ≡ true → (xs : List Bool) → replicate (length xs) set ≡ map (λ bit. if bit then set else unset) xs
+equal_bits true true same [] = refl
+equal_bits true true same (true ∷ xs) = ap (λ rest. true ∷ rest) (equal_bits true true same xs)
+equal_bits true true same (false ∷ xs) = ap (λ rest. true ∷ rest) (equal_bits true true same xs)
+equal_bits true false same xs = cc
+equal_bits false true same xs = cc
+equal_bits false false same [] = refl
+equal_bits false false same (true ∷ xs) = ap (λ rest. false ∷ rest) (equal_bits false false same xs)
+equal_bits false false same (false ∷ xs) = ap (λ rest. false ∷ rest) (equal_bits false false same xs)

@@ -1,3 +1,4 @@
+pub mod Chunked
 pub mod Examples
 pub mod Finished
 pub mod LentRows

@@ -29,11 +29,11 @@ macro_rules! by_relation {
 pub mod binary;
 pub mod boolean;
 mod bytes;
+mod chunked;
 pub mod primitive;
 pub mod utf8;
 
 use crate::fixed::{Equal, NotEqual, Sameness};
-use crate::words::bits_by_words;
 use arrow_flat::array::BooleanArray;
 use arrow_logic::truths::truths;
 use arrow_logic::validity::shared;
@@ -110,13 +110,37 @@ pub(crate) fn finish<E: Sameness>(
     ensures rows { IfOk result (λ array. boolean_rows array ≡ finished E.finishes (boolean_rows out) lhs rhs) }
     ensures err { IsOkUnless result Error.OutOfMemory }
 {
-    let stored = out.values();
-    let bits = bits_by_words(
-        alloc,
-        out.len(),
-        |j| finished_word::<E>(stored, &lhs, &rhs, j),
-    )?;
+    let _ = out.len();
+    let bits = finished_bits::<E>(alloc, out.values(), &lhs, &rhs)?;
     Ok(truths(bits, shared(out.validity())?))
+}
+
+/// The bits of what was compared, each with whether its row of both sides is valid. Without validities they are shared.
+///
+/// # Requires
+/// A validity has a bit for each row.
+///
+/// # Errors
+/// `OutOfMemory` where memory is refused.
+fn finished_bits<E: Sameness>(
+    alloc: Global,
+    stored: &Bitmap,
+    lhs: &Option<Bitmap>,
+    rhs: &Option<Bitmap>,
+) -> Result<Bitmap, Error>
+    requires left { FitsRows lhs.now (length stored.now) }
+    requires right { FitsRows rhs.now (length stored.now) }
+    ensures ok { IfOk result (λ bits. map Boolean bits ≡ finished E.finishes (map Boolean stored.now) lhs.now rhs.now) }
+    ensures err { IsOkUnless result Error.OutOfMemory }
+{
+    if lhs.is_none() && rhs.is_none() {
+        return Ok(stored.clone()?);
+    }
+    Bitmap::collect_words(
+        alloc,
+        stored.len(),
+        |j| finished_word::<E>(stored, lhs, rhs, j),
+    )
 }
 
 /// The answers to the 64 rows from row `64 * j` on, where `stored` has those to what is stored.

@@ -1,18 +1,19 @@
 //! Relations that are known when the program is compiled, so that a loop over rows has no test of which one it is.
 
-ghost use Rattle.std.specs.Prelude.{◌≡◌, ◌<◌, ◌==◌, ℕ, Bool, if◌then◌else◌, refl};
+ghost use Rattle.std.specs.Prelude.{◌≡◌, ◌<◌, ◌==◌, ℕ, Bool, true, if◌then◌else◌, refl};
 ghost use Rattle.std.specs.Int.{bit_at};
 ghost use Rattle.arrow_types.specs.Logic.{finished_eq, finished_neq};
-ghost use Rattle.arrow_types.specs.Relation.{Relation as RowRelation, related, holds};
+ghost use Rattle.arrow_types.specs.Relation.{Relation as RowRelation, bool_order, related, holds};
 ghost use Rattle.arrow_types.specs.Relation as relation;
 ghost use Rattle.arrow_types.specs.Slot.{Slot, Boolean, Null};
 ghost use Rattle.arrow_relate.specs.Same.{differs, is_same};
 
+use arrow_memory::bitmap::Logic;
 use arrow_types::types::{NativeOrd, NativeType};
 use std::cmp::Ordering;
 
-/// One of the six relations, by the order of two values and by the words of two bitmaps.
-pub(crate) trait FixedRelation {
+/// One of the six relations, by the order of two values; and by the words of two bitmaps, where false comes before true.
+pub(crate) trait FixedRelation: Logic {
     // the relation as clauses see it
     ghost op: { RowRelation };
 
@@ -20,9 +21,8 @@ pub(crate) trait FixedRelation {
     fn holds(order: Ordering) -> bool
         ensures { result ≡ holds op order };
 
-    /// Whether it holds of each bit of a word and the other's, where false comes before true.
-    fn of_words(left: u64, right: u64) -> u64
-        ensures { (k : ℕ) → k < 64 → Boolean (bit_at result k == 1) ≡ related op (Boolean (bit_at left k == 1)) (Boolean (bit_at right k == 1)) };
+    // whether it holds of two truth values
+    ghost of_bits: { (x y : Bool) → Boolean (Self.bits x y) ≡ related op (Boolean x) (Boolean y) };
 }
 
 /// Equality, or that there is none, where nulls are looked at too.
@@ -40,6 +40,9 @@ pub(crate) trait Sameness: FixedRelation {
     /// Shows what it tells of two rows, by its answer to what is stored and by which of them are valid.
     fn shows_rows()
         ensures { (p q : Bool) (s r : Slot) (b : Bool) → related Self.op s r ≡ Boolean b → finishes (Boolean b) p q ≡ tells (if p then s else Null) (if q then r else Null) };
+
+    // an answer stays where both rows are valid
+    ghost finishes_valid: { (b : Bool) → finishes (Boolean b) true true ≡ Boolean b };
 
     // a null of such answers stays
     ghost finishes_null: { (p q : Bool) → finishes Null p q ≡ Null };
@@ -70,6 +73,14 @@ pub(crate) struct Greater;
 /// The left one does not come before the right one.
 pub(crate) struct GreaterOrEqual;
 
+impl Logic for Equal {
+    ghost bits = { λ x y. holds relation.eq (bool_order x y) };
+
+    fn of_words(left: u64, right: u64) -> u64 {
+        !(left ^ right)
+    }
+}
+
 impl FixedRelation for Equal {
     ghost op = { relation.eq };
 
@@ -77,8 +88,14 @@ impl FixedRelation for Equal {
         order == Ordering::Equal
     }
 
+    ghost of_bits = { λ x y. refl };
+}
+
+impl Logic for NotEqual {
+    ghost bits = { λ x y. holds relation.neq (bool_order x y) };
+
     fn of_words(left: u64, right: u64) -> u64 {
-        !(left ^ right)
+        left ^ right
     }
 }
 
@@ -89,8 +106,14 @@ impl FixedRelation for NotEqual {
         order != Ordering::Equal
     }
 
+    ghost of_bits = { λ x y. refl };
+}
+
+impl Logic for Less {
+    ghost bits = { λ x y. holds relation.lt (bool_order x y) };
+
     fn of_words(left: u64, right: u64) -> u64 {
-        left ^ right
+        !left & right
     }
 }
 
@@ -101,8 +124,14 @@ impl FixedRelation for Less {
         order == Ordering::Less
     }
 
+    ghost of_bits = { λ x y. refl };
+}
+
+impl Logic for LessOrEqual {
+    ghost bits = { λ x y. holds relation.lt_eq (bool_order x y) };
+
     fn of_words(left: u64, right: u64) -> u64 {
-        !left & right
+        !left | right
     }
 }
 
@@ -113,8 +142,14 @@ impl FixedRelation for LessOrEqual {
         order != Ordering::Greater
     }
 
+    ghost of_bits = { λ x y. refl };
+}
+
+impl Logic for Greater {
+    ghost bits = { λ x y. holds relation.gt (bool_order x y) };
+
     fn of_words(left: u64, right: u64) -> u64 {
-        !left | right
+        left & !right
     }
 }
 
@@ -125,8 +160,14 @@ impl FixedRelation for Greater {
         order == Ordering::Greater
     }
 
+    ghost of_bits = { λ x y. refl };
+}
+
+impl Logic for GreaterOrEqual {
+    ghost bits = { λ x y. holds relation.gt_eq (bool_order x y) };
+
     fn of_words(left: u64, right: u64) -> u64 {
-        left & !right
+        left | !right
     }
 }
 
@@ -137,9 +178,7 @@ impl FixedRelation for GreaterOrEqual {
         order != Ordering::Less
     }
 
-    fn of_words(left: u64, right: u64) -> u64 {
-        left | !right
-    }
+    ghost of_bits = { λ x y. refl };
 }
 
 impl Sameness for Equal {
@@ -152,6 +191,8 @@ impl Sameness for Equal {
     }
 
     fn shows_rows() {}
+
+    ghost finishes_valid = { λ b. refl };
 
     ghost finishes_null = { λ p q. refl };
 }
@@ -166,6 +207,8 @@ impl Sameness for NotEqual {
     }
 
     fn shows_rows() {}
+
+    ghost finishes_valid = { λ b. refl };
 
     ghost finishes_null = { λ p q. refl };
 }

@@ -6,4 +6,3 @@ pub mod comparison;
 mod fixed;
 pub mod relation;
 mod stored;
-mod words;

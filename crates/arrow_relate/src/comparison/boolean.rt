@@ -1,7 +1,6 @@
 //! Relations of truth values: false comes before true.
 
-ghost use Rattle.std.specs.Prelude.{◌≡◌, ◌<◌, ◌==◌, ℕ, length, map, IfOk, IsOkUnless};
-ghost use Rattle.std.specs.Int.{bit_at};
+ghost use Rattle.std.specs.Prelude.{◌≡◌, ◌*◌, ◌<◌, ℕ, if◌then◌else◌, length, map, replicate, IfOk, IsOkUnless};
 ghost use Rattle.arrow_types.specs.declared.error.Error.{Error};
 ghost use Rattle.arrow_types.specs.ArrowType.{boolean, plain};
 ghost use Rattle.arrow_types.specs.Relation.{related};
@@ -11,15 +10,18 @@ ghost use Rattle.arrow_types.specs.Slot.{Boolean};
 ghost use Rattle.arrow_flat.specs.Parts.{boolean_rows};
 ghost use Rattle.arrow_logic.specs.RowByRow.{row_by_row};
 ghost use Rattle.arrow_relate.specs.Same.{is_same, differs};
-ghost use Rattle.arrow_relate.specs.Words.{IsWordOf};
+ghost use Rattle.arrow_memory.specs.Sliced.{sliced};
+ghost use Rattle.arrow_memory.specs.Words.{word_of};
+ghost use Rattle.arrow_relate.specs.Chunked.{Chunked, IsChunked, answers_word};
 
 use crate::fixed::{Equal, FixedRelation, Greater, GreaterOrEqual, Less, LessOrEqual, NotEqual};
 use crate::relation::Relation;
 use crate::stored::{
     RelatedBy, RelatedToScalar, relate_by, relate_scalar_by, same_by, same_scalar_by,
 };
-use crate::words::bits_by_words;
 use arrow_flat::array::BooleanArray;
+use arrow_logic::truths::truths;
+use arrow_logic::validity::shared;
 use arrow_memory::bitmap::Bitmap;
 use arrow_types::error::Error;
 use std::alloc::Global;
@@ -334,6 +336,72 @@ pub fn relate_scalar(
     by_relation!(by, relate_scalar_by::<_, _, _>(alloc, lhs, rhs))
 }
 
+/// What a closure answers of the values of an array and a scalar, 64 rows at a time. It is called once for each word of
+/// values, null rows too: bit k of the first argument is row `64 * j + k`, with zeros past the last row, and the second
+/// has ones alone where the scalar is true, and zeros alone where it is false. A bit of its answer is that of the row;
+/// those past the last row are left out. A row is null where the array's is.
+///
+/// # Requires
+/// The closure may be called on all such words.
+///
+/// # Errors
+/// `OutOfMemory` where memory is refused.
+///
+/// Source: arrow2's `comparison::boolean::compare_op_scalar`.
+pub fn compare_op_scalar<F: Fn(u64, u64) -> u64>(
+    alloc: Global,
+    lhs: &BooleanArray,
+    rhs: bool,
+    op: F,
+) -> Result<BooleanArray, Error>
+    requires { (j : ℕ) → 64 * j < length lhs.now.values → F.pre op (word_of (sliced lhs.now.values (64 * j) 64)) (word_of (replicate 64 rhs)) }
+    ensures array_type { IfOk result (λ array. array.arrow_type ≡ plain boolean) }
+    ensures rows { IfOk result (λ array. IsChunked 64 (answers_word (F.post op) lhs.now.values rhs) lhs.now.validity (length lhs.now.values) (boolean_rows array)) }
+    ensures err { IsOkUnless result Error.OutOfMemory }
+{
+    let bits = bits_of_words(alloc, lhs.values(), rhs, &op)?;
+    Ok(truths(bits, shared(lhs.validity())?))
+}
+
+/// The bits that `op` answers of the words of some bits and of a scalar. It is called once for each word.
+///
+/// # Requires
+/// `op` may be called on each word.
+///
+/// # Errors
+/// `OutOfMemory` where memory is refused.
+fn bits_of_words<F: Fn(u64, u64) -> u64>(
+    alloc: Global,
+    stored: &Bitmap,
+    scalar: bool,
+    op: &F,
+) -> Result<Bitmap, Error>
+    requires { (j : ℕ) → 64 * j < length stored.now → F.pre op.now (word_of (sliced stored.now (64 * j) 64)) (word_of (replicate 64 scalar)) }
+    ensures ok { IfOk result (λ bits. Chunked 64 (answers_word (F.post op.now) stored.now scalar) (length stored.now) bits) }
+    ensures err { IsOkUnless result Error.OutOfMemory }
+{
+    Bitmap::collect_words(alloc, stored.len(), |j| answer_at(op, stored, scalar, j))
+}
+
+/// What `op` answers to word `j` of some bits and a word of the scalar.
+///
+/// # Requires
+/// It may be called on each word, and there is word `j`.
+fn answer_at<F: Fn(u64, u64) -> u64>(op: &F, bits: &Bitmap, scalar: bool, j: usize) -> u64
+    requires callable { (j : ℕ) → 64 * j < length bits.now → F.pre op.now (word_of (sliced bits.now (64 * j) 64)) (word_of (replicate 64 scalar)) }
+    requires some { 64 * j < length bits.now }
+    ensures { answers_word (F.post op.now) bits.now scalar j result }
+{
+    op(bits.word(j), repeated(scalar))
+}
+
+/// A word of equal bits.
+fn repeated(bit: bool) -> u64
+    ensures { result ≡ word_of (replicate 64 bit) }
+{
+    if bit { u64::MAX } else { 0 }
+}
+
 impl<R: FixedRelation> RelatedBy<R> for Bitmap {
     fn related_bits(
         alloc: Global,
@@ -342,8 +410,7 @@ impl<R: FixedRelation> RelatedBy<R> for Bitmap {
     ) -> Result<Bitmap, Error> {
         // There are as many values as rows.
         let _ = (lhs.len(), rhs.len());
-        let (left, right) = (lhs.values(), rhs.values());
-        bits_by_words(alloc, left.len(), |j| related_word::<R>(left, right, j))
+        lhs.values().combined::<R>(alloc, rhs.values())
     }
 }
 
@@ -353,33 +420,23 @@ impl<R: FixedRelation> RelatedToScalar<R, bool> for Bitmap {
     ghost IsScalar = { λ scalar. Unit {0} };
 
     fn related_scalar_bits(alloc: Global, lhs: &BooleanArray, rhs: bool) -> Result<Bitmap, Error> {
-        let left = lhs.values();
-        bits_by_words(
-            alloc,
-            left.len(),
-            |j| related_scalar_word::<R>(left, rhs, j),
-        )
+        let unset = R::holds(false.cmp(&rhs));
+        let set = R::holds(true.cmp(&rhs));
+        replaced(alloc, lhs.values(), unset, set)
     }
 }
 
-/// Of which of the 64 rows from row `64 * j` on a relation holds, a bit each.
-fn related_word<R: FixedRelation>(left: &Bitmap, right: &Bitmap, j: usize) -> u64
-    requires { length left.now ≡ length right.now }
-    ensures { IsWordOf (row_by_row (related R.op) (map Boolean left.now) (map Boolean right.now)) j result }
+/// The bits with `unset` for each that is not set, and `set` for each that is. Those that stay as they are, are shared.
+fn replaced(alloc: Global, bits: &Bitmap, unset: bool, set: bool) -> Result<Bitmap, Error>
+    ensures ok { IfOk result (λ made. made ≡ map (λ bit. if bit then set else unset) bits.now) }
+    ensures err { IsOkUnless result Error.OutOfMemory }
 {
-    R::of_words(left.word(j), right.word(j))
-}
-
-/// The same of each row and a truth value.
-fn related_scalar_word<R: FixedRelation>(left: &Bitmap, right: bool, j: usize) -> u64
-    ensures { IsWordOf (map (λ s. related R.op s (Boolean right)) (map Boolean left.now)) j result }
-{
-    R::of_words(left.word(j), repeated(right))
-}
-
-/// A word of equal bits.
-fn repeated(bit: bool) -> u64
-    ensures { (k : ℕ) → k < 64 → (bit_at result k == 1) ≡ bit }
-{
-    if bit { u64::MAX } else { 0 }
+    if unset == set {
+        return Bitmap::new_constant(alloc, set, bits.len());
+    }
+    if set {
+        Ok(bits.clone()?)
+    } else {
+        bits.not(alloc)
+    }
 }

@@ -1,16 +1,22 @@
 //! Relations of rows of bytes, of texts and of any bytes alike.
 
-ghost use Rattle.std.specs.Prelude.{◌≡◌, ◌+◌, ◌<◌, ◌≤◌, ℕ, List, Some, length, map, refl, slice_get, slice_index, IsUtf8};
+ghost use Rattle.std.specs.Prelude.{◌≡◌, ◌+◌, ◌<◌, ◌≤◌, ℕ, List, Some, length, map, refl, slice_get, slice_index, IfOk, IsOkUnless, IsUtf8};
 ghost use Rattle.std.specs.Ordering.{is_eq};
+ghost use Rattle.arrow_types.specs.declared.error.Error.{Error};
+ghost use Rattle.arrow_types.specs.ArrowType.{boolean, plain};
 ghost use Rattle.arrow_types.specs.Relation.{Relation as RowRelation, byte_order, holds, related};
+ghost use Rattle.arrow_types.specs.Relation as relation;
 ghost use Rattle.arrow_types.specs.Slot.{Boolean};
 ghost use Rattle.arrow_flat.specs.ByteRows.{byte_slots, row_bytes};
+ghost use Rattle.arrow_flat.specs.Parts.{boolean_rows, rows_by};
 ghost use Rattle.arrow_logic.specs.RowByRow.{row_by_row};
+ghost use Rattle.arrow_relate.specs.Related.{relation_of};
+ghost use Rattle.arrow_relate.specs.Same.{differs, is_same};
 
 use crate::fixed::{Equal, FixedRelation, Greater, GreaterOrEqual, Less, LessOrEqual, NotEqual};
-use crate::stored::{RelatedBy, RelatedToScalar};
-use crate::words::bits_by_rows;
-use arrow_flat::array::{Binary, ByteKind, ByteRows, FlatArray, Text};
+use crate::relation::Relation;
+use crate::stored::{RelatedBy, RelatedToScalar, relate_by, same_by};
+use arrow_flat::array::{Binary, BooleanArray, ByteKind, ByteRows, FlatArray, Text};
 use arrow_memory::bitmap::Bitmap;
 use arrow_types::error::Error;
 use arrow_types::types::{Index, Offset};
@@ -18,8 +24,205 @@ use std::alloc::Global;
 use std::cmp::Ordering;
 use std::marker::{Model, PhantomData};
 
+/// Whether each row of the left side equals that of the right one, and null where one of the two is.
+///
+/// # Requires
+/// Both have as many rows.
+///
+/// # Errors
+/// `OutOfMemory` where memory is refused.
+///
+/// Source: arrow2's `comparison::utf8::eq` and `comparison::binary::eq`.
+pub fn eq<O: Offset, K: ComparedBytes>(
+    alloc: Global,
+    lhs: &FlatArray<ByteRows<O, K>>,
+    rhs: &FlatArray<ByteRows<O, K>>,
+) -> Result<BooleanArray, Error>
+    requires { length (rows_by (byte_slots K.slot) lhs.now) ≡ length (rows_by (byte_slots K.slot) rhs.now) }
+    ensures array_type { IfOk result (λ array. array.arrow_type ≡ plain boolean) }
+    ensures rows { IfOk result (λ array. boolean_rows array ≡ row_by_row (related relation.eq) (rows_by (byte_slots K.slot) lhs.now) (rows_by (byte_slots K.slot) rhs.now)) }
+    ensures err { IsOkUnless result Error.OutOfMemory }
+{
+    relate_by::<Equal, _>(alloc, lhs, rhs)
+}
+
+/// Whether the rows of both sides are the same: two nulls are, and a null and a value are not. No row is null.
+///
+/// # Requires
+/// Both have as many rows.
+///
+/// # Errors
+/// `OutOfMemory` where memory is refused.
+///
+/// Source: arrow2's `comparison::utf8::eq_and_validity` and `comparison::binary::eq_and_validity`.
+pub fn eq_and_validity<O: Offset, K: ComparedBytes>(
+    alloc: Global,
+    lhs: &FlatArray<ByteRows<O, K>>,
+    rhs: &FlatArray<ByteRows<O, K>>,
+) -> Result<BooleanArray, Error>
+    requires { length (rows_by (byte_slots K.slot) lhs.now) ≡ length (rows_by (byte_slots K.slot) rhs.now) }
+    ensures array_type { IfOk result (λ array. array.arrow_type ≡ plain boolean) }
+    ensures rows { IfOk result (λ array. boolean_rows array ≡ row_by_row is_same (rows_by (byte_slots K.slot) lhs.now) (rows_by (byte_slots K.slot) rhs.now)) }
+    ensures err { IsOkUnless result Error.OutOfMemory }
+{
+    same_by::<Equal, _>(alloc, lhs, rhs)
+}
+
+/// Whether each row of the left side differs from that of the right one, and null where one of the two is.
+///
+/// # Requires
+/// Both have as many rows.
+///
+/// # Errors
+/// `OutOfMemory` where memory is refused.
+///
+/// Source: arrow2's `comparison::utf8::neq` and `comparison::binary::neq`.
+pub fn neq<O: Offset, K: ComparedBytes>(
+    alloc: Global,
+    lhs: &FlatArray<ByteRows<O, K>>,
+    rhs: &FlatArray<ByteRows<O, K>>,
+) -> Result<BooleanArray, Error>
+    requires { length (rows_by (byte_slots K.slot) lhs.now) ≡ length (rows_by (byte_slots K.slot) rhs.now) }
+    ensures array_type { IfOk result (λ array. array.arrow_type ≡ plain boolean) }
+    ensures rows { IfOk result (λ array. boolean_rows array ≡ row_by_row (related relation.neq) (rows_by (byte_slots K.slot) lhs.now) (rows_by (byte_slots K.slot) rhs.now)) }
+    ensures err { IsOkUnless result Error.OutOfMemory }
+{
+    relate_by::<NotEqual, _>(alloc, lhs, rhs)
+}
+
+/// Whether the rows of both sides differ: the rows of [`eq_and_validity`] turned.
+///
+/// # Requires
+/// Both have as many rows.
+///
+/// # Errors
+/// `OutOfMemory` where memory is refused.
+///
+/// Source: arrow2's `comparison::utf8::neq_and_validity` and `comparison::binary::neq_and_validity`.
+pub fn neq_and_validity<O: Offset, K: ComparedBytes>(
+    alloc: Global,
+    lhs: &FlatArray<ByteRows<O, K>>,
+    rhs: &FlatArray<ByteRows<O, K>>,
+) -> Result<BooleanArray, Error>
+    requires { length (rows_by (byte_slots K.slot) lhs.now) ≡ length (rows_by (byte_slots K.slot) rhs.now) }
+    ensures array_type { IfOk result (λ array. array.arrow_type ≡ plain boolean) }
+    ensures rows { IfOk result (λ array. boolean_rows array ≡ row_by_row differs (rows_by (byte_slots K.slot) lhs.now) (rows_by (byte_slots K.slot) rhs.now)) }
+    ensures err { IsOkUnless result Error.OutOfMemory }
+{
+    same_by::<NotEqual, _>(alloc, lhs, rhs)
+}
+
+/// Whether each row of the left side comes before that of the right one, and null where one of the two is.
+///
+/// # Requires
+/// Both have as many rows.
+///
+/// # Errors
+/// `OutOfMemory` where memory is refused.
+///
+/// Source: arrow2's `comparison::utf8::lt` and `comparison::binary::lt`.
+pub fn lt<O: Offset, K: ComparedBytes>(
+    alloc: Global,
+    lhs: &FlatArray<ByteRows<O, K>>,
+    rhs: &FlatArray<ByteRows<O, K>>,
+) -> Result<BooleanArray, Error>
+    requires { length (rows_by (byte_slots K.slot) lhs.now) ≡ length (rows_by (byte_slots K.slot) rhs.now) }
+    ensures array_type { IfOk result (λ array. array.arrow_type ≡ plain boolean) }
+    ensures rows { IfOk result (λ array. boolean_rows array ≡ row_by_row (related relation.lt) (rows_by (byte_slots K.slot) lhs.now) (rows_by (byte_slots K.slot) rhs.now)) }
+    ensures err { IsOkUnless result Error.OutOfMemory }
+{
+    relate_by::<Less, _>(alloc, lhs, rhs)
+}
+
+/// Whether each row of the left side does not come after that of the right one, and null where one of the two is.
+///
+/// # Requires
+/// Both have as many rows.
+///
+/// # Errors
+/// `OutOfMemory` where memory is refused.
+///
+/// Source: arrow2's `comparison::utf8::lt_eq` and `comparison::binary::lt_eq`.
+pub fn lt_eq<O: Offset, K: ComparedBytes>(
+    alloc: Global,
+    lhs: &FlatArray<ByteRows<O, K>>,
+    rhs: &FlatArray<ByteRows<O, K>>,
+) -> Result<BooleanArray, Error>
+    requires { length (rows_by (byte_slots K.slot) lhs.now) ≡ length (rows_by (byte_slots K.slot) rhs.now) }
+    ensures array_type { IfOk result (λ array. array.arrow_type ≡ plain boolean) }
+    ensures rows { IfOk result (λ array. boolean_rows array ≡ row_by_row (related relation.lt_eq) (rows_by (byte_slots K.slot) lhs.now) (rows_by (byte_slots K.slot) rhs.now)) }
+    ensures err { IsOkUnless result Error.OutOfMemory }
+{
+    relate_by::<LessOrEqual, _>(alloc, lhs, rhs)
+}
+
+/// Whether each row of the left side comes after that of the right one, and null where one of the two is.
+///
+/// # Requires
+/// Both have as many rows.
+///
+/// # Errors
+/// `OutOfMemory` where memory is refused.
+///
+/// Source: arrow2's `comparison::utf8::gt` and `comparison::binary::gt`.
+pub fn gt<O: Offset, K: ComparedBytes>(
+    alloc: Global,
+    lhs: &FlatArray<ByteRows<O, K>>,
+    rhs: &FlatArray<ByteRows<O, K>>,
+) -> Result<BooleanArray, Error>
+    requires { length (rows_by (byte_slots K.slot) lhs.now) ≡ length (rows_by (byte_slots K.slot) rhs.now) }
+    ensures array_type { IfOk result (λ array. array.arrow_type ≡ plain boolean) }
+    ensures rows { IfOk result (λ array. boolean_rows array ≡ row_by_row (related relation.gt) (rows_by (byte_slots K.slot) lhs.now) (rows_by (byte_slots K.slot) rhs.now)) }
+    ensures err { IsOkUnless result Error.OutOfMemory }
+{
+    relate_by::<Greater, _>(alloc, lhs, rhs)
+}
+
+/// Whether each row of the left side does not come before that of the right one, and null where one of the two is.
+///
+/// # Requires
+/// Both have as many rows.
+///
+/// # Errors
+/// `OutOfMemory` where memory is refused.
+///
+/// Source: arrow2's `comparison::utf8::gt_eq` and `comparison::binary::gt_eq`.
+pub fn gt_eq<O: Offset, K: ComparedBytes>(
+    alloc: Global,
+    lhs: &FlatArray<ByteRows<O, K>>,
+    rhs: &FlatArray<ByteRows<O, K>>,
+) -> Result<BooleanArray, Error>
+    requires { length (rows_by (byte_slots K.slot) lhs.now) ≡ length (rows_by (byte_slots K.slot) rhs.now) }
+    ensures array_type { IfOk result (λ array. array.arrow_type ≡ plain boolean) }
+    ensures rows { IfOk result (λ array. boolean_rows array ≡ row_by_row (related relation.gt_eq) (rows_by (byte_slots K.slot) lhs.now) (rows_by (byte_slots K.slot) rhs.now)) }
+    ensures err { IsOkUnless result Error.OutOfMemory }
+{
+    relate_by::<GreaterOrEqual, _>(alloc, lhs, rhs)
+}
+
+/// Whether each row is so related to that of the right side, and null where one of the two is.
+///
+/// # Requires
+/// Both have as many rows.
+///
+/// # Errors
+/// `OutOfMemory` where memory is refused.
+pub fn relate<O: Offset, K: ComparedBytes>(
+    alloc: Global,
+    by: Relation,
+    lhs: &FlatArray<ByteRows<O, K>>,
+    rhs: &FlatArray<ByteRows<O, K>>,
+) -> Result<BooleanArray, Error>
+    requires { length (rows_by (byte_slots K.slot) lhs.now) ≡ length (rows_by (byte_slots K.slot) rhs.now) }
+    ensures array_type { IfOk result (λ array. array.arrow_type ≡ plain boolean) }
+    ensures rows { IfOk result (λ array. boolean_rows array ≡ row_by_row (related (relation_of by)) (rows_by (byte_slots K.slot) lhs.now) (rows_by (byte_slots K.slot) rhs.now)) }
+    ensures err { IsOkUnless result Error.OutOfMemory }
+{
+    by_relation!(by, relate_by::<_, _>(alloc, lhs, rhs))
+}
+
 /// A kind of rows that are compared by their bytes.
-pub(crate) trait ComparedBytes: ByteKind {
+pub trait ComparedBytes: ByteKind {
     /// Whether two rows have the same bytes: their lengths are compared first.
     ///
     /// # Requires
@@ -215,7 +418,7 @@ impl<O: Offset, K: ComparedBytes, R: ByteTest> RelatedBy<R> for ByteRows<O, K> {
         // There are as many values as rows.
         let _ = (lhs.len(), rhs.len());
         let (left, right) = (LentRows::of(lhs), LentRows::of(rhs));
-        bits_by_rows(
+        Bitmap::collect_bool(
             alloc,
             left.len(),
             |row| are_related::<R, O, K>(&left, &right, row),
@@ -234,7 +437,7 @@ impl<'a, O: Offset, K: ComparedBytes, R: ByteTest> RelatedToScalar<R, &'a [u8]> 
         rhs: &'a [u8],
     ) -> Result<Bitmap, Error> {
         let rows = LentRows::of(lhs);
-        bits_by_rows(
+        Bitmap::collect_bool(
             alloc,
             rows.len(),
             |row| is_related::<R, O, K>(&rows, rhs, row),

@@ -1,22 +1,26 @@
 //! Relations of numbers, by value, and whether intervals are equal.
 
-ghost use Rattle.std.specs.Prelude.{◌≡◌, length, map, IfOk, IsOkUnless};
+ghost use Rattle.std.specs.Prelude.{◌≡◌, ◌*◌, ◌<◌, ℕ, Some, length, map, replicate, slice_get, IfOk, IsOkUnless};
 ghost use Rattle.arrow_types.specs.declared.error.Error.{Error};
 ghost use Rattle.arrow_types.specs.ArrowType.{boolean, plain};
 ghost use Rattle.arrow_types.specs.Relation.{related};
 ghost use Rattle.arrow_types.specs.Relation as relation;
 ghost use Rattle.arrow_relate.specs.Related.{relation_of};
+ghost use Rattle.arrow_types.specs.Slot.{Boolean};
 ghost use Rattle.arrow_flat.specs.Parts.{boolean_rows, rows_by};
 ghost use Rattle.arrow_logic.specs.RowByRow.{row_by_row};
+ghost use Rattle.arrow_relate.specs.Chunked.{IsChunked, answers_chunk, chunk_of};
 ghost use Rattle.arrow_relate.specs.Same.{is_same, differs};
 
+use crate::comparison::chunked::bits_of_chunks;
 use crate::fixed::{Equal, Greater, GreaterOrEqual, Less, LessOrEqual, NotEqual, Test};
 use crate::relation::Relation;
 use crate::stored::{
     RelatedBy, RelatedToScalar, relate_by, relate_scalar_by, same_by, same_scalar_by,
 };
-use crate::words::bits_by_rows;
 use arrow_flat::array::{BooleanArray, PrimitiveArray};
+use arrow_logic::truths::truths;
+use arrow_logic::validity::shared;
 use arrow_memory::bitmap::Bitmap;
 use arrow_memory::buffer::Buffer;
 use arrow_types::error::Error;
@@ -381,6 +385,33 @@ pub fn relate_scalar<T: NativeOrd>(
     by_relation!(by, relate_scalar_by::<_, _, _>(alloc, lhs, rhs))
 }
 
+/// What a closure answers of the values of an array and a scalar, eight rows at a time. It is called once for each chunk of
+/// eight values, null rows too, of which the last is filled with the default of the type, and on eight copies of the
+/// scalar: bit k of its answer is row `8 * j + k`, and those past the last row are left out. A row is null where the
+/// array's is.
+///
+/// # Requires
+/// The closure may be called on all such chunks.
+///
+/// # Errors
+/// `OutOfMemory` where memory is refused.
+///
+/// Source: arrow2's `comparison::primitive::compare_op_scalar`.
+pub fn compare_op_scalar<T: NativeType, F: Fn([T; 8], [T; 8]) -> u8>(
+    alloc: Global,
+    lhs: &PrimitiveArray<T>,
+    rhs: T,
+    op: F,
+) -> Result<BooleanArray, Error>
+    requires { (j : ℕ) → 8 * j < length lhs.now.values → F.pre op (chunk_of T.zero lhs.now.values j) (replicate 8 rhs) }
+    ensures array_type { IfOk result (λ array. array.arrow_type ≡ plain boolean) }
+    ensures rows { IfOk result (λ array. IsChunked 8 (answers_chunk (F.post op) T.zero lhs.now.values rhs) lhs.now.validity (length lhs.now.values) (boolean_rows array)) }
+    ensures err { IsOkUnless result Error.OutOfMemory }
+{
+    let bits = bits_of_chunks(alloc, lhs.values().as_slice(), rhs, &op)?;
+    Ok(truths(bits, shared(lhs.validity())?))
+}
+
 impl<T: NativeType, R: Test<T>> RelatedBy<R> for Buffer<T> {
     fn related_bits(
         alloc: Global,
@@ -390,7 +421,7 @@ impl<T: NativeType, R: Test<T>> RelatedBy<R> for Buffer<T> {
         // There are as many values as rows.
         let _ = (lhs.len(), rhs.len());
         let (left, right) = (lhs.values().as_slice(), rhs.values().as_slice());
-        bits_by_rows(alloc, left.len(), |row| R::of(left[row], right[row]))
+        Bitmap::collect_bool(alloc, left.len(), |row| R::of(left[row], right[row]))
     }
 }
 
@@ -405,6 +436,14 @@ impl<T: NativeType, R: Test<T>> RelatedToScalar<R, T> for Buffer<T> {
         rhs: T,
     ) -> Result<Bitmap, Error> {
         let left = lhs.values().as_slice();
-        bits_by_rows(alloc, left.len(), |row| R::of(left[row], rhs))
+        Bitmap::collect_bool(alloc, left.len(), |row| is_related::<T, R>(left, rhs, row))
     }
+}
+
+/// Whether the relation holds of a value and another one.
+fn is_related<T: NativeType, R: Test<T>>(values: &[T], other: T, row: usize) -> bool
+    requires { row < length values.now }
+    ensures { slice_get (map (λ s. related R.op s (T.slot other)) (map T.slot values.now)) row ≡ Some (Boolean result) }
+{
+    R::of(values[row], other)
 }

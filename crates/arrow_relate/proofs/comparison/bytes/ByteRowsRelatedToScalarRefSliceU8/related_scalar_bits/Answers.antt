@@ -3,7 +3,7 @@ use Rattle.std.proofs.lemmas.List.{length-map}
 use Rattle.arrow_types.specs.Relation.{related}
 use Rattle.arrow_types.specs.Slot.{Slot}
 use Rattle.arrow_flat.specs.ByteRows.{byte_slots, row_bytes}
-use Rattle.arrow_relate.proofs.ByteLemmas.{answered_rows}
+use Rattle.arrow_relate.proofs.WordLemmas.{answered_rows}
 use Rattle.arrow_relate.proofs.comparison.bytes.ByteRowsRelatedToScalarRefSliceU8.related_scalar_bits.Goals as goal
 
 pub returns-clause-ok : goal.returns-clause-ok
@@ -12,4 +12,4 @@ returns-clause-ok g c =
     let give = λ (s : Slot). related g.R.FixedRelation.op s (slot c.args.rhs.now) in
     let rows = byte_slots slot c.of-rows.result in
     let long = length-map rows give ∙ (length-map (row_bytes c.of-rows.result) slot ∙ sym c.len.ensures) in
-    rw (← c.of-rows.ensures) (answered_rows c.bits_by_rows.result _ c.len.result (map give rows) long (λ row bit within answered. search rules) c.bits_by_rows.ensures.ok)
+    rw (← c.of-rows.ensures) (answered_rows c.collect_bool.result _ c.len.result (map give rows) long (λ row bit within answered. search rules) c.collect_bool.ensures.ok)

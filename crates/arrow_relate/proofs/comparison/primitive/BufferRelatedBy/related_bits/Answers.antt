@@ -16,5 +16,5 @@ returns-clause-ok g c =
     let left : xs ≡ c.args.lhs.now.values = c.as_slice-left.ensures ∙ c.values.ensures in
     let right : ys ≡ c.args.rhs.now.values = c.as_slice-right.ensures ∙ c.values-2.ensures in
     let same : length xs ≡ length ys = omega (arith, ap length left, ap length right, c.requires, c.len.ensures.rows, c.len.ensures.values, c.len-2.ensures.rows, c.len-2.ensures.values, length-map c.args.lhs.now.values slot, length-map c.args.rhs.now.values slot) in
-    let stored = related_rows c.bits_by_rows.result _ op slot xs ys same (λ row bit within answered. search (rules, read_related)) c.bits_by_rows.ensures.ok in
-    subst (λ rows. IfOk c.bits_by_rows.result (λ bits. map Boolean bits ≡ rows)) (λ i. row_by_row (related op) (map slot (left i)) (map slot (right i))) stored
+    let stored = related_rows c.collect_bool.result _ op slot xs ys same (λ row bit within answered. search (rules, read_related)) c.collect_bool.ensures.ok in
+    subst (λ rows. IfOk c.collect_bool.result (λ bits. map Boolean bits ≡ rows)) (λ i. row_by_row (related op) (map slot (left i)) (map slot (right i))) stored

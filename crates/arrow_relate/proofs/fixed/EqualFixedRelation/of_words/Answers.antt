@@ -1,7 +1,0 @@
-use Rattle.std.proofs.Common.{ap}
-use Rattle.arrow_types.specs.Slot.{Boolean}
-use Rattle.arrow_relate.proofs.TruthLemmas.{equal_word}
-use Rattle.arrow_relate.proofs.fixed.EqualFixedRelation.of_words.Goals as goal
-
-pub returns : goal.returns
-returns c = λ k below. ap Boolean (equal_word c.args.left c.args.right k c.ranges.left.fits c.ranges.right.fits below)
