@@ -16,11 +16,11 @@ ghost use Rattle.arrow_compare.specs.Kinds.{IsEquality, KindHasRelation};
 
 use crate::kinds::have_one_kind;
 use arrow_arrays::array::AnyArray;
-use arrow_flat::array::{AnyPrimitive, BooleanArray, PrimitiveArray};
+use arrow_flat::array::{AnyElement, AnyPrimitive, BooleanArray, PrimitiveArray};
 use arrow_relate::comparison::{binary, boolean, primitive, utf8};
 use arrow_relate::relation::Relation;
 use arrow_types::error::Error;
-use arrow_types::types::NativeType;
+use arrow_types::types::NativeOrd;
 use std::alloc::Global;
 
 /// Whether each row is so related to that of the right side, and null where one of the two is.
@@ -90,27 +90,6 @@ pub(super) fn same(alloc: Global, lhs: &AnyArray, rhs: &AnyArray) -> Result<Bool
     }
 }
 
-/// What an expression says of two arrays of one element type: one of numbers, and one of intervals that stand in no order.
-macro_rules! of_both {
-    ($both:expr, ($left:ident, $right:ident) => $numbers:expr, $intervals:expr) => {
-        match $both {
-            (AnyPrimitive::Int8($left), AnyPrimitive::Int8($right)) => $numbers,
-            (AnyPrimitive::Int16($left), AnyPrimitive::Int16($right)) => $numbers,
-            (AnyPrimitive::Int32($left), AnyPrimitive::Int32($right)) => $numbers,
-            (AnyPrimitive::Int64($left), AnyPrimitive::Int64($right)) => $numbers,
-            (AnyPrimitive::Int128($left), AnyPrimitive::Int128($right)) => $numbers,
-            (AnyPrimitive::Int256($left), AnyPrimitive::Int256($right)) => $numbers,
-            (AnyPrimitive::UInt8($left), AnyPrimitive::UInt8($right)) => $numbers,
-            (AnyPrimitive::UInt16($left), AnyPrimitive::UInt16($right)) => $numbers,
-            (AnyPrimitive::UInt32($left), AnyPrimitive::UInt32($right)) => $numbers,
-            (AnyPrimitive::UInt64($left), AnyPrimitive::UInt64($right)) => $numbers,
-            (AnyPrimitive::DaysMs($left), AnyPrimitive::DaysMs($right)) => $intervals,
-            (AnyPrimitive::MonthDayNano($left), AnyPrimitive::MonthDayNano($right)) => $intervals,
-            _ => unreachable!(),
-        }
-    };
-}
-
 /// [`relate`] of two arrays of one element type.
 fn relate_primitive(
     alloc: Global,
@@ -125,29 +104,55 @@ fn relate_primitive(
     ensures rows { IfOk result (λ array. boolean_rows array ≡ row_by_row (related (relation_of by)) (any_rows lhs.now) (any_rows rhs.now)) }
     ensures err { IsOkUnless result Error.OutOfMemory }
 {
-    of_both!(
-        (lhs, rhs),
-        (left, right) => primitive::relate(alloc, by, left, right),
-        relate_intervals(alloc, by, left, right)
-    )
+    match lhs {
+        AnyPrimitive::Int8(left) => relate_numbers(alloc, by, left, rhs),
+        AnyPrimitive::Int16(left) => relate_numbers(alloc, by, left, rhs),
+        AnyPrimitive::Int32(left) => relate_numbers(alloc, by, left, rhs),
+        AnyPrimitive::Int64(left) => relate_numbers(alloc, by, left, rhs),
+        AnyPrimitive::Int128(left) => relate_numbers(alloc, by, left, rhs),
+        AnyPrimitive::Int256(left) => relate_numbers(alloc, by, left, rhs),
+        AnyPrimitive::UInt8(left) => relate_numbers(alloc, by, left, rhs),
+        AnyPrimitive::UInt16(left) => relate_numbers(alloc, by, left, rhs),
+        AnyPrimitive::UInt32(left) => relate_numbers(alloc, by, left, rhs),
+        AnyPrimitive::UInt64(left) => relate_numbers(alloc, by, left, rhs),
+        AnyPrimitive::DaysMs(left) => relate_intervals(alloc, by, left, rhs),
+        AnyPrimitive::MonthDayNano(left) => relate_intervals(alloc, by, left, rhs),
+    }
 }
 
-/// [`relate`] of two arrays of intervals that stand in no order.
-fn relate_intervals<T: NativeType>(
+/// [`relate`] of numbers, where the right array is known to have the element type.
+fn relate_numbers<T: AnyElement + NativeOrd>(
     alloc: Global,
     by: Relation,
     lhs: &PrimitiveArray<T>,
-    rhs: &PrimitiveArray<T>,
+    rhs: &AnyPrimitive,
 ) -> Result<BooleanArray, Error>
-    requires one_length { length (rows_by (map T.slot) lhs.now) ≡ length (rows_by (map T.slot) rhs.now) }
+    requires one_element { element_of rhs.now ≡ T.PRIMITIVE }
+    requires one_length { length (rows_by (map T.slot) lhs.now) ≡ length (any_rows rhs.now) }
+    ensures array_type { IfOk result (λ array. array.arrow_type ≡ plain boolean) }
+    ensures rows { IfOk result (λ array. boolean_rows array ≡ row_by_row (related (relation_of by)) (rows_by (map T.slot) lhs.now) (any_rows rhs.now)) }
+    ensures err { IsOkUnless result Error.OutOfMemory }
+{
+    primitive::relate(alloc, by, lhs, T::of_any(rhs))
+}
+
+/// The same of intervals that stand in no order.
+fn relate_intervals<T: AnyElement>(
+    alloc: Global,
+    by: Relation,
+    lhs: &PrimitiveArray<T>,
+    rhs: &AnyPrimitive,
+) -> Result<BooleanArray, Error>
+    requires one_element { element_of rhs.now ≡ T.PRIMITIVE }
+    requires one_length { length (rows_by (map T.slot) lhs.now) ≡ length (any_rows rhs.now) }
     requires equality { IsEquality (relation_of by) }
     ensures array_type { IfOk result (λ array. array.arrow_type ≡ plain boolean) }
-    ensures rows { IfOk result (λ array. boolean_rows array ≡ row_by_row (related (relation_of by)) (rows_by (map T.slot) lhs.now) (rows_by (map T.slot) rhs.now)) }
+    ensures rows { IfOk result (λ array. boolean_rows array ≡ row_by_row (related (relation_of by)) (rows_by (map T.slot) lhs.now) (any_rows rhs.now)) }
     ensures err { IsOkUnless result Error.OutOfMemory }
 {
     match by {
-        Relation::Eq => primitive::eq(alloc, lhs, rhs),
-        Relation::Neq => primitive::neq(alloc, lhs, rhs),
+        Relation::Eq => primitive::eq(alloc, lhs, T::of_any(rhs)),
+        Relation::Neq => primitive::neq(alloc, lhs, T::of_any(rhs)),
         _ => unreachable!(),
     }
 }
@@ -164,9 +169,33 @@ fn same_primitive(
     ensures rows { IfOk result (λ array. boolean_rows array ≡ row_by_row is_same (any_rows lhs.now) (any_rows rhs.now)) }
     ensures err { IsOkUnless result Error.OutOfMemory }
 {
-    of_both!(
-        (lhs, rhs),
-        (left, right) => primitive::eq_and_validity(alloc, left, right),
-        primitive::eq_and_validity(alloc, left, right)
-    )
+    match lhs {
+        AnyPrimitive::Int8(left) => same_elements(alloc, left, rhs),
+        AnyPrimitive::Int16(left) => same_elements(alloc, left, rhs),
+        AnyPrimitive::Int32(left) => same_elements(alloc, left, rhs),
+        AnyPrimitive::Int64(left) => same_elements(alloc, left, rhs),
+        AnyPrimitive::Int128(left) => same_elements(alloc, left, rhs),
+        AnyPrimitive::Int256(left) => same_elements(alloc, left, rhs),
+        AnyPrimitive::UInt8(left) => same_elements(alloc, left, rhs),
+        AnyPrimitive::UInt16(left) => same_elements(alloc, left, rhs),
+        AnyPrimitive::UInt32(left) => same_elements(alloc, left, rhs),
+        AnyPrimitive::UInt64(left) => same_elements(alloc, left, rhs),
+        AnyPrimitive::DaysMs(left) => same_elements(alloc, left, rhs),
+        AnyPrimitive::MonthDayNano(left) => same_elements(alloc, left, rhs),
+    }
+}
+
+/// [`same`] where the right array is known to have the element type.
+fn same_elements<T: AnyElement>(
+    alloc: Global,
+    lhs: &PrimitiveArray<T>,
+    rhs: &AnyPrimitive,
+) -> Result<BooleanArray, Error>
+    requires one_element { element_of rhs.now ≡ T.PRIMITIVE }
+    requires one_length { length (rows_by (map T.slot) lhs.now) ≡ length (any_rows rhs.now) }
+    ensures array_type { IfOk result (λ array. array.arrow_type ≡ plain boolean) }
+    ensures rows { IfOk result (λ array. boolean_rows array ≡ row_by_row is_same (rows_by (map T.slot) lhs.now) (any_rows rhs.now)) }
+    ensures err { IsOkUnless result Error.OutOfMemory }
+{
+    primitive::eq_and_validity(alloc, lhs, T::of_any(rhs))
 }

@@ -7,18 +7,19 @@ ghost use Rattle.arrow_types.specs.Relation.{is_null, related};
 ghost use Rattle.arrow_flat.specs.AnyPrimitive.{any_rows, element_of};
 ghost use Rattle.arrow_flat.specs.AnyPrimitiveScalar.{any_scalar_slot, element_of as scalar_element};
 ghost use Rattle.arrow_flat.specs.AnyScalar.{meaning_of};
-ghost use Rattle.arrow_flat.specs.Parts.{boolean_rows, rows_by};
+ghost use Rattle.arrow_flat.specs.Parts.{boolean_rows};
+ghost use Rattle.arrow_flat.specs.Scalars.{slot_by};
 ghost use Rattle.arrow_arrays.specs.Any.{any_array_rows, kind_of, primitive_kind};
 ghost use Rattle.arrow_relate.specs.Related.{relation_of};
 ghost use Rattle.arrow_compare.specs.Kinds.{IsEquality, KindHasRelation, scalar_kind};
 
 use arrow_arrays::array::AnyArray;
-use arrow_flat::array::{AnyPrimitive, BooleanArray, PrimitiveArray};
-use arrow_flat::scalar::{AnyPrimitiveScalar, AnyScalar};
+use arrow_flat::array::{AnyElement, AnyPrimitive, BooleanArray};
+use arrow_flat::scalar::{AnyPrimitiveScalar, AnyScalar, PrimitiveScalar};
 use arrow_relate::comparison::{binary, boolean, primitive, utf8};
 use arrow_relate::relation::Relation;
 use arrow_types::error::Error;
-use arrow_types::types::NativeType;
+use arrow_types::types::NativeOrd;
 use std::alloc::Global;
 
 /// Whether each row is so related to the value, and null where the row is.
@@ -83,47 +84,55 @@ fn relate_primitive(
     ensures rows { IfOk result (λ array. boolean_rows array ≡ map (λ s. related (relation_of by) s (any_scalar_slot rhs.now)) (any_rows lhs.now)) }
     ensures err { IsOkUnless result Error.OutOfMemory }
 {
-    macro_rules! number {
-        ($array:ident, $scalar:ident) => {
-            primitive::relate_scalar(alloc, by, $array, known($scalar.value()))
-        };
-    }
-    match (lhs, rhs) {
-        (AnyPrimitive::Int8(array), AnyPrimitiveScalar::Int8(scalar)) => number!(array, scalar),
-        (AnyPrimitive::Int16(array), AnyPrimitiveScalar::Int16(scalar)) => number!(array, scalar),
-        (AnyPrimitive::Int32(array), AnyPrimitiveScalar::Int32(scalar)) => number!(array, scalar),
-        (AnyPrimitive::Int64(array), AnyPrimitiveScalar::Int64(scalar)) => number!(array, scalar),
-        (AnyPrimitive::Int128(array), AnyPrimitiveScalar::Int128(scalar)) => number!(array, scalar),
-        (AnyPrimitive::Int256(array), AnyPrimitiveScalar::Int256(scalar)) => number!(array, scalar),
-        (AnyPrimitive::UInt8(array), AnyPrimitiveScalar::UInt8(scalar)) => number!(array, scalar),
-        (AnyPrimitive::UInt16(array), AnyPrimitiveScalar::UInt16(scalar)) => number!(array, scalar),
-        (AnyPrimitive::UInt32(array), AnyPrimitiveScalar::UInt32(scalar)) => number!(array, scalar),
-        (AnyPrimitive::UInt64(array), AnyPrimitiveScalar::UInt64(scalar)) => number!(array, scalar),
-        (AnyPrimitive::DaysMs(array), AnyPrimitiveScalar::DaysMs(scalar)) => {
-            relate_interval(alloc, by, array, known(scalar.value()))
-        }
-        (AnyPrimitive::MonthDayNano(array), AnyPrimitiveScalar::MonthDayNano(scalar)) => {
-            relate_interval(alloc, by, array, known(scalar.value()))
-        }
-        _ => unreachable!(),
+    match rhs {
+        AnyPrimitiveScalar::Int8(rhs) => relate_number(alloc, by, lhs, rhs),
+        AnyPrimitiveScalar::Int16(rhs) => relate_number(alloc, by, lhs, rhs),
+        AnyPrimitiveScalar::Int32(rhs) => relate_number(alloc, by, lhs, rhs),
+        AnyPrimitiveScalar::Int64(rhs) => relate_number(alloc, by, lhs, rhs),
+        AnyPrimitiveScalar::Int128(rhs) => relate_number(alloc, by, lhs, rhs),
+        AnyPrimitiveScalar::Int256(rhs) => relate_number(alloc, by, lhs, rhs),
+        AnyPrimitiveScalar::UInt8(rhs) => relate_number(alloc, by, lhs, rhs),
+        AnyPrimitiveScalar::UInt16(rhs) => relate_number(alloc, by, lhs, rhs),
+        AnyPrimitiveScalar::UInt32(rhs) => relate_number(alloc, by, lhs, rhs),
+        AnyPrimitiveScalar::UInt64(rhs) => relate_number(alloc, by, lhs, rhs),
+        AnyPrimitiveScalar::DaysMs(rhs) => relate_interval(alloc, by, lhs, rhs),
+        AnyPrimitiveScalar::MonthDayNano(rhs) => relate_interval(alloc, by, lhs, rhs),
     }
 }
 
-/// Whether each interval, which stands in no order, is so related to a value, and null where it is.
-fn relate_interval<T: NativeType>(
+/// [`relate_flat`] of numbers, where the array is known to have the element type.
+fn relate_number<T: AnyElement + NativeOrd>(
     alloc: Global,
     by: Relation,
-    lhs: &PrimitiveArray<T>,
-    rhs: T,
+    lhs: &AnyPrimitive,
+    rhs: &PrimitiveScalar<T>,
 ) -> Result<BooleanArray, Error>
-    requires { IsEquality (relation_of by) }
+    requires one_element { element_of lhs.now ≡ T.PRIMITIVE }
+    requires valid { is_null (slot_by T.slot rhs.now.value) ≡ false }
     ensures array_type { IfOk result (λ array. array.arrow_type ≡ plain boolean) }
-    ensures rows { IfOk result (λ array. boolean_rows array ≡ map (λ s. related (relation_of by) s (T.slot rhs)) (rows_by (map T.slot) lhs.now)) }
+    ensures rows { IfOk result (λ array. boolean_rows array ≡ map (λ s. related (relation_of by) s (slot_by T.slot rhs.now.value)) (any_rows lhs.now)) }
+    ensures err { IsOkUnless result Error.OutOfMemory }
+{
+    primitive::relate_scalar(alloc, by, T::of_any(lhs), known(rhs.value()))
+}
+
+/// The same of intervals, which stand in no order.
+fn relate_interval<T: AnyElement>(
+    alloc: Global,
+    by: Relation,
+    lhs: &AnyPrimitive,
+    rhs: &PrimitiveScalar<T>,
+) -> Result<BooleanArray, Error>
+    requires one_element { element_of lhs.now ≡ T.PRIMITIVE }
+    requires equality { IsEquality (relation_of by) }
+    requires valid { is_null (slot_by T.slot rhs.now.value) ≡ false }
+    ensures array_type { IfOk result (λ array. array.arrow_type ≡ plain boolean) }
+    ensures rows { IfOk result (λ array. boolean_rows array ≡ map (λ s. related (relation_of by) s (slot_by T.slot rhs.now.value)) (any_rows lhs.now)) }
     ensures err { IsOkUnless result Error.OutOfMemory }
 {
     match by {
-        Relation::Eq => primitive::eq_scalar(alloc, lhs, rhs),
-        Relation::Neq => primitive::neq_scalar(alloc, lhs, rhs),
+        Relation::Eq => primitive::eq_scalar(alloc, T::of_any(lhs), known(rhs.value())),
+        Relation::Neq => primitive::neq_scalar(alloc, T::of_any(lhs), known(rhs.value())),
         _ => unreachable!(),
     }
 }
