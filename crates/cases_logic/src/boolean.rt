@@ -18,17 +18,12 @@ enum Connective {
     KleeneOr,
 }
 
-/// What is asked of each row of an array.
+/// What is asked of an array: of each row, or of all.
 #[derive(Clone, Copy)]
 enum Question {
     Not,
     IsNull,
     IsNotNull,
-}
-
-/// What is asked of all truth values of an array.
-#[derive(Clone, Copy)]
-enum Quantifier {
     Any,
     All,
     KleeneAny,
@@ -40,8 +35,7 @@ enum Quantifier {
 enum Asked {
     Arrays(Connective),
     Scalar(Connective),
-    EachRow(Question),
-    AllRows(Quantifier),
+    Array(Question),
 }
 
 /// The calls of both logics.
@@ -50,11 +44,11 @@ const CALLS: [(&str, Asked); 15] = [
     ("boolean::or", Asked::Arrays(Connective::Or)),
     ("boolean::and_scalar", Asked::Scalar(Connective::And)),
     ("boolean::or_scalar", Asked::Scalar(Connective::Or)),
-    ("boolean::not", Asked::EachRow(Question::Not)),
-    ("boolean::is_null", Asked::EachRow(Question::IsNull)),
-    ("boolean::is_not_null", Asked::EachRow(Question::IsNotNull)),
-    ("boolean::any", Asked::AllRows(Quantifier::Any)),
-    ("boolean::all", Asked::AllRows(Quantifier::All)),
+    ("boolean::not", Asked::Array(Question::Not)),
+    ("boolean::is_null", Asked::Array(Question::IsNull)),
+    ("boolean::is_not_null", Asked::Array(Question::IsNotNull)),
+    ("boolean::any", Asked::Array(Question::Any)),
+    ("boolean::all", Asked::Array(Question::All)),
     ("boolean_kleene::and", Asked::Arrays(Connective::KleeneAnd)),
     ("boolean_kleene::or", Asked::Arrays(Connective::KleeneOr)),
     (
@@ -65,8 +59,8 @@ const CALLS: [(&str, Asked); 15] = [
         "boolean_kleene::or_scalar",
         Asked::Scalar(Connective::KleeneOr),
     ),
-    ("boolean_kleene::any", Asked::AllRows(Quantifier::KleeneAny)),
-    ("boolean_kleene::all", Asked::AllRows(Quantifier::KleeneAll)),
+    ("boolean_kleene::any", Asked::Array(Question::KleeneAny)),
+    ("boolean_kleene::all", Asked::Array(Question::KleeneAll)),
 ];
 
 /// Answers a call of either logic; `false` where it is none.
@@ -77,13 +71,12 @@ pub(crate) fn answer(alloc: Global, call: &Call<'_>, out: &mut String) -> Result
     match *asked {
         Asked::Arrays(connective) => connect(alloc, connective, call, out),
         Asked::Scalar(connective) => connect_scalar(alloc, connective, call, out),
-        Asked::EachRow(question) => ask(alloc, question, call, out),
-        Asked::AllRows(quantifier) => quantify(alloc, quantifier, call, out),
+        Asked::Array(question) => ask(alloc, question, call, out),
     }?;
     Ok(true)
 }
 
-/// Appends the rows of two arrays, joined.
+/// Appends the rows of two arrays, joined. `Usage` unless both are of truth values and have as many rows.
 fn connect(
     alloc: Global,
     connective: Connective,
@@ -91,18 +84,7 @@ fn connect(
     out: &mut String,
 ) -> Result<(), Fault> {
     let pair = call.pair(alloc)?;
-    write_connected(alloc, connective, &*pair.left, &*pair.right, out)
-}
-
-/// The same of arrays that are read. `Usage` unless both are of truth values and have as many rows.
-fn write_connected(
-    alloc: Global,
-    connective: Connective,
-    lhs: &AnyArray,
-    rhs: &AnyArray,
-    out: &mut String,
-) -> Result<(), Fault> {
-    let (AnyArray::Boolean(lhs), AnyArray::Boolean(rhs)) = (lhs, rhs) else {
+    let (AnyArray::Boolean(lhs), AnyArray::Boolean(rhs)) = (&*pair.left, &*pair.right) else {
         return Err(Fault::Usage);
     };
     if lhs.len() != rhs.len() {
@@ -117,7 +99,7 @@ fn write_connected(
     write_truths(out, truths)
 }
 
-/// Appends the rows of an array, each joined to a scalar.
+/// Appends the rows of an array, each joined to a scalar. `Usage` unless both are truth values.
 fn connect_scalar(
     alloc: Global,
     connective: Connective,
@@ -125,77 +107,35 @@ fn connect_scalar(
     out: &mut String,
 ) -> Result<(), Fault> {
     call.takes(2)?;
-    let (array, scalar) = (call.array(alloc, 0)?, call.scalar(alloc, 1)?);
-    write_connected_scalar(alloc, connective, &*array.array, &*scalar.scalar, out)
-}
-
-/// The same of an array and a scalar that are read. `Usage` unless both are truth values.
-fn write_connected_scalar(
-    alloc: Global,
-    connective: Connective,
-    array: &AnyArray,
-    scalar: &AnyScalar,
-    out: &mut String,
-) -> Result<(), Fault> {
-    let (AnyArray::Boolean(array), AnyScalar::Boolean(scalar)) = (array, scalar) else {
+    let (left, right) = (call.array(alloc, 0)?, call.scalar(alloc, 1)?);
+    let (AnyArray::Boolean(lhs), AnyScalar::Boolean(rhs)) = (&*left.array, &*right.scalar) else {
         return Err(Fault::Usage);
     };
     let truths = match connective {
-        Connective::And => boolean::and_scalar(alloc, array, scalar),
-        Connective::Or => boolean::or_scalar(alloc, array, scalar),
-        Connective::KleeneAnd => boolean_kleene::and_scalar(alloc, array, scalar),
-        Connective::KleeneOr => boolean_kleene::or_scalar(alloc, array, scalar),
+        Connective::And => boolean::and_scalar(alloc, lhs, rhs),
+        Connective::Or => boolean::or_scalar(alloc, lhs, rhs),
+        Connective::KleeneAnd => boolean_kleene::and_scalar(alloc, lhs, rhs),
+        Connective::KleeneOr => boolean_kleene::or_scalar(alloc, lhs, rhs),
     };
     write_truths(out, truths)
 }
 
-/// Appends what is asked of each row of an array.
+/// Appends what is asked of an array. `Usage` unless it is of truth values, where more is asked than which rows are null.
 fn ask(alloc: Global, question: Question, call: &Call<'_>, out: &mut String) -> Result<(), Fault> {
-    let array = call.only_array(alloc)?;
-    write_asked(alloc, question, &*array.array, out)
-}
-
-/// The same of an array that is read. `Usage` where other rows than truth values are to be turned.
-fn write_asked(
-    alloc: Global,
-    question: Question,
-    array: &AnyArray,
-    out: &mut String,
-) -> Result<(), Fault> {
-    let truths = match (question, array) {
+    let given = call.only_array(alloc)?;
+    let truths = match (question, &*given.array) {
+        (Question::IsNull, array) => boolean::is_null(alloc, array),
+        (Question::IsNotNull, array) => boolean::is_not_null(alloc, array),
         (Question::Not, AnyArray::Boolean(array)) => boolean::not(alloc, array),
-        (Question::Not, _) => return Err(Fault::Usage),
-        (Question::IsNull, _) => boolean::is_null(alloc, array),
-        (Question::IsNotNull, _) => boolean::is_not_null(alloc, array),
+        (Question::Any, AnyArray::Boolean(array)) => return show(out, boolean::any(array)),
+        (Question::All, AnyArray::Boolean(array)) => return show(out, boolean::all(array)),
+        (Question::KleeneAny, AnyArray::Boolean(array)) => {
+            return show(out, boolean_kleene::any(array));
+        }
+        (Question::KleeneAll, AnyArray::Boolean(array)) => {
+            return show(out, boolean_kleene::all(array));
+        }
+        _ => return Err(Fault::Usage),
     };
     write_truths(out, truths)
-}
-
-/// Appends what is asked of all truth values of an array.
-fn quantify(
-    alloc: Global,
-    quantifier: Quantifier,
-    call: &Call<'_>,
-    out: &mut String,
-) -> Result<(), Fault> {
-    let array = call.only_array(alloc)?;
-    write_quantified(quantifier, &*array.array, out)
-}
-
-/// The same of an array that is read. `Usage` unless it is of truth values.
-fn write_quantified(
-    quantifier: Quantifier,
-    array: &AnyArray,
-    out: &mut String,
-) -> Result<(), Fault> {
-    let AnyArray::Boolean(array) = array else {
-        return Err(Fault::Usage);
-    };
-    let truth = match quantifier {
-        Quantifier::Any => boolean::any(array),
-        Quantifier::All => boolean::all(array),
-        Quantifier::KleeneAny => boolean_kleene::any(array),
-        Quantifier::KleeneAll => boolean_kleene::all(array),
-    };
-    show(out, truth)
 }

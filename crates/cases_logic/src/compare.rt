@@ -3,6 +3,9 @@
 mod any;
 
 use crate::typed;
+use crate::typed::primitive;
+use arrow_arrays::array::AnyArray;
+use arrow_flat::scalar::AnyScalar;
 use arrow_relate::relation::Relation;
 use arrow_text::call::Call;
 use arrow_text::fault::Fault;
@@ -92,10 +95,10 @@ pub(crate) fn answer(alloc: Global, call: &Call<'_>, out: &mut String) -> Result
         return Ok(false);
     };
     match named {
-        Named::Arrays(asked) => answer_arrays(alloc, kind, asked, call, out),
-        Named::Scalar(asked) => answer_scalar(alloc, kind, asked, call, out),
-        Named::Relate => answer_arrays(alloc, kind, given(call)?, call, out),
-        Named::RelateScalar => answer_scalar(alloc, kind, given(call)?, call, out),
+        Named::Arrays(asked) => answer_arrays(alloc, kind, asked, 0, call, out),
+        Named::Scalar(asked) => answer_scalar(alloc, kind, asked, 0, call, out),
+        Named::Relate => answer_arrays(alloc, kind, given(call)?, 1, call, out),
+        Named::RelateScalar => answer_scalar(alloc, kind, given(call)?, 1, call, out),
     }?;
     Ok(true)
 }
@@ -118,52 +121,76 @@ fn given(call: &Call<'_>) -> Result<Asked, Fault> {
     }
 }
 
-/// Which arguments the two sides are, and how many arguments there are.
-fn places(asked: Asked) -> (usize, usize, usize) {
-    match asked {
-        Asked::Given(_) => (1, 2, 3),
-        _ => (0, 1, 2),
-    }
-}
-
-/// Appends what is asked of the rows of two arrays.
+/// Appends what is asked of the rows of two arrays, arguments `first` and the one behind it. `Usage` unless both are of the
+/// kind that is asked, and of one layout.
 fn answer_arrays(
     alloc: Global,
     kind: Kind,
     asked: Asked,
+    first: usize,
     call: &Call<'_>,
     out: &mut String,
 ) -> Result<(), Fault> {
-    let (left, right, count) = places(asked);
-    call.takes(count)?;
-    let (left, right) = (call.array(alloc, left)?, call.array(alloc, right)?);
-    let (lhs, rhs) = (&*left.array, &*right.array);
-    match kind {
-        Kind::Any => any::relate(alloc, asked, lhs, rhs, out),
-        Kind::Boolean => typed::relate_truths(alloc, asked, lhs, rhs, out),
-        Kind::Primitive => typed::relate_primitives(alloc, asked, lhs, rhs, out),
-        Kind::Utf8 => typed::relate_texts(alloc, asked, lhs, rhs, out),
-        Kind::Binary => typed::relate_bytes(alloc, asked, lhs, rhs, out),
+    call.takes(first.saturating_add(2))?;
+    let left = call.array(alloc, first)?;
+    let right = call.array(alloc, first.saturating_add(1))?;
+    match (kind, &*left.array, &*right.array) {
+        (Kind::Any, lhs, rhs) => any::relate(alloc, asked, lhs, rhs, out),
+        (Kind::Boolean, AnyArray::Boolean(lhs), AnyArray::Boolean(rhs)) => {
+            typed::of_truths(alloc, asked, lhs, rhs, out)
+        }
+        (Kind::Primitive, AnyArray::Primitive(lhs), AnyArray::Primitive(rhs)) => {
+            primitive::of_arrays(alloc, asked, lhs, rhs, out)
+        }
+        (Kind::Utf8, AnyArray::Utf8(lhs), AnyArray::Utf8(rhs)) => {
+            typed::of_texts(alloc, asked, lhs, rhs, out)
+        }
+        (Kind::Utf8, AnyArray::LargeUtf8(lhs), AnyArray::LargeUtf8(rhs)) => {
+            typed::of_texts(alloc, asked, lhs, rhs, out)
+        }
+        (Kind::Binary, AnyArray::Binary(lhs), AnyArray::Binary(rhs)) => {
+            typed::of_bytes(alloc, asked, lhs, rhs, out)
+        }
+        (Kind::Binary, AnyArray::LargeBinary(lhs), AnyArray::LargeBinary(rhs)) => {
+            typed::of_bytes(alloc, asked, lhs, rhs, out)
+        }
+        _ => Err(Fault::Usage),
     }
 }
 
-/// Appends what is asked of the rows of an array and a scalar.
+/// Appends what is asked of the rows of an array and a scalar. `Usage` unless both are of the kind that is asked, and of one
+/// layout, and where the scalar is null and the call is for one kind.
 fn answer_scalar(
     alloc: Global,
     kind: Kind,
     asked: Asked,
+    first: usize,
     call: &Call<'_>,
     out: &mut String,
 ) -> Result<(), Fault> {
-    let (left, right, count) = places(asked);
-    call.takes(count)?;
-    let (left, right) = (call.array(alloc, left)?, call.scalar(alloc, right)?);
-    let (lhs, rhs) = (&*left.array, &*right.scalar);
-    match kind {
-        Kind::Any => any::relate_scalar(alloc, asked, lhs, rhs, out),
-        Kind::Boolean => typed::relate_truth(alloc, asked, lhs, rhs, out),
-        Kind::Primitive => typed::relate_primitive(alloc, asked, lhs, rhs, out),
-        Kind::Utf8 => typed::relate_text(alloc, asked, lhs, rhs, out),
-        Kind::Binary => typed::relate_row(alloc, asked, lhs, rhs, out),
+    call.takes(first.saturating_add(2))?;
+    let left = call.array(alloc, first)?;
+    let right = call.scalar(alloc, first.saturating_add(1))?;
+    match (kind, &*left.array, &*right.scalar) {
+        (Kind::Any, lhs, rhs) => any::relate_scalar(alloc, asked, lhs, rhs, out),
+        (Kind::Boolean, AnyArray::Boolean(lhs), AnyScalar::Boolean(rhs)) => {
+            typed::of_truth(alloc, asked, lhs, rhs.value(), out)
+        }
+        (Kind::Primitive, AnyArray::Primitive(lhs), AnyScalar::Primitive(rhs)) => {
+            primitive::of_scalar(alloc, asked, lhs, rhs, out)
+        }
+        (Kind::Utf8, AnyArray::Utf8(lhs), AnyScalar::Utf8(rhs)) => {
+            typed::of_text(alloc, asked, lhs, rhs.value(), out)
+        }
+        (Kind::Utf8, AnyArray::LargeUtf8(lhs), AnyScalar::LargeUtf8(rhs)) => {
+            typed::of_text(alloc, asked, lhs, rhs.value(), out)
+        }
+        (Kind::Binary, AnyArray::Binary(lhs), AnyScalar::Binary(rhs)) => {
+            typed::of_row(alloc, asked, lhs, rhs.value(), out)
+        }
+        (Kind::Binary, AnyArray::LargeBinary(lhs), AnyScalar::LargeBinary(rhs)) => {
+            typed::of_row(alloc, asked, lhs, rhs.value(), out)
+        }
+        _ => Err(Fault::Usage),
     }
 }

@@ -40,17 +40,14 @@ use std::alloc::Global;
 
 /// The calls, but for both logics, comparisons, and whether a call is asked for a data type.
 const CALLS: [(&str, Answer); 11] = [
-    ("comparison::finish_eq_validities", validities::finish_eq),
-    ("comparison::finish_neq_validities", validities::finish_neq),
+    ("comparison::finish_eq_validities", validities::finish),
+    ("comparison::finish_neq_validities", validities::finish),
     ("length::length", texts::length),
     ("nullif::can_nullif", nullif::can_nullif),
     ("nullif::nullif", nullif::nullif),
     ("nullif::nullif_scalar", nullif::nullif_scalar),
-    ("nullif::primitive_nullif", nullif::primitive_nullif),
-    (
-        "nullif::primitive_nullif_scalar",
-        nullif::primitive_nullif_scalar,
-    ),
+    ("nullif::primitive_nullif", nullif::nullif),
+    ("nullif::primitive_nullif_scalar", nullif::nullif_scalar),
     ("substring::substring", texts::substring),
     ("utils::check_same_len", validities::check_same_len),
     ("utils::combine_validities", validities::combine_validities),

@@ -34,71 +34,44 @@ macro_rules! of_scalar {
     };
 }
 
-mod primitive;
+pub(crate) mod primitive;
 
 use crate::compare::Asked;
-use arrow_arrays::array::AnyArray;
-use arrow_flat::array::{BinaryArray, Utf8Array};
-use arrow_flat::scalar::AnyScalar;
+use arrow_flat::array::{BinaryArray, BooleanArray, Utf8Array};
 use arrow_relate::comparison::{binary, boolean, utf8};
 use arrow_text::fault::Fault;
 use arrow_text::write::write_truths;
 use arrow_types::types::Offset;
-pub(crate) use primitive::{relate_primitive, relate_primitives};
 use std::alloc::Global;
 
-/// Appends what is asked of two arrays of truth values. `Usage` unless both are, and have as many rows.
-pub(crate) fn relate_truths(
+/// Appends what is asked of two arrays of truth values. `Usage` unless both have as many rows.
+pub(crate) fn of_truths(
     alloc: Global,
     asked: Asked,
-    lhs: &AnyArray,
-    rhs: &AnyArray,
+    lhs: &BooleanArray,
+    rhs: &BooleanArray,
     out: &mut String,
 ) -> Result<(), Fault> {
-    match (lhs, rhs) {
-        (AnyArray::Boolean(lhs), AnyArray::Boolean(rhs)) if lhs.len() == rhs.len() => {
-            write_truths(out, of_arrays!(asked, boolean(alloc, lhs, rhs)))
-        }
-        _ => Err(Fault::Usage),
-    }
-}
-
-/// Appends what is asked of truth values and one of them. `Usage` unless they are, and where it is null.
-pub(crate) fn relate_truth(
-    alloc: Global,
-    asked: Asked,
-    lhs: &AnyArray,
-    rhs: &AnyScalar,
-    out: &mut String,
-) -> Result<(), Fault> {
-    let (AnyArray::Boolean(lhs), AnyScalar::Boolean(rhs)) = (lhs, rhs) else {
+    if lhs.len() != rhs.len() {
         return Err(Fault::Usage);
-    };
-    match rhs.value() {
-        Some(rhs) => write_truths(out, of_scalar!(asked, boolean(alloc, lhs, rhs))),
-        None => Err(Fault::Usage),
     }
+    write_truths(out, of_arrays!(asked, boolean(alloc, lhs, rhs)))
 }
 
-/// Appends what is asked of two arrays of texts. `Usage` unless both are of one layout.
-pub(crate) fn relate_texts(
+/// Appends what is asked of truth values and one of them. `Usage` where it is null.
+pub(crate) fn of_truth(
     alloc: Global,
     asked: Asked,
-    lhs: &AnyArray,
-    rhs: &AnyArray,
+    lhs: &BooleanArray,
+    rhs: Option<bool>,
     out: &mut String,
 ) -> Result<(), Fault> {
-    match (lhs, rhs) {
-        (AnyArray::Utf8(lhs), AnyArray::Utf8(rhs)) => of_texts(alloc, asked, lhs, rhs, out),
-        (AnyArray::LargeUtf8(lhs), AnyArray::LargeUtf8(rhs)) => {
-            of_texts(alloc, asked, lhs, rhs, out)
-        }
-        _ => Err(Fault::Usage),
-    }
+    let rhs = rhs.ok_or(Fault::Usage)?;
+    write_truths(out, of_scalar!(asked, boolean(alloc, lhs, rhs)))
 }
 
-/// The same of texts of one layout. `Usage` unless both have as many rows.
-fn of_texts<O: Offset>(
+/// Appends what is asked of two arrays of texts. `Usage` unless both have as many rows.
+pub(crate) fn of_texts<O: Offset>(
     alloc: Global,
     asked: Asked,
     lhs: &Utf8Array<O>,
@@ -111,58 +84,20 @@ fn of_texts<O: Offset>(
     write_truths(out, of_arrays!(asked, utf8(alloc, lhs, rhs)))
 }
 
-/// Appends what is asked of texts and one of them. `Usage` unless both are of one layout.
-pub(crate) fn relate_text(
-    alloc: Global,
-    asked: Asked,
-    lhs: &AnyArray,
-    rhs: &AnyScalar,
-    out: &mut String,
-) -> Result<(), Fault> {
-    match (lhs, rhs) {
-        (AnyArray::Utf8(lhs), AnyScalar::Utf8(rhs)) => {
-            of_text(alloc, asked, lhs, rhs.value(), out)
-        }
-        (AnyArray::LargeUtf8(lhs), AnyScalar::LargeUtf8(rhs)) => {
-            of_text(alloc, asked, lhs, rhs.value(), out)
-        }
-        _ => Err(Fault::Usage),
-    }
-}
-
-/// The same of texts of one layout. `Usage` where the scalar is null.
-fn of_text<O: Offset>(
+/// Appends what is asked of texts and one of them. `Usage` where it is null.
+pub(crate) fn of_text<O: Offset>(
     alloc: Global,
     asked: Asked,
     lhs: &Utf8Array<O>,
     rhs: Option<&str>,
     out: &mut String,
 ) -> Result<(), Fault> {
-    match rhs {
-        Some(rhs) => write_truths(out, of_scalar!(asked, utf8(alloc, lhs, rhs))),
-        None => Err(Fault::Usage),
-    }
+    let rhs = rhs.ok_or(Fault::Usage)?;
+    write_truths(out, of_scalar!(asked, utf8(alloc, lhs, rhs)))
 }
 
-/// Appends what is asked of two arrays of bytes. `Usage` unless both are of one layout.
-pub(crate) fn relate_bytes(
-    alloc: Global,
-    asked: Asked,
-    lhs: &AnyArray,
-    rhs: &AnyArray,
-    out: &mut String,
-) -> Result<(), Fault> {
-    match (lhs, rhs) {
-        (AnyArray::Binary(lhs), AnyArray::Binary(rhs)) => of_bytes(alloc, asked, lhs, rhs, out),
-        (AnyArray::LargeBinary(lhs), AnyArray::LargeBinary(rhs)) => {
-            of_bytes(alloc, asked, lhs, rhs, out)
-        }
-        _ => Err(Fault::Usage),
-    }
-}
-
-/// The same of bytes of one layout. `Usage` unless both have as many rows.
-fn of_bytes<O: Offset>(
+/// Appends what is asked of two arrays of bytes. `Usage` unless both have as many rows.
+pub(crate) fn of_bytes<O: Offset>(
     alloc: Global,
     asked: Asked,
     lhs: &BinaryArray<O>,
@@ -175,35 +110,14 @@ fn of_bytes<O: Offset>(
     write_truths(out, of_arrays!(asked, binary(alloc, lhs, rhs)))
 }
 
-/// Appends what is asked of rows of bytes and one of them. `Usage` unless both are of one layout.
-pub(crate) fn relate_row(
-    alloc: Global,
-    asked: Asked,
-    lhs: &AnyArray,
-    rhs: &AnyScalar,
-    out: &mut String,
-) -> Result<(), Fault> {
-    match (lhs, rhs) {
-        (AnyArray::Binary(lhs), AnyScalar::Binary(rhs)) => {
-            of_row(alloc, asked, lhs, rhs.value(), out)
-        }
-        (AnyArray::LargeBinary(lhs), AnyScalar::LargeBinary(rhs)) => {
-            of_row(alloc, asked, lhs, rhs.value(), out)
-        }
-        _ => Err(Fault::Usage),
-    }
-}
-
-/// The same of bytes of one layout. `Usage` where the scalar is null.
-fn of_row<O: Offset>(
+/// Appends what is asked of rows of bytes and one of them. `Usage` where it is null.
+pub(crate) fn of_row<O: Offset>(
     alloc: Global,
     asked: Asked,
     lhs: &BinaryArray<O>,
     rhs: Option<&[u8]>,
     out: &mut String,
 ) -> Result<(), Fault> {
-    match rhs {
-        Some(rhs) => write_truths(out, of_scalar!(asked, binary(alloc, lhs, rhs))),
-        None => Err(Fault::Usage),
-    }
+    let rhs = rhs.ok_or(Fault::Usage)?;
+    write_truths(out, of_scalar!(asked, binary(alloc, lhs, rhs)))
 }

@@ -30,20 +30,13 @@ const CALLS: [(&str, fn(&DataType) -> bool); 14] = [
 
 /// Appends whether a call is asked for a data type; `false` where no call has the name.
 pub(crate) fn answer(alloc: Global, call: &Call<'_>, out: &mut String) -> Result<bool, Fault> {
-    match find(&CALLS, call.name) {
-        Some(is_asked) => {
-            let truth = is_asked(&*only_type(alloc, call)?);
-            show(out, truth)?;
-            Ok(true)
-        }
-        None => Ok(false),
-    }
-}
-
-/// The only argument, a data type.
-fn only_type(alloc: Global, call: &Call<'_>) -> Result<Box<DataType>, Fault> {
+    let Some(is_asked) = find(&CALLS, call.name) else {
+        return Ok(false);
+    };
     call.takes(1)?;
-    boxed_type(alloc, call, 0)
+    let data_type = boxed_type(alloc, call, 0)?;
+    show(out, is_asked(&data_type))?;
+    Ok(true)
 }
 
 /// Argument `i`, a data type.

@@ -23,16 +23,7 @@ pub(crate) fn combine_validities(
 ) -> Result<(), Fault> {
     call.takes(2)?;
     let (lhs, rhs) = (call.validity(alloc, 0)?, call.validity(alloc, 1)?);
-    write_combined(alloc, lhs.as_ref(), rhs.as_ref(), out)
-}
-
-/// The same of validities that are read.
-fn write_combined(
-    alloc: Global,
-    lhs: Option<&Bitmap>,
-    rhs: Option<&Bitmap>,
-    out: &mut String,
-) -> Result<(), Fault> {
+    let (lhs, rhs) = (lhs.as_ref(), rhs.as_ref());
     if !are_one_length(lhs, rhs) {
         return Err(Fault::Usage);
     }
@@ -61,31 +52,17 @@ pub(crate) fn check_same_len(
     show(out, "ok")
 }
 
-/// Appends comparisons of equal rows that two validities finish.
-pub(crate) fn finish_eq(alloc: Global, call: &Call<'_>, out: &mut String) -> Result<(), Fault> {
-    finish(alloc, true, call, out)
-}
-
-/// Appends comparisons of differing rows that two validities finish.
-pub(crate) fn finish_neq(alloc: Global, call: &Call<'_>, out: &mut String) -> Result<(), Fault> {
-    finish(alloc, false, call, out)
-}
-
-/// Appends comparisons that two validities finish: of equal rows, or of those that differ.
-fn finish(alloc: Global, of_equal: bool, call: &Call<'_>, out: &mut String) -> Result<(), Fault> {
+/// Appends comparisons of truth values that two validities finish: of equal rows, or of those that differ.
+pub(crate) fn finish(alloc: Global, call: &Call<'_>, out: &mut String) -> Result<(), Fault> {
     call.takes(3)?;
-    let array = call.array(alloc, 0)?;
-    let truths = truths_of(&array.array)?;
+    let given = call.array(alloc, 0)?;
+    let AnyArray::Boolean(truths) = &*given.array else {
+        return Err(Fault::Usage);
+    };
+    let truths = truths.clone()?;
     let (lhs, rhs) = (call.validity(alloc, 1)?, call.validity(alloc, 2)?);
+    let of_equal = call.name == "comparison::finish_eq_validities";
     write_finished(alloc, of_equal, truths, lhs, rhs, out)
-}
-
-/// A copy of an array of truth values. `Usage` of any other.
-fn truths_of(array: &AnyArray) -> Result<BooleanArray, Fault> {
-    match array {
-        AnyArray::Boolean(truths) => Ok(truths.clone()?),
-        _ => Err(Fault::Usage),
-    }
 }
 
 /// Appends what two validities finish. `Usage` unless each has a bit for each truth value.

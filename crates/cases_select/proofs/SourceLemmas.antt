@@ -7,8 +7,9 @@ use Rattle.std.specs.List.{All}
 use Rattle.std.specs.Prelude.{take}
 use Rattle.arrow_types.specs.ArrowType.{ArrowType}
 use Rattle.arrow_arrays.specs.Layout.{Layout, rows, type_of_layout}
-use Rattle.arrow_flat_growable.specs.Grown.{Grown, AreThere, bound_to, source_at}
+use Rattle.arrow_flat_growable.specs.Grown.{Grown, AreOfOneType, AreThere, bound_to, source_at}
 use Rattle.arrow_flat_growable.proofs.FlatLemmas.{source_is}
+use Rattle.arrow_growable.proofs.MakeLemmas.{bind_all}
 use Rattle.cases_select.specs.Sources.{TakesRowsOf}
 
 -- rows of the arrays are there
@@ -22,10 +23,6 @@ pub rows_there : {B : Type 0} (h : B → Layout) (arrays : List B) (b : B) (sour
 rows_there h arrays b sources i start len from bound read within =
     there sources (map h arrays) i start len from (omega (arith, bound, length-map arrays h)) (subst (λ l. start + len ≤ length (rows l)) (sym (source_is h arrays i b bound read)) within)
 
--- a growable that is bound to them
-pub takes_bound : (g : Grown) (layouts same : List Layout) → g ≡ bound_to layouts → layouts ≡ same → TakesRowsOf same g.sources
-takes_bound g layouts same bound is = subst (λ (h : Grown). TakesRowsOf same h.sources) (sym bound) is
-
 -- one more array of a type
 pub typed_next : {B : Type 0} (h : B → Layout) (arrays : List B) (b : B) (i : ℕ) (t : ArrowType) → i < length arrays → b ≡ get_or arrays i b → type_of_layout (h b) ≡ t → All (λ l. type_of_layout l ≡ t) (take i (map h arrays)) → All (λ l. type_of_layout l ≡ t) (take (i + 1) (map h arrays))
 typed_next h arrays b i t bound read same done =
@@ -36,6 +33,16 @@ pub typed_all : {B : Type 0} (h : B → Layout) (arrays : List B) (i : ℕ) (t :
 typed_all h arrays i t whole done =
     All-same (λ l. type_of_layout l ≡ t) (map h arrays) _ (sym (take_all i (map h arrays) (omega (arith, whole, length-map arrays h)))) done
 
--- as many arrays are bound
-pub some_bound : {A B : Type 0} (f : A → Layout) (h : B → Layout) (bound : List A) (arrays : List B) → map f bound ≡ map h arrays → 0 < length arrays → 0 < length bound
-some_bound f h bound arrays same some = omega (arith, some, ap length same, length-map bound f, length-map arrays h)
+-- where all arrays are bound, there are as many
+pub all_there : {A B : Type 0} (f : A → Layout) (h : B → Layout) (bound : List A) (arrays : List B) (i : ℕ) → length arrays ≤ i → map f bound ≡ take i (map h arrays) → 0 < length arrays → 0 < length bound
+all_there f h bound arrays i whole done some =
+    omega (arith, some, ap length (bind_all f h bound arrays i whole done), length-map bound f, length-map arrays h)
+
+-- and they are of one type
+pub all_of_one_type : {A B : Type 0} (f : A → Layout) (h : B → Layout) (bound : List A) (arrays : List B) (i : ℕ) → length arrays ≤ i → map f bound ≡ take i (map h arrays) → AreOfOneType (map h arrays) → AreOfOneType (map f bound)
+all_of_one_type f h bound arrays i whole done = subst AreOfOneType (sym (bind_all f h bound arrays i whole done))
+
+-- a growable that is bound to them takes rows of the arrays
+pub takes_all : {A B : Type 0} (f : A → Layout) (h : B → Layout) (bound : List A) (arrays : List B) (i : ℕ) → length arrays ≤ i → map f bound ≡ take i (map h arrays) → (g : Grown) → g ≡ bound_to (map f bound) → TakesRowsOf (map h arrays) g.sources
+takes_all f h bound arrays i whole done g is =
+    subst (λ (k : Grown). TakesRowsOf (map h arrays) k.sources) (sym is) (bind_all f h bound arrays i whole done)

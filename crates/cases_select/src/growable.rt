@@ -17,93 +17,20 @@ use arrow_growable::growable::make_growable;
 use arrow_text::call::{Call, read_arrays};
 use arrow_text::fault::Fault;
 use arrow_text::piece::Piece;
-use arrow_text::types::find;
 use arrow_text::write::show;
 use arrow_types::datatypes::PhysicalType;
 use std::alloc::Global;
 
-/// The arrays that a growable takes rows of.
-#[derive(Clone, Copy, PartialEq, Eq)]
-pub(crate) enum Kind {
-    Any,
-    Null,
-    Boolean,
-    Primitive,
-    Utf8,
-    Binary,
-    FixedSizeBinary,
-    List,
-    FixedSizeList,
-    Struct,
-    Map,
-    Union,
-    Dictionary,
-}
-
-/// The names of the growables.
-const KINDS: [(&str, Kind); 13] = [
-    ("make_growable", Kind::Any),
-    ("GrowableNull", Kind::Null),
-    ("GrowableBoolean", Kind::Boolean),
-    ("GrowablePrimitive", Kind::Primitive),
-    ("GrowableUtf8", Kind::Utf8),
-    ("GrowableBinary", Kind::Binary),
-    ("GrowableFixedSizeBinary", Kind::FixedSizeBinary),
-    ("GrowableList", Kind::List),
-    ("GrowableFixedSizeList", Kind::FixedSizeList),
-    ("GrowableStruct", Kind::Struct),
-    ("GrowableMap", Kind::Map),
-    ("GrowableUnion", Kind::Union),
-    ("GrowableDictionary", Kind::Dictionary),
-];
-
-/// The arrays that lie in memory so.
-fn kind_of_type(physical_type: PhysicalType) -> Kind {
-    match physical_type {
-        PhysicalType::Null => Kind::Null,
-        PhysicalType::Boolean => Kind::Boolean,
-        PhysicalType::Primitive(_) => Kind::Primitive,
-        PhysicalType::Utf8 | PhysicalType::LargeUtf8 => Kind::Utf8,
-        PhysicalType::Binary | PhysicalType::LargeBinary => Kind::Binary,
-        PhysicalType::FixedSizeBinary => Kind::FixedSizeBinary,
-        PhysicalType::List | PhysicalType::LargeList => Kind::List,
-        PhysicalType::FixedSizeList => Kind::FixedSizeList,
-        PhysicalType::Struct => Kind::Struct,
-        PhysicalType::Union => Kind::Union,
-        PhysicalType::Map => Kind::Map,
-        PhysicalType::Dictionary(_) => Kind::Dictionary,
-    }
-}
-
 /// Makes a growable over the arrays that stand before a colon, takes the steps behind it, and appends what each
-/// answers.
+/// answers with a space between two, and `none` of no step.
 pub(crate) fn answer(alloc: Global, call: &Call<'_>, out: &mut String) -> Result<(), Fault> {
-    let kind = *find(&KINDS, call.name).ok_or(Fault::Usage)?;
     let (arrays, steps) = parts_of(call)?;
     let arrays = read_arrays(alloc, arrays)?;
     let plan = Plan::read(alloc, call, steps)?;
     let lent = lend_all(alloc, &arrays)?;
-    write_answers(alloc, kind, &lent, &plan, out)
-}
-
-/// Appends what each step answers, and `none` of no step.
-fn write_answers(
-    alloc: Global,
-    kind: Kind,
-    arrays: &[&AnyArray],
-    plan: &Plan,
-    out: &mut String,
-) -> Result<(), Fault> {
     let mut answers = String::new(alloc);
-    run(alloc, kind, arrays, plan, &mut answers)?;
-    show(
-        out,
-        if answers.is_empty() {
-            "none"
-        } else {
-            answers.as_str()
-        },
-    )
+    run(alloc, call.name, &lent, &plan, &mut answers)?;
+    show(out, answers.strip_prefix(' ').unwrap_or("none"))
 }
 
 /// The arrays and the steps among the arguments: those from the third one on, and those behind a colon.
@@ -117,10 +44,10 @@ fn parts_of<'a, 'b>(call: &'b Call<'a>) -> Result<(&'b [Piece<'a>], &'b [Piece<'
     Err(Fault::Usage)
 }
 
-/// The same over arrays that are lent, of one data type and of the kind that is asked.
+/// The growable of this name over arrays of one data type that are lent. A space stands before the answer of each step.
 fn run(
     alloc: Global,
-    kind: Kind,
+    name: &str,
     arrays: &[&AnyArray],
     plan: &Plan,
     out: &mut String,
@@ -128,14 +55,32 @@ fn run(
     if !are_of_one_type(arrays) {
         return Err(Fault::Usage);
     }
-    if kind == Kind::Any {
+    if name == "make_growable" {
         return run_any(alloc, arrays, plan, out);
     }
     let physical_type = arrays[0].data_type().to_physical_type();
-    if kind_of_type(physical_type) != kind {
+    if name != name_for(physical_type) {
         return Err(Fault::Usage);
     }
     run_typed(alloc, arrays, physical_type, plan, out)
+}
+
+/// The name of the growable over arrays that lie in memory so.
+fn name_for(physical_type: PhysicalType) -> &'static str {
+    match physical_type {
+        PhysicalType::Null => "GrowableNull",
+        PhysicalType::Boolean => "GrowableBoolean",
+        PhysicalType::Primitive(_) => "GrowablePrimitive",
+        PhysicalType::Utf8 | PhysicalType::LargeUtf8 => "GrowableUtf8",
+        PhysicalType::Binary | PhysicalType::LargeBinary => "GrowableBinary",
+        PhysicalType::FixedSizeBinary => "GrowableFixedSizeBinary",
+        PhysicalType::List | PhysicalType::LargeList => "GrowableList",
+        PhysicalType::FixedSizeList => "GrowableFixedSizeList",
+        PhysicalType::Struct => "GrowableStruct",
+        PhysicalType::Union => "GrowableUnion",
+        PhysicalType::Map => "GrowableMap",
+        PhysicalType::Dictionary(_) => "GrowableDictionary",
+    }
 }
 
 /// A growable of arrays of any type, which becomes no array.
@@ -147,5 +92,5 @@ fn run_any(alloc: Global, arrays: &[&AnyArray], plan: &Plan, out: &mut String) -
         return Err(Fault::Usage);
     }
     let mut growable = make_growable(alloc, arrays, plan.use_validity, plan.capacity)?;
-    run_actions(&mut growable, arrays, &plan.actions, out)
+    run_actions(&mut growable, arrays, plan, out)
 }

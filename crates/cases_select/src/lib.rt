@@ -28,7 +28,7 @@ const CALLS: [(&str, Answer); 31] = [
     ("GrowableUnion", growable::answer),
     ("GrowableDictionary", growable::answer),
     ("join_arrays", kernels::answer_join),
-    ("concatenate::concatenate", kernels::answer_concatenate),
+    ("concatenate::concatenate", kernels::answer_join),
     ("window::shift", kernels::answer_shift),
     ("if_then_else::if_then_else", kernels::answer_choice),
     ("filter::filter", filter::answer_filter),

@@ -1,15 +1,13 @@
-//! Arrays: how they are told apart, lent, compared by type, and written.
+//! Arrays: how they are told apart, lent, and compared by type.
 
-ghost use Rattle.std.specs.Prelude.{◌≡◌, ◌<◌, length, All, IsTrue};
-ghost use Rattle.arrow_arrays.specs.Any.{any_array_type, layouts_in};
-ghost use Rattle.arrow_arrays.specs.Layout.{type_of_layout};
+ghost use Rattle.std.specs.Prelude.{◌<◌, length, IsTrue};
+ghost use Rattle.arrow_arrays.specs.Any.{layouts_in};
 ghost use Rattle.arrow_flat_growable.specs.Grown.{AreOfOneType};
 
 use arrow_arrays::array::AnyArray;
 use arrow_flat::array::{AnyElement, AnyPrimitive, BooleanArray, PrimitiveArray};
 use arrow_text::fault::Fault;
 use arrow_text::given::Arrays;
-use arrow_text::write::write_array;
 use arrow_types::error::Error;
 use std::alloc::Global;
 
@@ -44,41 +42,14 @@ pub(crate) fn are_of_one_type(arrays: &[&AnyArray]) -> bool
     ensures some { IsTrue result → 0 < length arrays.now }
     ensures one_type { IsTrue result → AreOfOneType (layouts_in arrays.now) }
 {
-    match arrays.first() {
-        Some(first) => have_type_of(arrays, first),
-        None => false,
-    }
-}
-
-/// Whether all arrays are of one's data type.
-fn have_type_of(arrays: &[&AnyArray], first: &AnyArray) -> bool
-    ensures { IsTrue result → All (λ l. type_of_layout l ≡ any_array_type first.now) (layouts_in arrays.now) }
-{
+    let Some(first) = arrays.first() else {
+        return false;
+    };
     for array in arrays {
-        if !is_of_type(array, first) {
+        let is_alike = *array.data_type() == *first.data_type();
+        if !is_alike {
             return false;
         }
     }
     true
-}
-
-/// Whether two arrays are of one data type.
-fn is_of_type(array: &AnyArray, other: &AnyArray) -> bool
-    ensures { IsTrue result → any_array_type array.now ≡ any_array_type other.now }
-{
-    *array.data_type() == *other.data_type()
-}
-
-/// Appends the arrays with a space between two, and `none` where there is no array.
-pub(crate) fn write_arrays(out: &mut String, arrays: &[AnyArray]) -> Result<(), Fault> {
-    if arrays.is_empty() {
-        return Ok(out.push_str("none")?);
-    }
-    for (place, array) in arrays.iter().enumerate() {
-        if place > 0 {
-            out.push(' ')?;
-        }
-        write_array(out, array)?;
-    }
-    Ok(())
 }

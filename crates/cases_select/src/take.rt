@@ -30,21 +30,12 @@ pub(crate) fn answer_can_take(
     show(out, can_take(&data_type))
 }
 
-/// The rows of an array that indices name, by the call for arrays of any kind or by that for those of one.
+/// The rows of an array that indices name, integers of any of eight types: by the call for arrays of any kind or by that
+/// for those of one.
 pub(crate) fn answer(alloc: Global, call: &Call<'_>, out: &mut String) -> Result<(), Fault> {
     let given = call.pair(alloc)?;
-    take_any(alloc, call.name, &*given.left, &*given.right, out)
-}
-
-/// The same of arrays that are lent, of which the second holds integers of any of eight types.
-fn take_any(
-    alloc: Global,
-    name: &str,
-    array: &AnyArray,
-    indices: &AnyArray,
-    out: &mut String,
-) -> Result<(), Fault> {
-    match as_primitive(indices)? {
+    let (name, array) = (call.name, &*given.left);
+    match as_primitive(&given.right)? {
         AnyPrimitive::Int8(indices) => take_rows(alloc, name, array, indices, out),
         AnyPrimitive::Int16(indices) => take_rows(alloc, name, array, indices, out),
         AnyPrimitive::Int32(indices) => take_rows(alloc, name, array, indices, out),

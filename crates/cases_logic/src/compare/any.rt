@@ -1,11 +1,9 @@
 //! Comparisons of rows of any type, where their data types have them.
 
 ghost use Rattle.std.specs.Prelude.{◌≡◌, ◌↔◌, IsTrue};
-ghost use Rattle.arrow_types.specs.ArrowType.{logical};
+ghost use Rattle.arrow_types.specs.Physical.{physical_type_of};
 ghost use Rattle.arrow_types.specs.TypeOf.{type_of};
-ghost use Rattle.arrow_flat.specs.AnyScalar.{meaning_of};
-ghost use Rattle.arrow_arrays.specs.Any.{any_array_type};
-ghost use Rattle.arrow_compare.specs.Compared.{HasEquality, HasEqualityThrough, HasOrder, HasOrderThrough};
+ghost use Rattle.arrow_compare.specs.Compared.{HasEquality, HasOrder, type_through};
 
 use super::Asked;
 use arrow_arrays::array::AnyArray;
@@ -26,11 +24,9 @@ pub(super) fn relate(
     rhs: &AnyArray,
     out: &mut String,
 ) -> Result<(), Fault> {
-    if lhs.len() != rhs.len() || !are_of_one_type(lhs, rhs) {
-        return Err(Fault::Usage);
-    }
+    let are_alike = *lhs.data_type().to_logical_type() == *rhs.data_type().to_logical_type();
     let layout = lhs.data_type().to_physical_type();
-    if !has_equality(layout) {
+    if !are_alike || lhs.len() != rhs.len() || !has_equality(layout) {
         return Err(Fault::Usage);
     }
     let truths = match asked {
@@ -57,8 +53,9 @@ pub(super) fn relate_scalar(
     rhs: &AnyScalar,
     out: &mut String,
 ) -> Result<(), Fault> {
-    let left = lhs.data_type();
-    if !is_of_one_type(lhs, rhs) || !has_equality_through(left) {
+    let are_alike = *lhs.data_type().to_logical_type() == *rhs.data_type().to_logical_type();
+    let layout = layout_through(lhs.data_type());
+    if !are_alike || !has_equality(layout) {
         return Err(Fault::Usage);
     }
     let truths = match asked {
@@ -66,7 +63,7 @@ pub(super) fn relate_scalar(
         Asked::Neq => comparison::neq_scalar(alloc, lhs, rhs),
         Asked::Same => comparison::eq_scalar_and_validity(alloc, lhs, rhs),
         Asked::Differing => comparison::neq_scalar_and_validity(alloc, lhs, rhs),
-        _ if !has_order_through(left) => return Err(Fault::Usage),
+        _ if !has_order(layout) => return Err(Fault::Usage),
         Asked::Lt => comparison::lt_scalar(alloc, lhs, rhs),
         Asked::LtEq => comparison::lt_eq_scalar(alloc, lhs, rhs),
         Asked::Gt => comparison::gt_scalar(alloc, lhs, rhs),
@@ -74,20 +71,6 @@ pub(super) fn relate_scalar(
         Asked::Given(_) => return Err(Fault::Usage),
     };
     write_truths(out, truths)
-}
-
-/// Whether two arrays are of one data type, extensions around each apart.
-fn are_of_one_type(lhs: &AnyArray, rhs: &AnyArray) -> bool
-    ensures { IsTrue result → logical (any_array_type lhs.now) ≡ logical (any_array_type rhs.now) }
-{
-    *lhs.data_type().to_logical_type() == *rhs.data_type().to_logical_type()
-}
-
-/// Whether an array and a scalar are.
-fn is_of_one_type(lhs: &AnyArray, rhs: &AnyScalar) -> bool
-    ensures { IsTrue result → logical (any_array_type lhs.now) ≡ logical (meaning_of rhs.now).0 }
-{
-    *lhs.data_type().to_logical_type() == *rhs.data_type().to_logical_type()
 }
 
 /// Whether rows that lie so in memory are equal or not.
@@ -115,24 +98,13 @@ fn has_order(layout: PhysicalType) -> bool
     }
 }
 
-/// Whether the rows of a type are equal or not, through dictionaries at any depth.
-fn has_equality_through(data_type: &DataType) -> bool
-    ensures { IsTrue result ↔ HasEqualityThrough (type_of data_type.now) }
+/// How the rows of a type lie in memory, through dictionaries at any depth.
+fn layout_through(data_type: &DataType) -> PhysicalType
+    ensures { result ≡ physical_type_of (type_through (type_of data_type.now)) }
 {
     match data_type {
-        DataType::Dictionary(_, values, _) => has_equality_through(values),
-        DataType::Extension(_, inner, _) => has_equality_through(inner),
-        _ => has_equality(data_type.to_physical_type()),
-    }
-}
-
-/// Whether they stand in an order, through dictionaries at any depth.
-fn has_order_through(data_type: &DataType) -> bool
-    ensures { IsTrue result ↔ HasOrderThrough (type_of data_type.now) }
-{
-    match data_type {
-        DataType::Dictionary(_, values, _) => has_order_through(values),
-        DataType::Extension(_, inner, _) => has_order_through(inner),
-        _ => has_order(data_type.to_physical_type()),
+        DataType::Dictionary(_, values, _) => layout_through(values),
+        DataType::Extension(_, inner, _) => layout_through(inner),
+        _ => data_type.to_physical_type(),
     }
 }

@@ -1,9 +1,8 @@
 //! Comparisons of numbers and of intervals.
 
 use crate::compare::Asked;
-use arrow_arrays::array::AnyArray;
 use arrow_flat::array::{AnyPrimitive, PrimitiveArray};
-use arrow_flat::scalar::{AnyPrimitiveScalar, AnyScalar, PrimitiveScalar};
+use arrow_flat::scalar::{AnyPrimitiveScalar, PrimitiveScalar};
 use arrow_relate::comparison::primitive;
 use arrow_text::fault::Fault;
 use arrow_text::write::write_truths;
@@ -11,16 +10,13 @@ use arrow_types::types::{NativeOrd, NativeType};
 use std::alloc::Global;
 
 /// Appends what is asked of two arrays of one element type. `Usage` unless both have one.
-pub(crate) fn relate_primitives(
+pub(crate) fn of_arrays(
     alloc: Global,
     asked: Asked,
-    lhs: &AnyArray,
-    rhs: &AnyArray,
+    lhs: &AnyPrimitive,
+    rhs: &AnyPrimitive,
     out: &mut String,
 ) -> Result<(), Fault> {
-    let (AnyArray::Primitive(lhs), AnyArray::Primitive(rhs)) = (lhs, rhs) else {
-        return Err(Fault::Usage);
-    };
     of_elements!(
         (lhs, rhs),
         AnyPrimitive,
@@ -31,16 +27,13 @@ pub(crate) fn relate_primitives(
 }
 
 /// Appends what is asked of an array and a scalar of one element type. `Usage` unless both have one.
-pub(crate) fn relate_primitive(
+pub(crate) fn of_scalar(
     alloc: Global,
     asked: Asked,
-    lhs: &AnyArray,
-    rhs: &AnyScalar,
+    lhs: &AnyPrimitive,
+    rhs: &AnyPrimitiveScalar,
     out: &mut String,
 ) -> Result<(), Fault> {
-    let (AnyArray::Primitive(lhs), AnyScalar::Primitive(rhs)) = (lhs, rhs) else {
-        return Err(Fault::Usage);
-    };
     of_elements!(
         (lhs, rhs),
         AnyPrimitiveScalar,
@@ -72,10 +65,8 @@ fn of_number<T: NativeOrd>(
     lhs: &PrimitiveArray<T>,
     rhs: &PrimitiveScalar<T>,
 ) -> Result<(), Fault> {
-    match rhs.value() {
-        Some(rhs) => write_truths(out, of_scalar!(asked, primitive(alloc, lhs, rhs))),
-        None => Err(Fault::Usage),
-    }
+    let rhs = rhs.value().ok_or(Fault::Usage)?;
+    write_truths(out, of_scalar!(asked, primitive(alloc, lhs, rhs)))
 }
 
 /// Of two arrays of intervals, which stand in no order. `Usage` where one is asked for, and unless they have as many rows.
@@ -107,9 +98,7 @@ fn of_interval<T: NativeType>(
     lhs: &PrimitiveArray<T>,
     rhs: &PrimitiveScalar<T>,
 ) -> Result<(), Fault> {
-    let Some(rhs) = rhs.value() else {
-        return Err(Fault::Usage);
-    };
+    let rhs = rhs.value().ok_or(Fault::Usage)?;
     let truths = match asked {
         Asked::Eq => primitive::eq_scalar(alloc, lhs, rhs),
         Asked::Neq => primitive::neq_scalar(alloc, lhs, rhs),

@@ -31,7 +31,10 @@ impl Plan {
     pub(super) fn read(alloc: Global, call: &Call<'_>, steps: &[Piece<'_>]) -> Result<Plan, Fault> {
         let use_validity = call.argument(0)?.truth()?;
         let capacity = call.integer(1)?;
-        let mut actions = read_actions(alloc, steps)?;
+        let mut actions = Vec::new(alloc);
+        for step in steps {
+            actions.push(read_action(alloc, *step)?)?;
+        }
         let is_consumed = matches!(actions.last(), Some(Action::IntoArray));
         if is_consumed {
             let _ = actions.pop();
@@ -45,51 +48,17 @@ impl Plan {
     }
 }
 
-/// The steps, in order.
-fn read_actions(alloc: Global, steps: &[Piece<'_>]) -> Result<Vec<Action>, Fault> {
-    let mut actions = Vec::new(alloc);
-    for step in steps {
-        actions.push(read_action(alloc, *step)?)?;
-    }
-    Ok(actions)
-}
-
 /// One step.
 fn read_action(alloc: Global, piece: Piece<'_>) -> Result<Action, Fault> {
     let step = piece.step(alloc)?;
-    match step.name {
-        "extend" => read_extend(&step.arguments),
-        "extend_validity" => read_extend_validity(&step.arguments),
-        "len" => without_arguments(&step.arguments, Action::Len),
-        "as_box" => without_arguments(&step.arguments, Action::AsBox),
-        "into_array" => without_arguments(&step.arguments, Action::IntoArray),
-        _ => Err(Fault::Usage),
-    }
-}
-
-/// Rows of an array.
-fn read_extend(arguments: &[Piece<'_>]) -> Result<Action, Fault> {
-    match arguments {
-        [index, start, len] => {
+    match (step.name, step.arguments.as_slice()) {
+        ("extend", [index, start, len]) => {
             Ok(Action::Extend(index.integer()?, start.integer()?, len.integer()?))
         }
+        ("extend_validity", [additional]) => Ok(Action::ExtendValidity(additional.integer()?)),
+        ("len", []) => Ok(Action::Len),
+        ("as_box", []) => Ok(Action::AsBox),
+        ("into_array", []) => Ok(Action::IntoArray),
         _ => Err(Fault::Usage),
-    }
-}
-
-/// Null slots.
-fn read_extend_validity(arguments: &[Piece<'_>]) -> Result<Action, Fault> {
-    match arguments {
-        [additional] => Ok(Action::ExtendValidity(additional.integer()?)),
-        _ => Err(Fault::Usage),
-    }
-}
-
-/// A step that has no arguments.
-fn without_arguments(arguments: &[Piece<'_>], action: Action) -> Result<Action, Fault> {
-    if arguments.is_empty() {
-        Ok(action)
-    } else {
-        Err(Fault::Usage)
     }
 }

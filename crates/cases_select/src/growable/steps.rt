@@ -4,29 +4,30 @@ ghost use Rattle.std.specs.Prelude.{◌≡◌};
 ghost use Rattle.arrow_arrays.specs.Any.{layouts_in};
 ghost use Rattle.cases_select.specs.Sources.{TakesRowsOf};
 
-use crate::growable::plan::Action;
+use crate::growable::plan::{Action, Plan};
 use arrow_arrays::array::AnyArray;
 use arrow_growable::growable::Growable;
 use arrow_text::fault::Fault;
 use arrow_text::write::{show, write_made_or_name, write_name};
 use arrow_types::error::Error;
 
-/// Takes the steps over a growable of these arrays, and appends what each answers, with a space between two.
+/// Takes the steps over a growable of these arrays, and appends what each answers, with a space before it.
 pub(super) fn run_actions<'a, G: Growable<'a>>(
     growable: &mut G,
     arrays: &[&AnyArray],
-    actions: &[Action],
+    plan: &Plan,
     out: &mut String,
 ) -> Result<(), Fault>
     requires { TakesRowsOf (layouts_in arrays.now) (G.state growable.old).sources }
 {
-    for action in actions {
+    for action in &plan.actions {
+        out.push(' ')?;
         run_action(growable, arrays, *action, out)?;
     }
     Ok(())
 }
 
-/// Takes one step.
+/// Takes one step, and appends its answer: how many rows there are, an array, or the name of an error.
 fn run_action<'a, G: Growable<'a>>(
     growable: &mut G,
     arrays: &[&AnyArray],
@@ -36,28 +37,17 @@ fn run_action<'a, G: Growable<'a>>(
     requires { TakesRowsOf (layouts_in arrays.now) (G.state growable.old).sources }
     ensures { (G.state growable.new).sources ≡ (G.state growable.old).sources }
 {
-    separate(out)?;
-    match action {
-        Action::Extend(index, start, len) => {
-            let outcome = extend(growable, arrays, index, start, len)?;
-            write_count(growable.len(), outcome, out)
-        }
-        Action::ExtendValidity(additional) => {
-            let outcome = growable.extend_validity(additional);
-            write_count(growable.len(), outcome, out)
-        }
-        Action::Len => write_count(growable.len(), Ok(()), out),
-        Action::AsBox => write_made_or_name(out, growable.as_box()),
-        Action::IntoArray => Err(Fault::Usage),
+    let outcome = match action {
+        Action::Extend(index, start, len) => extend(growable, arrays, index, start, len)?,
+        Action::ExtendValidity(additional) => growable.extend_validity(additional),
+        Action::Len => Ok(()),
+        Action::AsBox => return write_made_or_name(out, growable.as_box()),
+        Action::IntoArray => return Err(Fault::Usage),
+    };
+    match outcome {
+        Ok(()) => show(out, growable.len()),
+        Err(error) => write_name(out, error),
     }
-}
-
-/// Appends a space, where something stands before it.
-pub(super) fn separate(out: &mut String) -> Result<(), Fault> {
-    if !out.is_empty() {
-        out.push(' ')?;
-    }
-    Ok(())
 }
 
 /// Appends rows of one of the arrays that are there.
@@ -80,12 +70,4 @@ fn extend<'a, G: Growable<'a>>(
         return Err(Fault::Usage);
     }
     Ok(growable.extend(index, start, len))
-}
-
-/// Appends how many rows there are, or the name of an error.
-fn write_count(count: usize, outcome: Result<(), Error>, out: &mut String) -> Result<(), Fault> {
-    match outcome {
-        Ok(()) => show(out, count),
-        Err(error) => write_name(out, error),
-    }
 }

@@ -1,49 +1,26 @@
 //! Growables of arrays of one kind.
 
-ghost use Rattle.std.specs.Prelude.{◌≡◌, ◌<◌, length, map, IfOk};
+ghost use Rattle.std.specs.Prelude.{◌≡◌, ◌<◌, length};
 ghost use Rattle.arrow_types.specs.declared.datatypes.physical_type.PhysicalType.TheVariants as physical;
 ghost use Rattle.arrow_types.specs.Physical.{physical_type_of};
-ghost use Rattle.arrow_arrays.specs.Any.{dictionary_kind, kind_in, kind_of, layout_of, layouts_in, union_kind};
-ghost use Rattle.arrow_arrays.specs.KeyedParts.{keyed_layout};
-ghost use Rattle.arrow_arrays.specs.UnionParts.{union_layout};
-ghost use Rattle.arrow_flat_growable.specs.Flat.{flat_layout};
+ghost use Rattle.arrow_arrays.specs.Any.{kind_in, layouts_in};
 ghost use Rattle.arrow_flat_growable.specs.Grown.{AreOfOneType, first_type};
-ghost use Rattle.cases_select.specs.Sources.{TakesRowsOf};
 
 use crate::growable::plan::Plan;
-use crate::growable::steps::{run_actions, separate};
+use crate::growable::steps::run_actions;
 use arrow_arrays::array::{
     AnyArray, DictionaryArray, FixedSizeListArray, ListArray, MapArray, StructArray, UnionArray,
 };
 use arrow_flat::array::{Binary, Text};
 use arrow_growable::growable::{
-    FlatGrowable, Growable, GrowableBits, GrowableBytes, GrowableDictionary, GrowableFixedRows,
-    GrowableNull, GrowableOf, GrowableUnion, GrowableValues, NestedArray,
+    FlatGrowable, GrowableBits, GrowableBytes, GrowableDictionary, GrowableFixedRows, GrowableNull,
+    GrowableOf, GrowableUnion, GrowableValues, NestedArray,
 };
 use arrow_text::fault::Fault;
-use arrow_text::write::write_made_or_name;
+use arrow_text::write::{write_made_or_name, write_name};
 use arrow_types::datatypes::PhysicalType;
-use arrow_types::error::Error;
 use arrow_types::types::{PrimitiveType, days_ms, i256, months_days_ns};
 use std::alloc::Global;
-
-/// A growable that becomes an array of any type.
-trait Typed<'a>: Growable<'a> + Drop {
-    /// The array of all rows.
-    fn into_any(self) -> Result<AnyArray, Error>;
-}
-
-impl<'a> Typed<'a> for GrowableNull {
-    fn into_any(self) -> Result<AnyArray, Error> {
-        Ok(AnyArray::Null(self.into_array()?))
-    }
-}
-
-impl<'a, G: GrowableValues> Typed<'a> for FlatGrowable<'a, G> {
-    fn into_any(self) -> Result<AnyArray, Error> {
-        G::into_any(self.into_array()?)
-    }
-}
 
 /// An array with children, as one of any type.
 trait Nested: NestedArray {
@@ -73,42 +50,6 @@ impl Nested for StructArray {
     fn into_any(self) -> AnyArray {
         AnyArray::Struct(self)
     }
-}
-
-impl<'a, A: Nested> Typed<'a> for GrowableOf<'a, A> {
-    fn into_any(self) -> Result<AnyArray, Error> {
-        Ok(self.into_array()?.into_any())
-    }
-}
-
-impl<'a> Typed<'a> for GrowableDictionary<'a> {
-    fn into_any(self) -> Result<AnyArray, Error> {
-        Ok(AnyArray::Dictionary(self.into_array()?))
-    }
-}
-
-impl<'a> Typed<'a> for GrowableUnion<'a> {
-    fn into_any(self) -> Result<AnyArray, Error> {
-        Ok(AnyArray::Union(self.into_array()?))
-    }
-}
-
-/// Takes the steps over a growable, which becomes an array at the end where that is asked.
-fn run<'a, T: Typed<'a>>(
-    growable: T,
-    arrays: &[&AnyArray],
-    plan: &Plan,
-    out: &mut String,
-) -> Result<(), Fault>
-    requires { TakesRowsOf (layouts_in arrays.now) (T.state growable).sources }
-{
-    let mut growable = growable;
-    run_actions(&mut growable, arrays, &plan.actions, out)?;
-    if !plan.is_consumed {
-        return Ok(());
-    }
-    separate(out)?;
-    write_made_or_name(out, growable.into_any())
 }
 
 /// A growable of arrays that lie in memory so, of one data type.
@@ -200,7 +141,16 @@ fn run_null(alloc: Global, arrays: &[&AnyArray], plan: &Plan, out: &mut String) 
     requires kind { physical_type_of (first_type (layouts_in arrays.now)) ≡ physical.Null }
 {
     let data_type = arrays[0].data_type().clone()?;
-    run(GrowableNull::new(alloc, data_type), arrays, plan, out)
+    let mut growable = GrowableNull::new(alloc, data_type);
+    run_actions(&mut growable, arrays, plan, out)?;
+    if !plan.is_consumed {
+        return Ok(());
+    }
+    out.push(' ')?;
+    match growable.into_array() {
+        Ok(array) => write_made_or_name(out, Ok(AnyArray::Null(array))),
+        Err(error) => write_name(out, error),
+    }
 }
 
 /// A growable of arrays that lie in memory as its values do.
@@ -214,32 +164,27 @@ fn run_flat<'a, G: GrowableValues + 'a>(
     requires one_type { AreOfOneType (layouts_in arrays.now) }
     requires kind { kind_in (physical_type_of (first_type (layouts_in arrays.now))) ≡ G.kind }
 {
-    let bound = bind_flat::<G>(alloc, arrays)?;
-    let growable: FlatGrowable<'a, G> = FlatGrowable::new(
-        alloc,
-        bound,
-        plan.use_validity,
-        plan.capacity,
-    )?;
-    run(growable, arrays, plan, out)
-}
-
-/// Arrays of any type as arrays that lie in memory so.
-fn bind_flat<'a, G: GrowableValues>(
-    alloc: Global,
-    arrays: &[&'a AnyArray],
-) -> Result<Vec<&'a G::Array>, Error>
-    requires one_type { AreOfOneType (layouts_in arrays.now) }
-    requires kind { kind_in (physical_type_of (first_type (layouts_in arrays.now))) ≡ G.kind }
-    ensures { IfOk result (λ bound. map (λ r. flat_layout G.type_in G.bits_in G.stored_in r.now) bound.items ≡ layouts_in arrays.now) }
-{
     let mut bound: Vec<&'a G::Array> = Vec::with_capacity(alloc, arrays.len())?;
     for array in arrays {
         // The kind of each array follows from its data type.
         let _ = array.data_type();
         bound.push(G::of_any(*array))?;
     }
-    Ok(bound)
+    let mut growable: FlatGrowable<'a, G> = FlatGrowable::new(
+        alloc,
+        bound,
+        plan.use_validity,
+        plan.capacity,
+    )?;
+    run_actions(&mut growable, arrays, plan, out)?;
+    if !plan.is_consumed {
+        return Ok(());
+    }
+    out.push(' ')?;
+    match growable.into_array() {
+        Ok(array) => write_made_or_name(out, G::into_any(array)),
+        Err(error) => write_name(out, error),
+    }
 }
 
 /// A growable of arrays with children, of one kind.
@@ -253,117 +198,83 @@ fn run_nested<'a, A: Nested + 'a>(
     requires one_type { AreOfOneType (layouts_in arrays.now) }
     requires kind { kind_in (physical_type_of (first_type (layouts_in arrays.now))) ≡ A.kind }
 {
-    let bound = bind_nested::<A>(alloc, arrays)?;
-    let growable: GrowableOf<'a, A> = GrowableOf::new(
-        alloc,
-        bound,
-        plan.use_validity,
-        plan.capacity,
-    )?;
-    run(growable, arrays, plan, out)
-}
-
-/// Arrays of any type as arrays with children, of one kind.
-fn bind_nested<'a, A: NestedArray>(
-    alloc: Global,
-    arrays: &[&'a AnyArray],
-) -> Result<Vec<&'a A>, Error>
-    requires one_type { AreOfOneType (layouts_in arrays.now) }
-    requires kind { kind_in (physical_type_of (first_type (layouts_in arrays.now))) ≡ A.kind }
-    ensures { IfOk result (λ bound. map (λ r. A.layout_in r.now) bound.items ≡ layouts_in arrays.now) }
-{
     let mut bound: Vec<&'a A> = Vec::with_capacity(alloc, arrays.len())?;
     for array in arrays {
         // The kind of each array follows from its data type.
         let _ = array.data_type();
         bound.push(A::of_any(*array))?;
     }
-    Ok(bound)
+    let mut growable: GrowableOf<'a, A> = GrowableOf::new(
+        alloc,
+        bound,
+        plan.use_validity,
+        plan.capacity,
+    )?;
+    run_actions(&mut growable, arrays, plan, out)?;
+    if !plan.is_consumed {
+        return Ok(());
+    }
+    out.push(' ')?;
+    match growable.into_array() {
+        Ok(array) => write_made_or_name(out, Ok(array.into_any())),
+        Err(error) => write_name(out, error),
+    }
 }
 
-/// A growable of dictionaries.
-fn run_dictionaries(
+/// A growable of dictionaries. `Usage` where an array is none.
+fn run_dictionaries<'a>(
     alloc: Global,
-    arrays: &[&AnyArray],
+    arrays: &[&'a AnyArray],
     plan: &Plan,
     out: &mut String,
 ) -> Result<(), Fault>
     requires some { 0 < length arrays.now }
     requires one_type { AreOfOneType (layouts_in arrays.now) }
-    requires kind { kind_in (physical_type_of (first_type (layouts_in arrays.now))) ≡ dictionary_kind }
-{
-    let bound = bind_dictionaries(alloc, arrays)?;
-    let growable = GrowableDictionary::new(alloc, &bound, plan.use_validity, plan.capacity)?;
-    run(growable, arrays, plan, out)
-}
-
-/// Arrays of any type as arrays of dictionaries.
-fn bind_dictionaries<'a>(
-    alloc: Global,
-    arrays: &[&'a AnyArray],
-) -> Result<Vec<&'a DictionaryArray>, Error>
-    requires one_type { AreOfOneType (layouts_in arrays.now) }
-    requires kind { kind_in (physical_type_of (first_type (layouts_in arrays.now))) ≡ dictionary_kind }
-    ensures { IfOk result (λ bound. map (λ r. keyed_layout r.now) bound.items ≡ layouts_in arrays.now) }
 {
     let mut bound: Vec<&'a DictionaryArray> = Vec::with_capacity(alloc, arrays.len())?;
     for array in arrays {
-        // The kind of each array follows from its data type.
-        let _ = array.data_type();
-        bound.push(as_dictionary(*array))?;
+        match *array {
+            AnyArray::Dictionary(array) => bound.push(array)?,
+            _ => return Err(Fault::Usage),
+        }
     }
-    Ok(bound)
+    let mut growable = GrowableDictionary::new(alloc, &bound, plan.use_validity, plan.capacity)?;
+    run_actions(&mut growable, arrays, plan, out)?;
+    if !plan.is_consumed {
+        return Ok(());
+    }
+    out.push(' ')?;
+    match growable.into_array() {
+        Ok(array) => write_made_or_name(out, Ok(AnyArray::Dictionary(array))),
+        Err(error) => write_name(out, error),
+    }
 }
 
-/// An array of any type as one of dictionaries.
-fn as_dictionary(array: &AnyArray) -> &DictionaryArray
-    requires { kind_of array.now ≡ dictionary_kind }
-    ensures { keyed_layout result.now ≡ layout_of array.now }
-{
-    match array {
-        AnyArray::Dictionary(array) => array,
-        _ => unreachable!(),
-    }
-}
-
-/// A growable of unions.
-fn run_unions(
+/// A growable of unions. `Usage` where an array is none.
+fn run_unions<'a>(
     alloc: Global,
-    arrays: &[&AnyArray],
+    arrays: &[&'a AnyArray],
     plan: &Plan,
     out: &mut String,
 ) -> Result<(), Fault>
     requires some { 0 < length arrays.now }
     requires one_type { AreOfOneType (layouts_in arrays.now) }
-    requires kind { kind_in (physical_type_of (first_type (layouts_in arrays.now))) ≡ union_kind }
-{
-    let bound = bind_unions(alloc, arrays)?;
-    let growable = GrowableUnion::new(alloc, bound, plan.capacity)?;
-    run(growable, arrays, plan, out)
-}
-
-/// Arrays of any type as arrays of unions.
-fn bind_unions<'a>(alloc: Global, arrays: &[&'a AnyArray]) -> Result<Vec<&'a UnionArray>, Error>
-    requires one_type { AreOfOneType (layouts_in arrays.now) }
-    requires kind { kind_in (physical_type_of (first_type (layouts_in arrays.now))) ≡ union_kind }
-    ensures { IfOk result (λ bound. map (λ r. union_layout r.now) bound.items ≡ layouts_in arrays.now) }
 {
     let mut bound: Vec<&'a UnionArray> = Vec::with_capacity(alloc, arrays.len())?;
     for array in arrays {
-        // The kind of each array follows from its data type.
-        let _ = array.data_type();
-        bound.push(as_union(*array))?;
+        match *array {
+            AnyArray::Union(array) => bound.push(array)?,
+            _ => return Err(Fault::Usage),
+        }
     }
-    Ok(bound)
-}
-
-/// An array of any type as one of unions.
-fn as_union(array: &AnyArray) -> &UnionArray
-    requires { kind_of array.now ≡ union_kind }
-    ensures { union_layout result.now ≡ layout_of array.now }
-{
-    match array {
-        AnyArray::Union(array) => array,
-        _ => unreachable!(),
+    let mut growable = GrowableUnion::new(alloc, bound, plan.capacity)?;
+    run_actions(&mut growable, arrays, plan, out)?;
+    if !plan.is_consumed {
+        return Ok(());
+    }
+    out.push(' ')?;
+    match growable.into_array() {
+        Ok(array) => write_made_or_name(out, Ok(AnyArray::Union(array))),
+        Err(error) => write_name(out, error),
     }
 }
