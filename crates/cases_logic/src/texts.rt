@@ -3,6 +3,7 @@
 use arrow_logic::{length, substring};
 use arrow_text::call::Call;
 use arrow_text::fault::Fault;
+use arrow_text::piece::Piece;
 use arrow_text::write::write_made;
 use std::alloc::Global;
 
@@ -12,17 +13,22 @@ pub(crate) fn length(alloc: Global, call: &Call<'_>, out: &mut String) -> Result
     write_made(out, length::length(alloc, &array.array))
 }
 
-/// Appends a part of each row: from a place on, and of a length or to the end.
+/// Appends a part of each row.
 pub(crate) fn substring(alloc: Global, call: &Call<'_>, out: &mut String) -> Result<(), Fault> {
     call.takes(3)?;
     let start = call.integer(1)?;
-    let length = match call.argument(2)?.text() {
-        "none" => None,
-        _ => Some(call.integer(2)?),
-    };
+    let length = length_of(call.argument(2)?)?;
     let array = call.array(alloc, 0)?;
     write_made(
         out,
         substring::substring(alloc, &array.array, start, &length),
     )
+}
+
+/// The length that a piece is: a number, or `none`.
+fn length_of(piece: Piece<'_>) -> Result<Option<u64>, Fault> {
+    match piece.text() {
+        "none" => Ok(None),
+        _ => piece.integer().map(Some),
+    }
 }
