@@ -1,5 +1,6 @@
 //! The example of the front page.
 
+use crate::lines::{PLAIN, check_lines};
 use arrow_arrays::array::AnyArray;
 use arrow_flat::array::{AnyPrimitive, BooleanArray, PrimitiveArray};
 use arrow_memory::bitmap::Bitmap;
@@ -36,16 +37,11 @@ fn kept_numbers(alloc: Global, values: &[i32], mask: &[bool]) -> Result<Array, F
     Array::new(alloc, kept(alloc, &all.array, mask)?)
 }
 
-/// Those of two arrays, one behind the other.
-fn joined(alloc: Global) -> Result<Array, Fault> {
+/// Whether those of two arrays, one behind the other, are 5 and 8.
+fn joined(alloc: Global, _name: &str, _arrays: &[AnyArray]) -> Result<bool, Fault> {
     let low = kept_numbers(alloc, &[5, 6, 7], &[true, false, false])?;
     let high = kept_numbers(alloc, &[8, 9], &[true, false])?;
-    Array::new(alloc, concatenate(alloc, &[&low.array, &high.array])?)
-}
-
-/// Whether these are 5 and 8.
-fn are_as_wanted(alloc: Global) -> Result<bool, Fault> {
-    let both = joined(alloc)?;
+    let both = Array::new(alloc, concatenate(alloc, &[&low.array, &high.array])?)?;
     match &*both.array {
         AnyArray::Primitive(AnyPrimitive::Int32(rows)) => {
             Ok(rows.values().as_slice() == [5, 8].as_slice())
@@ -56,5 +52,5 @@ fn are_as_wanted(alloc: Global) -> Result<bool, Fault> {
 
 #[test]
 fn example(rt: HostRuntime) {
-    tried!(&rt; are_as_wanted(rt.alloc()), "example");
+    check_lines(&rt, &[("example", joined)], &[["example", ""]], &PLAIN);
 }

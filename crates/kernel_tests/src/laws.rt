@@ -4,13 +4,11 @@
 ghost use Rattle.std.specs.Prelude.{◌≡◌, IsTrue};
 ghost use Rattle.arrow_arrays.specs.Any.{any_array_meaning};
 
-use crate::arrays::{Numbers, numbers, truths};
-use crate::lines::{Answer, Line, check_lines};
+use crate::arrays::{numbers, truths};
+use crate::lines::{Answer, Line, PLAIN, check_lines};
 use arrow_arrays::array::{AnyArray, are_within};
 use arrow_compare::comparison::can_eq;
 use arrow_compare::laws as compared;
-use arrow_flat::array::BooleanArray;
-use arrow_flat::scalar::AnyScalar;
 use arrow_logic::laws as logical;
 use arrow_relate::relation::Relation;
 use arrow_select::concatenate::concatenate;
@@ -22,13 +20,11 @@ use arrow_text::fault::Fault;
 use arrow_text::given::{Array, Scalar};
 use arrow_text::piece::Piece;
 use arrow_text::scalar::read_scalar;
-use arrow_text::write::show;
 use arrow_types::laws::{equals_both_ways, equals_itself, equals_through};
 use std::alloc::Global;
 
-/// The laws, by a name for those that are called together. Where laws can be called nothing is answered, but by those of
-/// equality.
-const ANSWERS: [(&str, Answer); 10] = [
+/// The laws, by a name for those that are called together.
+const ANSWERS: [(&str, Answer); 11] = [
     ("logic", logic),
     ("types", types),
     ("comparisons", comparisons),
@@ -38,22 +34,16 @@ const ANSWERS: [(&str, Answer); 10] = [
     ("shift", shifted),
     ("filter", filtered),
     ("take", taken),
-    ("equality", equality),
+    ("equal", equality),
+    ("different", equality),
 ];
 
-/// The laws of both logics.
-fn logic(_alloc: Global, arrays: &[AnyArray], _out: &mut String) -> Result<(), Fault> {
-    match arrays {
-        [array] => {
-            call_logic(truths(array)?);
-            Ok(())
-        }
-        _ => Err(Fault::Usage),
-    }
-}
-
-/// The same of three arrays that are one.
-fn call_logic(left: &BooleanArray) {
+/// The laws of both logics, of three arrays that are one.
+fn logic(_alloc: Global, _name: &str, arrays: &[AnyArray]) -> Result<bool, Fault> {
+    let [array] = arrays else {
+        return Err(Fault::Usage);
+    };
+    let left = truths(array)?;
     let (middle, right) = (left, left);
     logical::both_is_commutative(left, right);
     logical::either_is_commutative(left, right);
@@ -66,10 +56,11 @@ fn call_logic(left: &BooleanArray) {
     logical::negated_kleene_both(left, right);
     logical::negated_kleene_either(left, right);
     logical::negated_twice(left);
+    Ok(true)
 }
 
 /// Those of nulls, of parts and of the types that calls named `can_` list.
-fn types(_alloc: Global, arrays: &[AnyArray], _out: &mut String) -> Result<(), Fault> {
+fn types(_alloc: Global, _name: &str, arrays: &[AnyArray]) -> Result<bool, Fault> {
     let [array] = arrays else {
         return Err(Fault::Usage);
     };
@@ -84,11 +75,11 @@ fn types(_alloc: Global, arrays: &[AnyArray], _out: &mut String) -> Result<(), F
     compared::can_lt_has_order(data_type);
     compared::can_eq_scalar_has_equality(data_type);
     compared::can_lt_scalar_has_order(data_type);
-    Ok(())
+    Ok(true)
 }
 
 /// Those of comparisons.
-fn comparisons(_alloc: Global, arrays: &[AnyArray], _out: &mut String) -> Result<(), Fault> {
+fn comparisons(_alloc: Global, _name: &str, arrays: &[AnyArray]) -> Result<bool, Fault> {
     let [lhs, rhs, predicate] = arrays else {
         return Err(Fault::Usage);
     };
@@ -101,63 +92,42 @@ fn comparisons(_alloc: Global, arrays: &[AnyArray], _out: &mut String) -> Result
     compared::gt_eq_is_negated_lt(lhs, rhs);
     compared::nulled_by_itself(lhs);
     compared::chosen_by_negated(truths(predicate)?, lhs, rhs);
-    Ok(())
+    Ok(true)
 }
 
 /// That of a scalar, beside numbers.
-fn scalar(alloc: Global, arrays: &[AnyArray], _out: &mut String) -> Result<(), Fault> {
+fn scalar(alloc: Global, _name: &str, arrays: &[AnyArray]) -> Result<bool, Fault> {
+    let [lhs] = arrays else {
+        return Err(Fault::Usage);
+    };
     let scalar = read_scalar(alloc, Piece::new(0, "i32(3)"))?;
     let three = Scalar { scalar };
-    match arrays {
-        [array] => call_scalar(array, &three.scalar),
-        _ => Err(Fault::Usage),
-    }
-}
-
-/// The same of an array and a scalar.
-fn call_scalar(lhs: &AnyArray, rhs: &AnyScalar) -> Result<(), Fault> {
-    let (left, right) = (lhs.data_type(), rhs.data_type());
+    let (left, right) = (lhs.data_type(), three.scalar.data_type());
     compared::can_eq_has_equality(left);
     let are_alike = *left == *right;
     if !are_alike || !can_eq(left) {
         return Err(Fault::Usage);
     }
-    compared::scalar_is_repeated(Relation::Lt, lhs, rhs);
-    Ok(())
+    compared::scalar_is_repeated(Relation::Lt, lhs, &three.scalar);
+    Ok(true)
 }
 
 /// Those of rows that are selected, taken and joined.
-fn selection(_alloc: Global, arrays: &[AnyArray], _out: &mut String) -> Result<(), Fault> {
-    match arrays {
-        [array, predicate, indices] => {
-            call_selected(array, truths(predicate)?)?;
-            call_taken(array, numbers(indices)?)
-        }
-        _ => Err(Fault::Usage),
-    }
-}
-
-/// Those of a predicate, and of joined rows.
-fn call_selected(array: &AnyArray, predicate: &BooleanArray) -> Result<(), Fault> {
-    let len = array.len();
-    if predicate.len() != len || len < 1 {
+fn selection(_alloc: Global, _name: &str, arrays: &[AnyArray]) -> Result<bool, Fault> {
+    let [array, predicate, indices] = arrays else {
+        return Err(Fault::Usage);
+    };
+    let (filter, places) = (truths(predicate)?, numbers(indices)?);
+    let (len, data_type) = (array.len(), array.data_type());
+    if filter.len() != len || len < 1 || !are_within(places, places.len()) || !can_take(data_type) {
         return Err(Fault::Usage);
     }
-    selected::select_is_gather(array, predicate);
+    selected::select_is_gather(array, filter);
     selected::joined_is_associative(array, array, array);
     selected::joined_of_cut(array, 1);
-    Ok(())
-}
-
-/// Those of indices.
-fn call_taken(array: &AnyArray, indices: &Numbers) -> Result<(), Fault> {
-    let data_type = array.data_type();
-    if !are_within(indices, indices.len()) || !can_take(data_type) {
-        return Err(Fault::Usage);
-    }
-    selected::gather_of_gather(array, indices, indices);
-    selected::can_take_is_implemented(data_type, indices);
-    Ok(())
+    selected::gather_of_gather(array, places, places);
+    selected::can_take_is_implemented(data_type, places);
+    Ok(true)
 }
 
 /// Whether two arrays are equal.
@@ -168,34 +138,34 @@ fn are_equal(array: &AnyArray, other: &AnyArray) -> bool
 }
 
 /// Arrays of the same rows are concatenated to the same rows.
-fn concatenated(alloc: Global, arrays: &[AnyArray], _out: &mut String) -> Result<(), Fault> {
+fn concatenated(alloc: Global, _name: &str, arrays: &[AnyArray]) -> Result<bool, Fault> {
     match arrays {
         [array, other] if are_equal(array, other) => {
             let (left, right) = ([array, other], [other, array]);
             let all = Array::new(alloc, concatenate(alloc, &left)?)?;
             let other_all = Array::new(alloc, concatenate(alloc, &right)?)?;
             selected::concatenate_goes_by_rows(&left, &all.array, &right, &other_all.array);
-            Ok(())
+            Ok(true)
         }
         _ => Err(Fault::Usage),
     }
 }
 
 /// They are shifted to the same rows.
-fn shifted(alloc: Global, arrays: &[AnyArray], _out: &mut String) -> Result<(), Fault> {
+fn shifted(alloc: Global, _name: &str, arrays: &[AnyArray]) -> Result<bool, Fault> {
     match arrays {
         [array, other] if are_equal(array, other) => {
             let moved = Array::new(alloc, shift(alloc, array, 1)?)?;
             let other_moved = Array::new(alloc, shift(alloc, other, 1)?)?;
             selected::shift_goes_by_rows(array, &moved.array, other, &other_moved.array, 1);
-            Ok(())
+            Ok(true)
         }
         _ => Err(Fault::Usage),
     }
 }
 
 /// They are filtered to the same rows.
-fn filtered(alloc: Global, arrays: &[AnyArray], _out: &mut String) -> Result<(), Fault> {
+fn filtered(alloc: Global, _name: &str, arrays: &[AnyArray]) -> Result<bool, Fault> {
     let [array, other, predicate] = arrays else {
         return Err(Fault::Usage);
     };
@@ -206,11 +176,11 @@ fn filtered(alloc: Global, arrays: &[AnyArray], _out: &mut String) -> Result<(),
     let kept = Array::new(alloc, filter(alloc, array, mask)?)?;
     let other_kept = Array::new(alloc, filter(alloc, other, mask)?)?;
     selected::filter_goes_by_rows(array, mask, &kept.array, other, mask, &other_kept.array);
-    Ok(())
+    Ok(true)
 }
 
 /// They are taken to the same rows.
-fn taken(alloc: Global, arrays: &[AnyArray], _out: &mut String) -> Result<(), Fault> {
+fn taken(alloc: Global, _name: &str, arrays: &[AnyArray]) -> Result<bool, Fault> {
     let [array, other, indices] = arrays else {
         return Err(Fault::Usage);
     };
@@ -228,18 +198,19 @@ fn taken(alloc: Global, arrays: &[AnyArray], _out: &mut String) -> Result<(), Fa
         places,
         &other_taken.array,
     );
-    Ok(())
+    Ok(true)
 }
 
-/// Answers whether two arrays are equal, by the laws of equality: each is equal to itself, the left one to the right one as the
-/// right one to the left one, and through a third one.
-fn equality(_alloc: Global, arrays: &[AnyArray], out: &mut String) -> Result<(), Fault> {
+/// Whether two arrays are equal, as the name says, by the laws of equality: each is equal to itself, the left one to the right
+/// one as the right one to the left one, and through a third one.
+fn equality(_alloc: Global, name: &str, arrays: &[AnyArray]) -> Result<bool, Fault> {
     match arrays {
         [array, other] if equals_itself(array) && equals_itself(other) => {
-            let both_ways = equals_both_ways(array, other);
-            let through = equals_through(array, other, other);
-            show(out, both_ways)?;
-            show(out, through)
+            let found = [
+                equals_both_ways(array, other),
+                equals_through(array, other, other),
+            ];
+            Ok(found == [name == "equal"; 2])
         }
         _ => Err(Fault::Usage),
     }
@@ -247,8 +218,8 @@ fn equality(_alloc: Global, arrays: &[AnyArray], out: &mut String) -> Result<(),
 
 /// An array, one of the same rows, and one of others; predicates and indices.
 const LINES: [Line; 11] = [
-    ["equality i32[1,_2,3] i32[9,1,_,3]@1+3", "truetrue"],
-    ["equality i32[1,_2,3] i32[3,2,_1]", "falsefalse"],
+    ["equal i32[1,_2,3] i32[9,1,_,3]@1+3", ""],
+    ["different i32[1,_2,3] i32[3,2,_1]", ""],
     ["logic bool[t,_,f]", ""],
     ["types i32[1,_2,3]", ""],
     ["comparisons i32[1,_2,3] i32[3,2,_1] bool[t,_,f]", ""],
@@ -262,5 +233,5 @@ const LINES: [Line; 11] = [
 
 #[test]
 fn laws(rt: HostRuntime) {
-    check_lines(&rt, &ANSWERS, &LINES);
+    check_lines(&rt, &ANSWERS, &LINES, &PLAIN);
 }

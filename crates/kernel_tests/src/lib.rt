@@ -3,29 +3,6 @@
 //! lines of their own.
 #![tactic(auto)]
 
-/// Asserts a fact, and names the case that it is of, if one is given. A call of a function is proved faster than the branch of
-/// an `assert!`.
-#[cfg(test)]
-macro_rules! check {
-    ($rt:expr; $fact:expr) => {
-        crate::check::check($rt, $fact, stringify!($fact))
-    };
-    ($rt:expr; $fact:expr, $case:expr) => {
-        crate::check::check_case($rt, $fact, $case)
-    };
-}
-
-/// Asserts that what is tried answers `Ok(true)`, at once or, where it answers that memory was refused, when it is tried once
-/// more. So a test passes while each request for memory is refused in turn.
-#[cfg(test)]
-macro_rules! tried {
-    ($rt:expr; $tried:expr, $case:expr) => {{
-        let first = $tried;
-        let is_refused = crate::check::is_refused(&first);
-        crate::check::check_case($rt, first == Ok(true) || is_refused && $tried == Ok(true), $case)
-    }};
-}
-
 #[cfg(test)]
 mod arity;
 #[cfg(test)]

@@ -1,4 +1,4 @@
-//! Lines that tests answer: a name and arrays, as in the program `cases`.
+//! Lines that tests answer: a name and arrays, as in the program `cases`. Among the arrays are those that are wanted.
 
 use crate::check::check_case;
 use arrow_arrays::array::AnyArray;
@@ -10,52 +10,76 @@ use arrow_types::error::Error;
 use std::alloc::Global;
 use std::process::Abort;
 
-/// A line, and its answer.
+/// A line, and how it is refused, or nothing where what its call answers is wanted.
 pub type Line = [&'static str; 2];
 
-/// What answers the lines of one name: it appends to a text what is answered to arrays.
-pub type Answer = fn(Global, &[AnyArray], &mut String) -> Result<(), Fault>;
+/// What stands in a line in the place of each comma and of each closing bracket.
+pub type Form = [&'static str; 2];
 
-/// Appends the answer to a line; `Usage` where none has its name.
+/// A line as it stands.
+pub const PLAIN: [Form; 1] = [[",", "]"]];
+
+/// What answers the lines of a name: whether what a call says of the arrays is wanted.
+pub type Answer = fn(Global, &str, &[AnyArray]) -> Result<bool, Fault>;
+
+/// The answer to a line; `Usage` where none has its name.
 ///
 /// # Requires
 /// Each function of the table may be called on all arguments.
-pub fn answer(
-    alloc: Global,
-    answers: &[(&str, Answer)],
-    line: &str,
-    out: &mut String,
-) -> Result<(), Fault>
-    requires { (answer : _) (alloc : _) (arrays : _) (out : _) → pre answer alloc arrays out }
+fn answer(alloc: Global, answers: &[(&str, Answer)], line: &str) -> Result<bool, Fault>
+    requires { (answer : _) (alloc : _) (name : _) (arrays : _) → pre answer alloc name arrays }
 {
     let call = Call::read(alloc, line)?;
     let answer = find(answers, call.name).ok_or(Fault::Usage)?;
     let arrays = call.arrays(alloc, 0)?;
-    answer(alloc, &arrays.arrays, out)
+    answer(alloc, call.name, &arrays.arrays)
 }
 
-/// Whether a line is answered as it is wanted: by a text, or by the fault that has this name.
-fn is_answered(alloc: Global, answers: &[(&str, Answer)], line: &Line) -> Result<bool, Fault>
-    requires { (answer : _) (alloc : _) (arrays : _) (out : _) → pre answer alloc arrays out }
+/// Whether a line in a form is answered or refused as it is wanted.
+///
+/// # Errors
+/// Where memory was refused.
+fn is_answered(
+    alloc: Global,
+    answers: &[(&str, Answer)],
+    line: &Line,
+    form: &Form,
+) -> Result<bool, Fault>
+    requires { (answer : _) (alloc : _) (name : _) (arrays : _) → pre answer alloc name arrays }
 {
-    let mut out = String::new(alloc);
-    match answer(alloc, answers, line[0], &mut out) {
-        Ok(()) => Ok(()),
-        Err(Fault::Refused(Error::OutOfMemory)) => Err(Fault::Refused(Error::OutOfMemory)),
-        Err(fault) => show(&mut out, fault),
-    }?;
-    Ok(out.as_str() == line[1])
+    let text = line[0].replace(alloc, ",", form[0])?;
+    let text = text.replace(alloc, "]", form[1])?;
+    let mut refusal = String::new(alloc);
+    let is_right = match answer(alloc, answers, &text) {
+        Ok(is_right) => is_right,
+        Err(Fault::Refused(Error::OutOfMemory)) => {
+            return Err(Fault::Refused(Error::OutOfMemory));
+        }
+        Err(fault) => {
+            show(&mut refusal, fault)?;
+            true
+        }
+    };
+    Ok(is_right & (refusal.as_str() == line[1]))
 }
 
-/// Ends the test where a line is not answered as it is wanted.
+/// Ends the test where a line in one of these forms is not answered as it is wanted, at once or, where memory was refused, when
+/// it is answered once more. So a test passes while each request for memory is refused in turn.
 pub fn check_lines(
     rt: &(impl Abort + Alloc<A = Global>),
     answers: &[(&str, Answer)],
     lines: &[Line],
+    forms: &[Form],
 )
-    requires { (answer : _) (alloc : _) (arrays : _) (out : _) → pre answer alloc arrays out }
+    requires { (answer : _) (alloc : _) (name : _) (arrays : _) → pre answer alloc name arrays }
 {
     for line in lines {
-        tried!(rt; is_answered(rt.alloc(), answers, line), *line);
+        for form in forms {
+            let mut outcome = is_answered(rt.alloc(), answers, line, form);
+            if outcome.is_err() {
+                outcome = is_answered(rt.alloc(), answers, line, form);
+            }
+            check_case(rt, outcome == Ok(true), (*line, *form));
+        }
     }
 }

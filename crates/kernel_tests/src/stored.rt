@@ -3,46 +3,53 @@
 ghost use Rattle.std.specs.Prelude.{◌≡◌, IsTrue};
 ghost use Rattle.arrow_arrays.specs.Any.{any_array_type};
 
-use crate::arrays::write_made_stored;
-use crate::lines::{Answer, Line, check_lines};
+use crate::arrays::{are_same_numbers, numbers};
+use crate::lines::{Answer, Line, PLAIN, check_lines};
 use arrow_arrays::array::AnyArray;
 use arrow_growable::growable::{Growable, make_growable};
 use arrow_logic::length::length;
 use arrow_logic::nullif::{can_nullif, nullif};
 use arrow_logic::substring::substring;
 use arrow_text::fault::Fault;
-use arrow_text::write::write_made;
+use arrow_text::given::Array;
+use arrow_types::error::Error;
 use std::alloc::Global;
 
 /// The kernels, by name.
 const ANSWERS: [(&str, Answer); 4] = [
-    ("length", lengths),
-    ("substring", second_characters),
-    ("nullif", nulled),
-    ("growable", grown),
+    ("length", stores),
+    ("substring", stores),
+    ("nullif", stores),
+    ("growable", grows),
 ];
 
-/// Answers how long texts are.
-fn lengths(alloc: Global, arrays: &[AnyArray], out: &mut String) -> Result<(), Fault> {
-    match arrays {
-        [array] => write_made_stored(alloc, out, length(alloc, array)),
-        _ => Err(Fault::Usage),
+/// Whether a call made an array that is equal to another one, beneath nulls too: of numbers, or of texts.
+fn is_same(
+    alloc: Global,
+    outcome: Result<AnyArray, Error>,
+    wanted: &AnyArray,
+) -> Result<bool, Fault> {
+    let made = Array::new(alloc, outcome?)?;
+    if let AnyArray::Utf8(made) = &*made.array {
+        return match wanted {
+            AnyArray::Utf8(wanted) => {
+                Ok(*made == *wanted && made.values().as_slice() == wanted.values().as_slice())
+            }
+            _ => Err(Fault::Usage),
+        };
     }
+    Ok(are_same_numbers(numbers(&made.array)?, numbers(wanted)?))
 }
 
-/// Answers the second character of each text.
-fn second_characters(alloc: Global, arrays: &[AnyArray], out: &mut String) -> Result<(), Fault> {
+/// Whether a kernel makes this array: how long texts are, the second character of each, or the rows of the first array, null
+/// where they equal those of the second.
+fn stores(alloc: Global, name: &str, arrays: &[AnyArray]) -> Result<bool, Fault> {
     match arrays {
-        [array] => write_made_stored(alloc, out, substring(alloc, array, 1, &Some(1))),
-        _ => Err(Fault::Usage),
-    }
-}
-
-/// Answers the rows of the first array, null where they equal those of the second.
-fn nulled(alloc: Global, arrays: &[AnyArray], out: &mut String) -> Result<(), Fault> {
-    match arrays {
-        [lhs, rhs] if lhs.len() == rhs.len() && can_nullif(lhs.data_type(), rhs.data_type()) => {
-            write_made_stored(alloc, out, nullif(alloc, lhs, rhs))
+        [array, wanted] if name == "length" => is_same(alloc, length(alloc, array), wanted),
+        [array, wanted] => is_same(alloc, substring(alloc, array, 1, &Some(1)), wanted),
+        [lhs, rhs, wanted]
+            if lhs.len() == rhs.len() && can_nullif(lhs.data_type(), rhs.data_type()) => {
+            is_same(alloc, nullif(alloc, lhs, rhs), wanted)
         }
         _ => Err(Fault::Usage),
     }
@@ -55,18 +62,18 @@ fn are_alike(lhs: &AnyArray, rhs: &AnyArray) -> bool
     *lhs.data_type() == *rhs.data_type()
 }
 
-/// Answers the first two rows of the first array, and then its second row, a null, and the first two rows of the second array,
-/// by one growable.
-fn grown(alloc: Global, arrays: &[AnyArray], out: &mut String) -> Result<(), Fault> {
+/// Whether one growable makes the first two rows of the first array, and then of its second row, a null, and the first two rows
+/// of the second array behind them the last one.
+fn grows(alloc: Global, _name: &str, arrays: &[AnyArray]) -> Result<bool, Fault> {
     match arrays {
-        [lhs, rhs] if are_alike(lhs, rhs) && lhs.len() >= 2 && rhs.len() >= 2 => {
+        [lhs, rhs, first, last] if are_alike(lhs, rhs) && lhs.len() >= 2 && rhs.len() >= 2 => {
             let mut growable = make_growable(alloc, &[lhs, rhs], false, 0)?;
             growable.extend(0, 0, 2)?;
-            write_made(out, growable.as_box())?;
+            let is_first = is_same(alloc, growable.as_box(), first)?;
             growable.extend(0, 1, 1)?;
             growable.extend_validity(1)?;
             growable.extend(1, 0, 2)?;
-            write_made_stored(alloc, out, growable.as_box())
+            Ok(is_first && is_same(alloc, growable.as_box(), last)?)
         }
         _ => Err(Fault::Usage),
     }
@@ -74,23 +81,17 @@ fn grown(alloc: Global, arrays: &[AnyArray], out: &mut String) -> Result<(), Fau
 
 /// Rows, and what is stored: numbers, or the bytes of texts.
 const LINES: [Line; 5] = [
+    ["nullif i32[1,_7,3,_4] i32[1,2,_3,4] i32[_1,_7,3,_4]", ""],
+    [r#"length utf8["abc",_"d",""] i32[3,_0,0]"#, ""],
+    [r#"substring utf8["abc",_"d",""] utf8["b",_,""]"#, ""],
+    ["growable i32[1,2] i32[3,4] i32[1,2] i32[2,_0,3,4]", ""],
     [
-        "nullif i32[1,_7,3,_4] i32[1,2,_3,4]",
-        "i32[_,_,3,_][1, 7, 3, 4]",
-    ],
-    [r#"length utf8["abc",_"d",""]"#, "i32[3,_,0][3, 0, 0]"],
-    [r#"substring utf8["abc",_"d",""]"#, r#"utf8["b",_,""]x62"#],
-    [
-        "growable i32[1,2] i32[3,4]",
-        "i32[1,2]i32[2,_,3,4][2, 0, 3, 4]",
-    ],
-    [
-        r#"growable utf8["a","b"] utf8["c",_"d"]"#,
-        r#"utf8["a","b"]utf8["b",_,"c",_]x6263"#,
+        r#"growable utf8["a","b"] utf8["c",_"d"] utf8["a","b"] utf8["b",_,"c",_]"#,
+        "",
     ],
 ];
 
 #[test]
 fn stored(rt: HostRuntime) {
-    check_lines(&rt, &ANSWERS, &LINES);
+    check_lines(&rt, &ANSWERS, &LINES, &PLAIN);
 }

@@ -1,5 +1,6 @@
 //! The texts of errors, and refused memory.
 
+use crate::check::check_case;
 use arrow_types::error::{ArgumentFault, Error, SpecPart, Unsupported};
 use std::alloc::{AllocError, AllocFailed};
 use std::fmt::InlineText;
@@ -80,8 +81,11 @@ const TEXTS: [(Error, &str); 20] = [
 fn texts_and_refused_memory(rt: HostRuntime) {
     for (error, want) in &TEXTS {
         let text: InlineText<96> = InlineText::of(*error);
-        check!(&rt; text.as_str() == *want);
+        check_case(&rt, text.as_str() == *want, *want);
     }
-    check!(&rt; Error::from(AllocError) == Error::OutOfMemory);
-    check!(&rt; Error::from(AllocFailed { value: 7 }) == Error::OutOfMemory);
+    let refused = [
+        Error::from(AllocError),
+        Error::from(AllocFailed { value: 7 }),
+    ];
+    check_case(&rt, refused == [Error::OutOfMemory; 2], "refused memory");
 }
