@@ -10,6 +10,8 @@ mod arrays;
 #[cfg(test)]
 mod check;
 #[cfg(test)]
+mod comparison;
+#[cfg(test)]
 mod elements;
 #[cfg(test)]
 mod example;
