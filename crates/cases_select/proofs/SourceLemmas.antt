@@ -33,16 +33,23 @@ pub typed_all : {B : Type 0} (h : B → Layout) (arrays : List B) (i : ℕ) (t :
 typed_all h arrays i t whole done =
     All-same (λ l. type_of_layout l ≡ t) (map h arrays) _ (sym (take_all i (map h arrays) (omega (arith, whole, length-map arrays h)))) done
 
--- where all arrays are bound, there are as many
-pub all_there : {A B : Type 0} (f : A → Layout) (h : B → Layout) (bound : List A) (arrays : List B) (i : ℕ) → length arrays ≤ i → map f bound ≡ take i (map h arrays) → 0 < length arrays → 0 < length bound
-all_there f h bound arrays i whole done some =
-    omega (arith, some, ap length (bind_all f h bound arrays i whole done), length-map bound f, length-map arrays h)
+-- as many arrays are bound
+pub some_bound : {A B : Type 0} (f : A → Layout) (h : B → Layout) (bound : List A) (arrays : List B) → map f bound ≡ map h arrays → 0 < length arrays → 0 < length bound
+some_bound f h bound arrays same some = omega (arith, some, ap length same, length-map bound f, length-map arrays h)
 
--- and they are of one type
+-- a growable that is bound to them
+pub takes_bound : (g : Grown) (layouts same : List Layout) → g ≡ bound_to layouts → layouts ≡ same → TakesRowsOf same g.sources
+takes_bound g layouts same bound is = subst (λ (h : Grown). TakesRowsOf same h.sources) (sym bound) is
+
+-- where a loop has bound all arrays, there are as many
+pub all_there : {A B : Type 0} (f : A → Layout) (h : B → Layout) (bound : List A) (arrays : List B) (i : ℕ) → length arrays ≤ i → map f bound ≡ take i (map h arrays) → 0 < length arrays → 0 < length bound
+all_there f h bound arrays i whole done = some_bound f h bound arrays (bind_all f h bound arrays i whole done)
+
+-- they are of one type
 pub all_of_one_type : {A B : Type 0} (f : A → Layout) (h : B → Layout) (bound : List A) (arrays : List B) (i : ℕ) → length arrays ≤ i → map f bound ≡ take i (map h arrays) → AreOfOneType (map h arrays) → AreOfOneType (map f bound)
 all_of_one_type f h bound arrays i whole done = subst AreOfOneType (sym (bind_all f h bound arrays i whole done))
 
--- a growable that is bound to them takes rows of the arrays
+-- and a growable that is bound to them takes rows of the arrays
 pub takes_all : {A B : Type 0} (f : A → Layout) (h : B → Layout) (bound : List A) (arrays : List B) (i : ℕ) → length arrays ≤ i → map f bound ≡ take i (map h arrays) → (g : Grown) → g ≡ bound_to (map f bound) → TakesRowsOf (map h arrays) g.sources
 takes_all f h bound arrays i whole done g is =
-    subst (λ (k : Grown). TakesRowsOf (map h arrays) k.sources) (sym is) (bind_all f h bound arrays i whole done)
+    takes_bound g (map f bound) (map h arrays) is (bind_all f h bound arrays i whole done)

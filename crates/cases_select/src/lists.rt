@@ -34,7 +34,11 @@ pub(crate) fn as_any<T: AnyElement>(array: &PrimitiveArray<T>) -> Result<AnyArra
 
 /// The arrays, lent.
 pub(crate) fn lend_all<'a>(alloc: Global, given: &'a Arrays) -> Result<Vec<&'a AnyArray>, Fault> {
-    Ok(given.arrays.iter().collect(alloc)?)
+    let mut lent = Vec::with_capacity(alloc, given.arrays.len())?;
+    for array in &given.arrays {
+        lent.push(array)?;
+    }
+    Ok(lent)
 }
 
 /// Whether there is an array, and all are of one data type.

@@ -1,9 +1,11 @@
 //! Growables of arrays of one kind.
 
-ghost use Rattle.std.specs.Prelude.{◌≡◌, ◌<◌, length};
+ghost use Rattle.std.specs.Prelude.{◌≡◌, ◌<◌, length, map, IfOk};
 ghost use Rattle.arrow_types.specs.declared.datatypes.physical_type.PhysicalType.TheVariants as physical;
 ghost use Rattle.arrow_types.specs.Physical.{physical_type_of};
-ghost use Rattle.arrow_arrays.specs.Any.{kind_in, layouts_in};
+ghost use Rattle.arrow_arrays.specs.Any.{dictionary_kind, kind_in, kind_of, layout_of, layouts_in, union_kind};
+ghost use Rattle.arrow_arrays.specs.KeyedParts.{keyed_layout};
+ghost use Rattle.arrow_arrays.specs.UnionParts.{union_layout};
 ghost use Rattle.arrow_flat_growable.specs.Grown.{AreOfOneType, first_type};
 
 use crate::growable::plan::Plan;
@@ -19,6 +21,7 @@ use arrow_growable::growable::{
 use arrow_text::fault::Fault;
 use arrow_text::write::{write_made_or_name, write_name};
 use arrow_types::datatypes::PhysicalType;
+use arrow_types::error::Error;
 use arrow_types::types::{PrimitiveType, days_ms, i256, months_days_ns};
 use std::alloc::Global;
 
@@ -221,23 +224,18 @@ fn run_nested<'a, A: Nested + 'a>(
     }
 }
 
-/// A growable of dictionaries. `Usage` where an array is none.
-fn run_dictionaries<'a>(
+/// A growable of dictionaries.
+fn run_dictionaries(
     alloc: Global,
-    arrays: &[&'a AnyArray],
+    arrays: &[&AnyArray],
     plan: &Plan,
     out: &mut String,
 ) -> Result<(), Fault>
     requires some { 0 < length arrays.now }
     requires one_type { AreOfOneType (layouts_in arrays.now) }
+    requires kind { kind_in (physical_type_of (first_type (layouts_in arrays.now))) ≡ dictionary_kind }
 {
-    let mut bound: Vec<&'a DictionaryArray> = Vec::with_capacity(alloc, arrays.len())?;
-    for array in arrays {
-        match *array {
-            AnyArray::Dictionary(array) => bound.push(array)?,
-            _ => return Err(Fault::Usage),
-        }
-    }
+    let bound = bind_dictionaries(alloc, arrays)?;
     let mut growable = GrowableDictionary::new(alloc, &bound, plan.use_validity, plan.capacity)?;
     run_actions(&mut growable, arrays, plan, out)?;
     if !plan.is_consumed {
@@ -250,23 +248,47 @@ fn run_dictionaries<'a>(
     }
 }
 
-/// A growable of unions. `Usage` where an array is none.
-fn run_unions<'a>(
+/// Arrays of any type as arrays of dictionaries.
+fn bind_dictionaries<'a>(
     alloc: Global,
     arrays: &[&'a AnyArray],
+) -> Result<Vec<&'a DictionaryArray>, Error>
+    requires one_type { AreOfOneType (layouts_in arrays.now) }
+    requires kind { kind_in (physical_type_of (first_type (layouts_in arrays.now))) ≡ dictionary_kind }
+    ensures { IfOk result (λ bound. map (λ r. keyed_layout r.now) bound.items ≡ layouts_in arrays.now) }
+{
+    let mut bound: Vec<&'a DictionaryArray> = Vec::with_capacity(alloc, arrays.len())?;
+    for array in arrays {
+        // The kind of each array follows from its data type.
+        let _ = array.data_type();
+        bound.push(as_dictionary(*array))?;
+    }
+    Ok(bound)
+}
+
+/// An array of any type as one of dictionaries.
+fn as_dictionary(array: &AnyArray) -> &DictionaryArray
+    requires { kind_of array.now ≡ dictionary_kind }
+    ensures { keyed_layout result.now ≡ layout_of array.now }
+{
+    match array {
+        AnyArray::Dictionary(array) => array,
+        _ => unreachable!(),
+    }
+}
+
+/// A growable of unions.
+fn run_unions(
+    alloc: Global,
+    arrays: &[&AnyArray],
     plan: &Plan,
     out: &mut String,
 ) -> Result<(), Fault>
     requires some { 0 < length arrays.now }
     requires one_type { AreOfOneType (layouts_in arrays.now) }
+    requires kind { kind_in (physical_type_of (first_type (layouts_in arrays.now))) ≡ union_kind }
 {
-    let mut bound: Vec<&'a UnionArray> = Vec::with_capacity(alloc, arrays.len())?;
-    for array in arrays {
-        match *array {
-            AnyArray::Union(array) => bound.push(array)?,
-            _ => return Err(Fault::Usage),
-        }
-    }
+    let bound = bind_unions(alloc, arrays)?;
     let mut growable = GrowableUnion::new(alloc, bound, plan.capacity)?;
     run_actions(&mut growable, arrays, plan, out)?;
     if !plan.is_consumed {
@@ -276,5 +298,31 @@ fn run_unions<'a>(
     match growable.into_array() {
         Ok(array) => write_made_or_name(out, Ok(AnyArray::Union(array))),
         Err(error) => write_name(out, error),
+    }
+}
+
+/// Arrays of any type as arrays of unions.
+fn bind_unions<'a>(alloc: Global, arrays: &[&'a AnyArray]) -> Result<Vec<&'a UnionArray>, Error>
+    requires one_type { AreOfOneType (layouts_in arrays.now) }
+    requires kind { kind_in (physical_type_of (first_type (layouts_in arrays.now))) ≡ union_kind }
+    ensures { IfOk result (λ bound. map (λ r. union_layout r.now) bound.items ≡ layouts_in arrays.now) }
+{
+    let mut bound: Vec<&'a UnionArray> = Vec::with_capacity(alloc, arrays.len())?;
+    for array in arrays {
+        // The kind of each array follows from its data type.
+        let _ = array.data_type();
+        bound.push(as_union(*array))?;
+    }
+    Ok(bound)
+}
+
+/// An array of any type as one of unions.
+fn as_union(array: &AnyArray) -> &UnionArray
+    requires { kind_of array.now ≡ union_kind }
+    ensures { union_layout result.now ≡ layout_of array.now }
+{
+    match array {
+        AnyArray::Union(array) => array,
+        _ => unreachable!(),
     }
 }

@@ -11,4 +11,4 @@ loop-array-preserved c =
 
 pub returns-clause-one_type : goal.returns-clause-one_type
 returns-clause-one_type c =
-    λ _. one_type_of _ _ (search rules) (typed_all (λ (a : Bor _). layout_of a.now) c.args.arrays.now c.loop-array.array-index _ (omega (arith, c.loop-array-test.false)) c.loop-array.invariant)
+    λ _. one_type_of _ _ (omega (arith, c.in-Some.ensures.item.3.0, length-map c.args.arrays.now (λ (a : Bor _). layout_of a.now))) (typed_all (λ (a : Bor _). layout_of a.now) c.args.arrays.now c.loop-array.array-index _ (omega (arith, c.loop-array-test.false)) c.loop-array.invariant)
