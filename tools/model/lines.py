@@ -64,12 +64,14 @@ def bitmap_line(m):
     """A call on one or two bitmaps."""
     n = m.length()
     one, other, (start, count) = bits(m, n), bits(m, m.other(n)), inside(m, n)
-    name = m.choice("from_bools new_zeroed len is_empty get_bit word unset_bits slice sliced equal_range and or "
+    name = m.choice("from_bools new_zeroed new_constant len is_empty get_bit word unset_bits slice sliced equal_range and or "
                     "and_not not eq clone run_at runs".split())
     more = {"get_bit": m.other(m.randrange(max(n, 1))), "word": m.randint(0, 3), "and": other, "or": other,
             "and_not": other, "eq": m.choice((one, other)), "slice": f"{start} {count}", "sliced": f"{start} {count}",
             "runs": f"{start} {count}", "equal_range": f"{start} {m.choice((one, other))} {start} {count}",
             "run_at": f"{start} {start + count}"}.get(name, "")
+    if name == "new_constant":
+        return f"Bitmap::{name} {m.choice('tf')} {m.randint(0, 70)}"
     return f"Bitmap::{name} {m.randint(0, 70) if name == 'new_zeroed' else one} {more}".rstrip()
 
 

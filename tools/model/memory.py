@@ -77,6 +77,16 @@ def new_zeroed(n):
     return write_bits([False] * n)
 
 
+@call("Bitmap::new_constant", "W n")
+def new_constant(value, n):
+    """So many bits that are equal to a truth value."""
+    if n >= 2**48:
+        raise Refused("OutOfMemory")
+    if n > 10**5:
+        raise Unjudged("memory")
+    return write_bits([value == "t"] * n)
+
+
 @call("Bitmap::get_bit", "B n")
 def get_bit(bits, i):
     """A bit."""
