@@ -1,5 +1,7 @@
 //! Bitmaps as text, as `bits[tft*3]`, and validities, which may be `none`.
 
+ghost use Rattle.std.specs.Prelude.{◌+◌, ◌≤◌, IfOk};
+
 use crate::fault::Fault;
 use crate::piece::Piece;
 use arrow_memory::bitmap::{Bitmap, MutableBitmap};
@@ -7,12 +9,7 @@ use std::alloc::Global;
 
 /// A bitmap: `bits[tft*3]`, and slices of it, as `@1+2`.
 pub fn read_bits(alloc: Global, piece: Piece<'_>) -> Result<Bitmap, Fault> {
-    let parts = piece.split(alloc, '@')?;
-    let Some((body, slices)) = parts.split_first() else {
-        return Err(piece.fault());
-    };
-    let letters = body.between("bits[", "]")?;
-    sliced_letters(alloc, letters, slices)
+    letters_between(alloc, piece, "bits[", "]")
 }
 
 /// A validity: a bitmap, or `none`.
@@ -23,16 +20,21 @@ pub fn read_validity(alloc: Global, piece: Piece<'_>) -> Result<Option<Bitmap>, 
     }
 }
 
-/// The bits of letters, and slices of them, as `tft*3@1+2`.
-pub fn read_letters(alloc: Global, piece: Piece<'_>) -> Result<Bitmap, Fault> {
+/// The bits of letters in brackets, and slices of them, one after the other, as `tft*3@1+2`.
+pub(crate) fn letters_between(
+    alloc: Global,
+    piece: Piece<'_>,
+    opening: &str,
+    closing: &str,
+) -> Result<Bitmap, Fault> {
     let parts = piece.split(alloc, '@')?;
     match parts.split_first() {
-        Some((letters, slices)) => sliced_letters(alloc, *letters, slices),
+        Some((body, slices)) => sliced_letters(alloc, body.between(opening, closing)?, slices),
         None => Err(piece.fault()),
     }
 }
 
-/// The bits of letters, of which slices are taken one after the other.
+/// The bits of letters, of which slices are taken.
 fn sliced_letters(
     alloc: Global,
     letters: Piece<'_>,
@@ -40,19 +42,23 @@ fn sliced_letters(
 ) -> Result<Bitmap, Fault> {
     let mut bits = bits_of(alloc, letters)?;
     for slice in slices {
-        let (offset, len) = read_slice(*slice)?;
-        if offset > bits.len() || len > bits.len() - offset {
-            return Err(Fault::Usage);
-        }
+        let (offset, len) = slice_within(*slice, bits.len())?;
         bits.slice(offset, len);
     }
     Ok(bits)
 }
 
-/// Where a slice begins and how long it is, as `1+2`.
-pub fn read_slice(piece: Piece<'_>) -> Result<(usize, usize), Fault> {
+/// Where a slice of so many rows begins and how long it is, as `1+2`.
+pub(crate) fn slice_within(piece: Piece<'_>, rows: usize) -> Result<(usize, usize), Fault>
+    ensures { IfOk result (λ slice. slice.0 + slice.1 ≤ rows) }
+{
     let (offset, len) = piece.parted('+').ok_or(piece.fault())?;
-    Ok((offset.integer()?, len.integer()?))
+    let offset = offset.integer()?;
+    let len = len.integer()?;
+    if offset > rows || len > rows - offset {
+        return Err(Fault::Usage);
+    }
+    Ok((offset, len))
 }
 
 /// The bits of letters: a `t` is set, and a letter may be repeated, as `t*64`.

@@ -58,23 +58,36 @@ pub struct Call<'a> {
     pub arguments: Vec<Piece<'a>>,
 }
 
+impl<'a> Piece<'a> {
+    /// A call of the form `extend(0,1,2)`, as a step of another.
+    pub fn step(self, alloc: Global) -> Result<Call<'a>, Fault> {
+        match self.headed('(', ")") {
+            Some((head, arguments)) => Ok(Call {
+                name: head.text(),
+                arguments: arguments.items(alloc, ',')?,
+            }),
+            None => Err(self.fault()),
+        }
+    }
+}
+
 impl<'a> Call<'a> {
     /// Reads a line. No word stands between two spaces.
     pub fn read(alloc: Global, line: &'a str) -> Result<Call<'a>, Fault> {
-        let mut words = Vec::new(alloc);
-        for word in Piece::new(0, line).split(alloc, ' ')? {
-            if !word.is_empty() {
-                words.push(word)?;
+        let words = Piece::new(0, line).split(alloc, ' ')?;
+        let mut name = None;
+        let mut arguments = Vec::new(alloc);
+        for word in &words {
+            match name {
+                _ if word.is_empty() => (),
+                None => name = Some(word.text()),
+                Some(_) => arguments.push(*word)?,
             }
         }
-        if words.is_empty() {
-            return Err(Fault::Syntax(0));
+        match name {
+            Some(name) => Ok(Call { name, arguments }),
+            None => Err(Fault::Syntax(0)),
         }
-        let name = words.remove(0).text();
-        Ok(Call {
-            name,
-            arguments: words,
-        })
     }
 
     /// That there are so many arguments.

@@ -1,11 +1,15 @@
 //! Why a line has no answer.
 
+ghost use Rattle.std.specs.Prelude.{◌≡◌};
+ghost use Rattle.arrow_types.specs.declared.error.Error.TheVariants.{OutOfMemory};
+ghost use Rattle.arrow_text.specs.declared.fault.Fault.TheVariants.{Refused};
+
 use arrow_types::error::Error;
 use std::alloc::{AllocError, AllocFailed};
 use std::fmt;
 
 /// Why a line has no answer, as the answer says it.
-#[derive(Clone, Copy, Debug, PartialEq, Eq)]
+#[derive(Clone, Copy, PartialEq)]
 pub enum Fault {
     /// The text has not the form that is asked for, from this byte of the line on.
     Syntax(usize),
@@ -22,12 +26,16 @@ impl From<Error> for Fault {
 }
 
 impl From<AllocError> for Fault {
+    ghost from_gives = { λ _ fault. fault ≡ Refused OutOfMemory };
+
     fn from(_error: AllocError) -> Fault {
         Fault::Refused(Error::OutOfMemory)
     }
 }
 
 impl<T: Drop> From<AllocFailed<T>> for Fault {
+    ghost from_gives = { λ _ fault. fault ≡ Refused OutOfMemory };
+
     fn from(_error: AllocFailed<T>) -> Fault {
         Fault::Refused(Error::OutOfMemory)
     }
@@ -38,16 +46,9 @@ impl fmt::Display for Fault {
         match self {
             Fault::Syntax(at) => write!(f, "syntax {at}"),
             Fault::Usage => f.write_str("usage"),
-            Fault::Refused(error) => write_error(f, error),
+            Fault::Refused(Error::InvalidArgumentError(fault)) => write!(f, "error {fault:?}"),
+            Fault::Refused(Error::NotYetImplemented(_)) => f.write_str("error NotYetImplemented"),
+            Fault::Refused(error) => write!(f, "error {error:?}"),
         }
-    }
-}
-
-/// Prints `error` and the name of the refusal: of an argument its fault alone.
-fn write_error<W: fmt::Write>(f: &mut fmt::Formatter<W>, error: &Error) -> fmt::Result {
-    match error {
-        Error::InvalidArgumentError(fault) => write!(f, "error {fault:?}"),
-        Error::NotYetImplemented(_) => f.write_str("error NotYetImplemented"),
-        error => write!(f, "error {error:?}"),
     }
 }

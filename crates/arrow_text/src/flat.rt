@@ -1,10 +1,12 @@
-//! Arrays without children by their rows.
+//! Arrays without children, by their rows or by their parts.
 
+use crate::bits::letters_between;
 use crate::fault::Fault;
-use crate::number::Element;
+use crate::number::{Element, Integer};
+use crate::parts::Parts;
 use crate::piece::Piece;
 use crate::read::{boxed, offsets_of};
-use crate::row::{push_bytes, push_zeros, validity_of};
+use crate::row::{push_bytes, push_often, rows_in, validity_of};
 use arrow_arrays::array::{AnyArray, AnyOffset, AnyRows};
 use arrow_flat::array::{
     AnyElement, Binary, BooleanArray, ByteRows, FixedSizeBinaryArray, FlatArray, NullArray,
@@ -17,46 +19,124 @@ use arrow_types::datatypes::{DataType, PhysicalType};
 use arrow_types::types::{PrimitiveType, days_ms, i256, months_days_ns};
 use std::alloc::Global;
 
-/// An array without children of these rows.
-pub(crate) fn flat_rows(
+/// What says an array without children.
+#[derive(Clone, Copy)]
+pub(crate) enum Source<'b, 'a> {
+    /// Its rows, and whether a validity is asked for though no row is null.
+    Rows(&'b [Piece<'a>], bool),
+    /// Its parts.
+    Parts(&'b Parts<'a>),
+}
+
+impl Source<'_, '_> {
+    /// The validity, if there is one.
+    fn validity(self, alloc: Global) -> Result<Option<Bitmap>, Fault> {
+        match self {
+            Source::Rows(rows, is_marked) => validity_of(alloc, rows, is_marked),
+            Source::Parts(parts) => parts.validity(alloc),
+        }
+    }
+
+    /// How many rows there are, of which nothing is stored.
+    fn len(self) -> Result<usize, Fault> {
+        match self {
+            Source::Rows(rows, _) => count_of_nulls(rows),
+            Source::Parts(parts) => parts.part("len")?.integer(),
+        }
+    }
+
+    /// The truth values.
+    fn truths(self, alloc: Global) -> Result<Bitmap, Fault> {
+        match self {
+            Source::Rows(rows, _) => bits_of(alloc, rows),
+            Source::Parts(parts) => letters_between(alloc, parts.part("values")?, "", ""),
+        }
+    }
+
+    /// The elements.
+    fn elements<T: Element>(self, alloc: Global) -> Result<Buffer<T>, Fault> {
+        match self {
+            Source::Rows(rows, _) => elements_of(alloc, rows, true),
+            Source::Parts(parts) => {
+                let rows = rows_in(alloc, parts.part("values")?)?;
+                elements_of(alloc, &rows, false)
+            }
+        }
+    }
+
+    /// The bytes of all rows, and where each row ends.
+    fn bytes<O: AnyOffset + Integer>(
+        self,
+        alloc: Global,
+    ) -> Result<(OffsetsBuffer<O>, Buffer<u8>), Fault> {
+        match self {
+            Source::Rows(rows, _) => bytes_of(alloc, rows),
+            Source::Parts(parts) => Ok((parts.offsets(alloc)?, parts.bytes(alloc)?)),
+        }
+    }
+
+    /// The bytes of all rows, so many each.
+    fn bytes_of_size(self, alloc: Global, data_type: &DataType) -> Result<Buffer<u8>, Fault> {
+        match (self, data_type.to_logical_type()) {
+            (Source::Rows(rows, _), DataType::FixedSizeBinary(size)) => {
+                bytes_of_size(alloc, *size, rows)
+            }
+            (Source::Rows(_, _), _) => Err(Fault::Usage),
+            (Source::Parts(parts), _) => parts.bytes(alloc),
+        }
+    }
+}
+
+/// An array of a kind that has no children.
+pub(crate) fn flat_array(
     alloc: Global,
     data_type: &DataType,
-    rows: &[Piece<'_>],
-    is_marked: bool,
+    kind: PhysicalType,
+    source: Source<'_, '_>,
 ) -> Result<Box<AnyArray>, Fault> {
-    match data_type.to_physical_type() {
-        PhysicalType::Null => nulls(alloc, data_type, rows),
-        PhysicalType::Boolean => truths(alloc, data_type, rows, is_marked),
-        PhysicalType::Primitive(of) => primitives(alloc, data_type, of, rows, is_marked),
-        PhysicalType::Utf8 => byte_rows::<i32, Text>(alloc, data_type, rows, is_marked),
-        PhysicalType::LargeUtf8 => byte_rows::<i64, Text>(alloc, data_type, rows, is_marked),
-        PhysicalType::Binary => byte_rows::<i32, Binary>(alloc, data_type, rows, is_marked),
-        PhysicalType::LargeBinary => byte_rows::<i64, Binary>(alloc, data_type, rows, is_marked),
+    match kind {
+        PhysicalType::Null => nulls(alloc, data_type, source),
+        PhysicalType::Boolean => booleans(alloc, data_type, source),
+        PhysicalType::Primitive(of) => primitives(alloc, data_type, of, source),
+        PhysicalType::Utf8 => byte_rows::<i32, Text>(alloc, data_type, source),
+        PhysicalType::LargeUtf8 => byte_rows::<i64, Text>(alloc, data_type, source),
+        PhysicalType::Binary => byte_rows::<i32, Binary>(alloc, data_type, source),
+        PhysicalType::LargeBinary => byte_rows::<i64, Binary>(alloc, data_type, source),
+        PhysicalType::FixedSizeBinary => fixed_bytes(alloc, data_type, source),
         _ => Err(Fault::Usage),
     }
 }
 
-/// Nulls, which nothing is stored beneath.
-fn nulls(alloc: Global, data_type: &DataType, rows: &[Piece<'_>]) -> Result<Box<AnyArray>, Fault> {
-    if let Some(row) = rows.iter().find(|row| row.text() != "_") {
-        return Err(row.fault());
-    }
-    let data_type = data_type.clone()?;
-    let array = NullArray::try_new(data_type, rows.len())?;
+/// Nulls.
+fn nulls(
+    alloc: Global,
+    data_type: &DataType,
+    source: Source<'_, '_>,
+) -> Result<Box<AnyArray>, Fault> {
+    let len = source.len()?;
+    let array = NullArray::try_new(data_type.clone()?, len)?;
     boxed(alloc, AnyArray::Null(array))
 }
 
+/// How many nulls there are, which nothing is stored beneath.
+fn count_of_nulls(rows: &[Piece<'_>]) -> Result<usize, Fault> {
+    for row in rows {
+        if row.text() != "_" {
+            return Err(row.fault());
+        }
+    }
+    Ok(rows.len())
+}
+
 /// Truth values.
-fn truths(
+fn booleans(
     alloc: Global,
     data_type: &DataType,
-    rows: &[Piece<'_>],
-    is_marked: bool,
+    source: Source<'_, '_>,
 ) -> Result<Box<AnyArray>, Fault> {
-    let validity = validity_of(alloc, rows, is_marked)?;
-    let bits = bits_of(alloc, rows)?;
-    let data_type = data_type.clone()?;
-    let array = BooleanArray::try_new(data_type, bits, validity)?;
+    let values = source.truths(alloc)?;
+    let validity = source.validity(alloc)?;
+    let array = BooleanArray::try_new(data_type.clone()?, values, validity)?;
     boxed(alloc, AnyArray::Boolean(array))
 }
 
@@ -98,76 +178,67 @@ macro_rules! of_element {
     };
 }
 
-pub(crate) use of_element;
-
 /// A primitive array.
 fn primitives(
     alloc: Global,
     data_type: &DataType,
     of: PrimitiveType,
-    rows: &[Piece<'_>],
-    is_marked: bool,
+    source: Source<'_, '_>,
 ) -> Result<Box<AnyArray>, Fault> {
-    of_element!(of, numbers(alloc, data_type, rows, is_marked))
+    of_element!(of, numbers(alloc, data_type, source))
 }
 
-/// The elements of rows.
+/// A primitive array of one element type.
 fn numbers<T: Element + AnyElement>(
     alloc: Global,
     data_type: &DataType,
-    rows: &[Piece<'_>],
-    is_marked: bool,
+    source: Source<'_, '_>,
 ) -> Result<Box<AnyArray>, Fault> {
-    let validity = validity_of(alloc, rows, is_marked)?;
-    let values = elements_of::<T>(alloc, rows)?;
-    primitive(alloc, data_type, values, validity)
+    let values = source.elements::<T>(alloc)?;
+    let validity = source.validity(alloc)?;
+    let array = PrimitiveArray::<T>::try_new(data_type.clone()?, values, validity)?;
+    boxed(alloc, AnyArray::Primitive(T::to_any(&array)?))
 }
 
-/// What is stored in each row.
-fn elements_of<T: Element>(alloc: Global, rows: &[Piece<'_>]) -> Result<Buffer<T>, Fault> {
+/// What is stored in each row, some of which may be null.
+fn elements_of<T: Element>(
+    alloc: Global,
+    rows: &[Piece<'_>],
+    has_nulls: bool,
+) -> Result<Buffer<T>, Fault> {
     let mut values = Vec::with_capacity(alloc, rows.len())?;
     for row in rows {
-        values.push(row.element::<T>()?)?;
+        values.push(row.element(has_nulls)?)?;
     }
     Ok(Buffer::from_vec(alloc, values)?)
 }
 
-/// A primitive array of these parts.
-pub(crate) fn primitive<T: AnyElement>(
-    alloc: Global,
-    data_type: &DataType,
-    values: Buffer<T>,
-    validity: Option<Bitmap>,
-) -> Result<Box<AnyArray>, Fault> {
-    let data_type = data_type.clone()?;
-    let array = PrimitiveArray::<T>::try_new(data_type, values, validity)?;
-    let array = T::to_any(&array)?;
-    boxed(alloc, AnyArray::Primitive(array))
-}
-
 /// Texts or bytes.
-fn byte_rows<O: AnyOffset, K: AnyRows>(
+fn byte_rows<O: AnyOffset + Integer, K: AnyRows>(
     alloc: Global,
     data_type: &DataType,
-    rows: &[Piece<'_>],
-    is_marked: bool,
+    source: Source<'_, '_>,
 ) -> Result<Box<AnyArray>, Fault> {
-    let validity = validity_of(alloc, rows, is_marked)?;
-    let (bytes, lengths) = bytes_of(alloc, rows)?;
-    let bytes = Buffer::from_vec(alloc, bytes)?;
-    let offsets = offsets_of::<O>(alloc, &lengths)?;
-    bytes_array::<O, K>(alloc, data_type, offsets, bytes, validity)
+    let (offsets, bytes) = source.bytes::<O>(alloc)?;
+    let validity = source.validity(alloc)?;
+    let data_type = data_type.clone()?;
+    let array = FlatArray::<ByteRows<O, K>>::try_new(data_type, offsets, bytes, validity)?;
+    boxed(alloc, K::to_any(&array)?)
 }
 
-/// The bytes of all rows, and how many each row has: none where nothing is stored.
-fn bytes_of(alloc: Global, rows: &[Piece<'_>]) -> Result<(Vec<u8>, Vec<usize>), Fault> {
+/// The bytes of all rows, and where each row ends: none where nothing is stored.
+fn bytes_of<O: AnyOffset>(
+    alloc: Global,
+    rows: &[Piece<'_>],
+) -> Result<(OffsetsBuffer<O>, Buffer<u8>), Fault> {
     let (mut bytes, mut lengths) = (Vec::new(alloc), Vec::new(alloc));
     for row in rows {
         let start = bytes.len();
         push_stored(&mut bytes, *row)?;
         lengths.push(bytes.len().saturating_sub(start))?;
     }
-    Ok((bytes, lengths))
+    let bytes = Buffer::from_vec(alloc, bytes)?;
+    Ok((offsets_of(alloc, &lengths)?, bytes))
 }
 
 /// Appends the bytes that are stored in a row.
@@ -178,56 +249,37 @@ fn push_stored(bytes: &mut Vec<u8>, row: Piece<'_>) -> Result<(), Fault> {
     }
 }
 
-/// Texts or bytes of these parts.
-pub(crate) fn bytes_array<O: AnyOffset, K: AnyRows>(
+/// Rows of so many bytes each.
+fn fixed_bytes(
     alloc: Global,
     data_type: &DataType,
-    offsets: OffsetsBuffer<O>,
-    bytes: Buffer<u8>,
-    validity: Option<Bitmap>,
+    source: Source<'_, '_>,
 ) -> Result<Box<AnyArray>, Fault> {
-    let data_type = data_type.clone()?;
-    let array = FlatArray::<ByteRows<O, K>>::try_new(data_type, offsets, bytes, validity)?;
-    boxed(alloc, K::to_any(&array)?)
-}
-
-/// Rows of so many bytes each: zeros where nothing is stored.
-pub(crate) fn fixed_bytes(
-    alloc: Global,
-    data_type: &DataType,
-    size: usize,
-    rows: &[Piece<'_>],
-    is_marked: bool,
-) -> Result<Box<AnyArray>, Fault> {
-    let validity = validity_of(alloc, rows, is_marked)?;
-    let bytes = bytes_of_size(alloc, size, rows)?;
-    fixed_bytes_array(alloc, data_type, Buffer::from_vec(alloc, bytes)?, validity)
-}
-
-/// Rows of a fixed number of bytes, of these parts.
-pub(crate) fn fixed_bytes_array(
-    alloc: Global,
-    data_type: &DataType,
-    bytes: Buffer<u8>,
-    validity: Option<Bitmap>,
-) -> Result<Box<AnyArray>, Fault> {
-    let data_type = data_type.clone()?;
-    let array = FixedSizeBinaryArray::try_new(data_type, bytes, validity)?;
+    let bytes = source.bytes_of_size(alloc, data_type)?;
+    let validity = source.validity(alloc)?;
+    let array = FixedSizeBinaryArray::try_new(data_type.clone()?, bytes, validity)?;
     boxed(alloc, AnyArray::FixedSizeBinary(array))
 }
 
-/// The bytes of all rows, so many each.
-fn bytes_of_size(alloc: Global, size: usize, rows: &[Piece<'_>]) -> Result<Vec<u8>, Fault> {
+/// The bytes of all rows, so many each: zeros where nothing is stored.
+fn bytes_of_size(alloc: Global, size: usize, rows: &[Piece<'_>]) -> Result<Buffer<u8>, Fault> {
     let mut bytes = Vec::new(alloc);
     for row in rows {
-        let start = bytes.len();
-        match row.stored() {
-            Some(stored) => push_bytes(&mut bytes, stored)?,
-            None => push_zeros(&mut bytes, size)?,
-        }
-        if bytes.len().saturating_sub(start) != size {
-            return Err(row.fault());
-        }
+        push_of_size(&mut bytes, *row, size)?;
     }
-    Ok(bytes)
+    Ok(Buffer::from_vec(alloc, bytes)?)
+}
+
+/// Appends the bytes of a row, which has so many: zeros where nothing is stored.
+fn push_of_size(bytes: &mut Vec<u8>, row: Piece<'_>, size: usize) -> Result<(), Fault> {
+    let Some(stored) = row.stored() else {
+        return push_often(bytes, 0, size);
+    };
+    let start = bytes.len();
+    push_bytes(bytes, stored)?;
+    if bytes.len().saturating_sub(start) == size {
+        Ok(())
+    } else {
+        Err(row.fault())
+    }
 }

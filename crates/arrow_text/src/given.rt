@@ -1,7 +1,9 @@
 //! Values that a line says, each in a struct of its own with a drop written by hand: whoever reads one lets it go by a call,
 //! and not part by part.
 
-ghost use Rattle.std.specs.Prelude.{◌≡◌, IfOk};
+ghost use Rattle.std.specs.Prelude.{◌≡◌, IfOk, IsOkUnless};
+ghost use Rattle.arrow_types.specs.declared.error.Error.{Error};
+ghost use Rattle.arrow_text.specs.declared.fault.Fault.{Fault};
 
 use crate::fault::Fault;
 use arrow_arrays::array::AnyArray;
@@ -25,7 +27,8 @@ impl Array {
     /// # Errors
     /// `OutOfMemory` where memory is refused.
     pub fn new(alloc: Global, array: AnyArray) -> Result<Array, Fault>
-        ensures { IfOk result (λ made. made.array.value ≡ array) }
+        ensures ok { IfOk result (λ made. made.array.value ≡ array) }
+        ensures err { IsOkUnless result (Fault.Refused Error.OutOfMemory) }
     {
         let array = Box::new(alloc, array)?;
         Ok(Array { array })

@@ -5,78 +5,33 @@ use crate::piece::Piece;
 use crate::write::show;
 use arrow_types::types::{NativeType, days_ms, i256, months_days_ns};
 use std::fmt::Display;
+use std::num::ParseIntError;
+use std::str::FromStr;
 
 /// An integer of a type of its own width.
-pub trait Integer: Copy {
-    /// The integer of this text, if it is one that the type holds.
-    fn parsed(text: &str) -> Option<Self>;
-}
+pub trait Integer: Copy + FromStr<Err = ParseIntError> {}
 
-impl Integer for i8 {
-    fn parsed(text: &str) -> Option<i8> {
-        text.parse().ok()
-    }
-}
+impl Integer for i8 {}
 
-impl Integer for i16 {
-    fn parsed(text: &str) -> Option<i16> {
-        text.parse().ok()
-    }
-}
+impl Integer for i16 {}
 
-impl Integer for i32 {
-    fn parsed(text: &str) -> Option<i32> {
-        text.parse().ok()
-    }
-}
+impl Integer for i32 {}
 
-impl Integer for i64 {
-    fn parsed(text: &str) -> Option<i64> {
-        text.parse().ok()
-    }
-}
+impl Integer for i64 {}
 
-impl Integer for i128 {
-    fn parsed(text: &str) -> Option<i128> {
-        text.parse().ok()
-    }
-}
+impl Integer for i128 {}
 
-impl Integer for u8 {
-    fn parsed(text: &str) -> Option<u8> {
-        text.parse().ok()
-    }
-}
+impl Integer for u8 {}
 
-impl Integer for u16 {
-    fn parsed(text: &str) -> Option<u16> {
-        text.parse().ok()
-    }
-}
+impl Integer for u16 {}
 
-impl Integer for u32 {
-    fn parsed(text: &str) -> Option<u32> {
-        text.parse().ok()
-    }
-}
+impl Integer for u32 {}
 
-impl Integer for u64 {
-    fn parsed(text: &str) -> Option<u64> {
-        text.parse().ok()
-    }
-}
+impl Integer for u64 {}
 
-impl Integer for u128 {
-    fn parsed(text: &str) -> Option<u128> {
-        text.parse().ok()
-    }
-}
+impl Integer for u128 {}
 
-impl Integer for usize {
-    fn parsed(text: &str) -> Option<usize> {
-        text.parse().ok()
-    }
-}
+impl Integer for usize {}
 
 /// An element of primitive arrays, which text can say.
 pub trait Element: NativeType {

@@ -1,23 +1,22 @@
 //! Arrays by their parts, as they are: `list<i32>{offsets=0,2;values=i32[1,2];validity=t}`.
 
-use crate::bits::read_letters;
+use crate::bits::letters_between;
 use crate::fault::Fault;
-use crate::flat::{bytes_array, fixed_bytes_array, of_element, primitive};
-use crate::number::{Element, Integer};
+use crate::flat::{Source, flat_array};
+use crate::number::Integer;
 use crate::piece::Piece;
 use crate::read::{
-    boxed, dictionary_array, fixed_list_array, list_array, map_array, nested_array, push_child,
-    struct_array, union_array,
+    dictionary_array, fixed_list_array, list_array, nested_array, push_child, struct_array,
+    union_array,
 };
 use crate::row::{read_bytes, rows_in};
 use crate::types::find;
-use arrow_arrays::array::{AnyArray, AnyKeys, AnyOffset, AnyOffsetsBuffer, AnyRows};
-use arrow_flat::array::{AnyElement, AnyPrimitive, Binary, BooleanArray, NullArray, Text};
+use arrow_arrays::array::{AnyArray, AnyOffsetsBuffer};
 use arrow_memory::bitmap::Bitmap;
 use arrow_memory::buffer::Buffer;
 use arrow_memory::offset::OffsetsBuffer;
 use arrow_types::datatypes::{DataType, IntegerType, PhysicalType};
-use arrow_types::types::{Offset, PrimitiveType, days_ms, i256, months_days_ns};
+use arrow_types::types::{Offset, PrimitiveType};
 use std::alloc::Global;
 
 /// The constructors of arrays by their words; that of dictionaries looks at no width of keys.
@@ -68,10 +67,10 @@ impl Drop for Parts<'_> {
 impl<'a> Parts<'a> {
     /// Reads `name=text`, parted by semicolons.
     pub(crate) fn read(alloc: Global, whole: Piece<'a>) -> Result<Parts<'a>, Fault> {
+        let items = whole.items(alloc, ';')?;
         let mut parts = Vec::new(alloc);
-        for part in whole.items(alloc, ';')? {
-            let (name, text) = part.parted('=').ok_or(part.fault())?;
-            parts.push((name.text(), text))?;
+        for part in &items {
+            parts.push(named(*part)?)?;
         }
         Ok(Parts { whole, parts })
     }
@@ -92,30 +91,42 @@ impl<'a> Parts<'a> {
     }
 
     /// The validity, if there is one.
-    fn validity(&self, alloc: Global) -> Result<Option<Bitmap>, Fault> {
+    pub(crate) fn validity(&self, alloc: Global) -> Result<Option<Bitmap>, Fault> {
         match self.get("validity") {
-            Some(letters) => read_letters(alloc, letters).map(Some),
+            Some(letters) => letters_between(alloc, letters, "", "").map(Some),
             None => Ok(None),
         }
     }
 
     /// The offsets.
-    fn offsets<O: Offset + Integer>(&self, alloc: Global) -> Result<OffsetsBuffer<O>, Fault> {
+    pub(crate) fn offsets<O: Offset + Integer>(
+        &self,
+        alloc: Global,
+    ) -> Result<OffsetsBuffer<O>, Fault> {
         let offsets = read_offsets(alloc, self.part("offsets")?)?;
         Ok(OffsetsBuffer::try_from(alloc, offsets)?)
     }
 
     /// The bytes of rows.
-    fn bytes(&self, alloc: Global) -> Result<Buffer<u8>, Fault> {
+    pub(crate) fn bytes(&self, alloc: Global) -> Result<Buffer<u8>, Fault> {
         let bytes = read_bytes(alloc, self.part("values")?)?;
         Ok(Buffer::from_vec(alloc, bytes)?)
     }
 }
 
+/// A part's name, and the part.
+fn named<'a>(piece: Piece<'a>) -> Result<(&'a str, Piece<'a>), Fault> {
+    match piece.parted('=') {
+        Some((name, part)) => Ok((name.text(), part)),
+        None => Err(piece.fault()),
+    }
+}
+
 /// Numbers parted by commas, as offsets and type ids are.
 pub fn read_offsets<O: Integer>(alloc: Global, piece: Piece<'_>) -> Result<Vec<O>, Fault> {
+    let rows = rows_in(alloc, piece)?;
     let mut offsets = Vec::new(alloc);
-    for number in rows_in(alloc, piece)? {
+    for number in &rows {
         offsets.push(number.integer()?)?;
     }
     Ok(offsets)
@@ -131,14 +142,20 @@ pub(crate) fn array_of_parts(
 ) -> Result<Box<AnyArray>, Fault> {
     let parts = Parts::read(alloc, text)?;
     match kind_in(data_type, &parts)? {
-        PhysicalType::List => list_of(alloc, data_type, false, &parts, depth),
-        PhysicalType::LargeList => list_of(alloc, data_type, true, &parts, depth),
+        PhysicalType::List => list_of(alloc, data_type, PhysicalType::List, &parts, depth),
+        PhysicalType::LargeList => list_of(
+            alloc,
+            data_type,
+            PhysicalType::LargeList,
+            &parts,
+            depth,
+        ),
+        PhysicalType::Map => list_of(alloc, data_type, PhysicalType::Map, &parts, depth),
         PhysicalType::FixedSizeList => fixed_list_of(alloc, data_type, &parts, depth),
-        PhysicalType::Map => map_of(alloc, data_type, &parts, depth),
         PhysicalType::Struct => struct_of(alloc, data_type, &parts, depth),
         PhysicalType::Union => union_of(alloc, data_type, &parts, depth),
         PhysicalType::Dictionary(_) => dictionary_of(alloc, data_type, &parts, depth),
-        kind => flat_of(alloc, data_type, kind, &parts),
+        kind => flat_array(alloc, data_type, kind, Source::Parts(&parts)),
     }
 }
 
@@ -155,100 +172,6 @@ pub(crate) fn kind_of(word: Piece<'_>) -> Result<PhysicalType, Fault> {
     find(&KINDS, word.text()).copied().ok_or(word.fault())
 }
 
-/// An array without children.
-fn flat_of(
-    alloc: Global,
-    data_type: &DataType,
-    kind: PhysicalType,
-    parts: &Parts<'_>,
-) -> Result<Box<AnyArray>, Fault> {
-    match kind {
-        PhysicalType::Boolean => boolean_of(alloc, data_type, parts),
-        PhysicalType::Primitive(of) => primitive_of(alloc, data_type, of, parts),
-        PhysicalType::Utf8 => bytes_of::<i32, Text>(alloc, data_type, parts),
-        PhysicalType::LargeUtf8 => bytes_of::<i64, Text>(alloc, data_type, parts),
-        PhysicalType::Binary => bytes_of::<i32, Binary>(alloc, data_type, parts),
-        PhysicalType::LargeBinary => bytes_of::<i64, Binary>(alloc, data_type, parts),
-        PhysicalType::FixedSizeBinary => fixed_bytes_of(alloc, data_type, parts),
-        _ => nulls_of(alloc, data_type, parts),
-    }
-}
-
-/// Nulls.
-fn nulls_of(
-    alloc: Global,
-    data_type: &DataType,
-    parts: &Parts<'_>,
-) -> Result<Box<AnyArray>, Fault> {
-    let len = parts.part("len")?.integer()?;
-    let data_type = data_type.clone()?;
-    let array = NullArray::try_new(data_type, len)?;
-    boxed(alloc, AnyArray::Null(array))
-}
-
-/// Truth values.
-fn boolean_of(
-    alloc: Global,
-    data_type: &DataType,
-    parts: &Parts<'_>,
-) -> Result<Box<AnyArray>, Fault> {
-    let values = read_letters(alloc, parts.part("values")?)?;
-    let validity = parts.validity(alloc)?;
-    let data_type = data_type.clone()?;
-    let array = BooleanArray::try_new(data_type, values, validity)?;
-    boxed(alloc, AnyArray::Boolean(array))
-}
-
-/// A primitive array of an element type that is known when the program runs.
-fn primitive_of(
-    alloc: Global,
-    data_type: &DataType,
-    of: PrimitiveType,
-    parts: &Parts<'_>,
-) -> Result<Box<AnyArray>, Fault> {
-    of_element!(of, values_of(alloc, data_type, parts))
-}
-
-/// A primitive array.
-fn values_of<T: Element + AnyElement>(
-    alloc: Global,
-    data_type: &DataType,
-    parts: &Parts<'_>,
-) -> Result<Box<AnyArray>, Fault> {
-    let values = elements_in::<T>(alloc, parts.part("values")?)?;
-    primitive(alloc, data_type, values, parts.validity(alloc)?)
-}
-
-/// Elements parted by commas.
-fn elements_in<T: Element>(alloc: Global, piece: Piece<'_>) -> Result<Buffer<T>, Fault> {
-    let mut values = Vec::new(alloc);
-    for value in rows_in(alloc, piece)? {
-        values.push(T::read(value)?)?;
-    }
-    Ok(Buffer::from_vec(alloc, values)?)
-}
-
-/// Texts or bytes.
-fn bytes_of<O: AnyOffset + Integer, K: AnyRows>(
-    alloc: Global,
-    data_type: &DataType,
-    parts: &Parts<'_>,
-) -> Result<Box<AnyArray>, Fault> {
-    let (offsets, bytes) = (parts.offsets::<O>(alloc)?, parts.bytes(alloc)?);
-    let validity = parts.validity(alloc)?;
-    bytes_array::<O, K>(alloc, data_type, offsets, bytes, validity)
-}
-
-/// Rows of a fixed number of bytes.
-fn fixed_bytes_of(
-    alloc: Global,
-    data_type: &DataType,
-    parts: &Parts<'_>,
-) -> Result<Box<AnyArray>, Fault> {
-    let (bytes, validity) = (parts.bytes(alloc)?, parts.validity(alloc)?);
-    fixed_bytes_array(alloc, data_type, bytes, validity)
-}
-
 /// The child.
 #[cycle(parts)]
 fn child_of(alloc: Global, parts: &Parts<'_>, depth: usize) -> Result<Box<AnyArray>, Fault> {
@@ -258,37 +181,44 @@ fn child_of(alloc: Global, parts: &Parts<'_>, depth: usize) -> Result<Box<AnyArr
 /// The children, parted by bars.
 #[cycle(parts)]
 fn children_of(alloc: Global, parts: &Parts<'_>, depth: usize) -> Result<Vec<AnyArray>, Fault> {
+    let items = parts.part("values")?.items(alloc, '|')?;
     let mut children = Vec::new(alloc);
-    for child in parts.part("values")?.items(alloc, '|')? {
-        push_child(&mut children, nested_array(alloc, child, depth)?)?;
+    for item in &items {
+        push_child(&mut children, nested_array(alloc, *item, depth)?)?;
     }
     Ok(children)
 }
 
-/// Lists, with offsets of 64 bits where they are large.
+/// Lists or maps.
 #[cycle(parts)]
 fn list_of(
     alloc: Global,
     data_type: &DataType,
-    is_large: bool,
+    kind: PhysicalType,
     parts: &Parts<'_>,
     depth: usize,
 ) -> Result<Box<AnyArray>, Fault> {
-    let offsets = any_offsets(alloc, is_large, parts)?;
+    let offsets = any_offsets(alloc, kind, parts)?;
     let values = child_of(alloc, parts, depth)?;
-    list_array(alloc, data_type, offsets, values, parts.validity(alloc)?)
+    list_array(
+        alloc,
+        data_type,
+        kind,
+        offsets,
+        values,
+        parts.validity(alloc)?,
+    )
 }
 
-/// The offsets of lists: of 64 bits where they are large.
+/// The offsets of lists or maps: of 64 bits where the lists are large.
 fn any_offsets(
     alloc: Global,
-    is_large: bool,
+    kind: PhysicalType,
     parts: &Parts<'_>,
 ) -> Result<AnyOffsetsBuffer, Fault> {
-    if is_large {
-        parts.offsets(alloc).map(AnyOffsetsBuffer::Large)
-    } else {
-        parts.offsets(alloc).map(AnyOffsetsBuffer::Small)
+    match kind {
+        PhysicalType::LargeList => parts.offsets(alloc).map(AnyOffsetsBuffer::Large),
+        _ => parts.offsets(alloc).map(AnyOffsetsBuffer::Small),
     }
 }
 
@@ -302,19 +232,6 @@ fn fixed_list_of(
 ) -> Result<Box<AnyArray>, Fault> {
     let values = child_of(alloc, parts, depth)?;
     fixed_list_array(alloc, data_type, values, parts.validity(alloc)?)
-}
-
-/// Maps.
-#[cycle(parts)]
-fn map_of(
-    alloc: Global,
-    data_type: &DataType,
-    parts: &Parts<'_>,
-    depth: usize,
-) -> Result<Box<AnyArray>, Fault> {
-    let offsets = parts.offsets::<i32>(alloc)?;
-    let values = child_of(alloc, parts, depth)?;
-    map_array(alloc, data_type, offsets, values, parts.validity(alloc)?)
 }
 
 /// Structs.
@@ -339,13 +256,8 @@ fn union_of(
 ) -> Result<Box<AnyArray>, Fault> {
     let types = buffer_of(alloc, parts.part("types")?)?;
     let offsets = optional_buffer_of(alloc, parts.get("offsets"))?;
-    union_array(
-        alloc,
-        data_type,
-        types,
-        children_of(alloc, parts, depth)?,
-        offsets,
-    )
+    let children = children_of(alloc, parts, depth)?;
+    union_array(alloc, data_type, types, children, offsets)
 }
 
 /// A buffer of numbers.
@@ -359,7 +271,7 @@ fn optional_buffer_of<T: Integer>(
     piece: Option<Piece<'_>>,
 ) -> Result<Option<Buffer<T>>, Fault> {
     match piece {
-        Some(piece) => Ok(Some(buffer_of(alloc, piece)?)),
+        Some(piece) => buffer_of(alloc, piece).map(Some),
         None => Ok(None),
     }
 }
@@ -374,19 +286,4 @@ fn dictionary_of(
 ) -> Result<Box<AnyArray>, Fault> {
     let keys = nested_array(alloc, parts.part("keys")?, depth)?;
     dictionary_array(alloc, data_type, &keys, child_of(alloc, parts, depth)?)
-}
-
-/// The keys that an array of integers holds, which share what is stored.
-pub(crate) fn keys_in(array: &AnyArray) -> Result<AnyKeys, Fault> {
-    match array {
-        AnyArray::Primitive(AnyPrimitive::Int8(keys)) => Ok(AnyKeys::Int8(keys.clone()?)),
-        AnyArray::Primitive(AnyPrimitive::Int16(keys)) => Ok(AnyKeys::Int16(keys.clone()?)),
-        AnyArray::Primitive(AnyPrimitive::Int32(keys)) => Ok(AnyKeys::Int32(keys.clone()?)),
-        AnyArray::Primitive(AnyPrimitive::Int64(keys)) => Ok(AnyKeys::Int64(keys.clone()?)),
-        AnyArray::Primitive(AnyPrimitive::UInt8(keys)) => Ok(AnyKeys::UInt8(keys.clone()?)),
-        AnyArray::Primitive(AnyPrimitive::UInt16(keys)) => Ok(AnyKeys::UInt16(keys.clone()?)),
-        AnyArray::Primitive(AnyPrimitive::UInt32(keys)) => Ok(AnyKeys::UInt32(keys.clone()?)),
-        AnyArray::Primitive(AnyPrimitive::UInt64(keys)) => Ok(AnyKeys::UInt64(keys.clone()?)),
-        _ => Err(Fault::Usage),
-    }
 }

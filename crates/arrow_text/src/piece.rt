@@ -11,13 +11,6 @@ pub struct Piece<'a> {
     text: &'a str,
 }
 
-/// A name and its arguments, as `extend(0,1,2)`.
-#[derive(Drop)]
-pub struct Step<'a> {
-    pub name: &'a str,
-    pub arguments: Vec<Piece<'a>>,
-}
-
 impl<'a> Piece<'a> {
     /// The text, which begins at this byte of a line.
     pub fn new(at: usize, text: &'a str) -> Piece<'a> {
@@ -39,9 +32,9 @@ impl<'a> Piece<'a> {
         self.text.is_empty()
     }
 
-    /// Another text that stands where this one does.
-    pub(crate) fn renamed(self, text: &'a str) -> Piece<'a> {
-        Piece::new(self.at, text)
+    /// The null row that stores nothing, where this row stands.
+    pub fn nothing(self) -> Piece<'a> {
+        Piece::new(self.at, "_")
     }
 
     /// The piece so many bytes further on in the line.
@@ -88,10 +81,12 @@ impl<'a> Piece<'a> {
         let mut is_escaped = false;
         let mut depth = 0usize;
         let mut pieces = Vec::new(alloc);
-        let mut at = self.at;
-        for text in self.text.split(|c: char| {
-            let is_end = c == separator && !is_quoted && depth == 0;
-            if !is_quoted {
+        let mut start = 0;
+        for (i, c) in self.text.char_indices() {
+            if c == separator && !is_quoted && depth == 0 {
+                pieces.push(self.part(start, i))?;
+                start = i.saturating_add(separator.len_utf8());
+            } else if !is_quoted {
                 match c {
                     '[' | '(' | '{' | '<' => depth = depth.saturating_add(1),
                     ']' | ')' | '}' | '>' => depth = depth.saturating_sub(1),
@@ -100,14 +95,14 @@ impl<'a> Piece<'a> {
             }
             is_quoted ^= c == '"' && !is_escaped;
             is_escaped = is_quoted && c == '\\' && !is_escaped;
-            is_end
-        }) {
-            pieces.push(Piece::new(at, text))?;
-            at = at
-                .saturating_add(text.len())
-                .saturating_add(separator.len_utf8());
         }
+        pieces.push(self.part(start, self.text.len()))?;
         Ok(pieces)
+    }
+
+    /// The part of the text from one byte on to another.
+    fn part(self, start: usize, end: usize) -> Piece<'a> {
+        self.behind(start, self.text.get(start..end).unwrap_or(""))
     }
 
     /// The same, but no piece where there is no text.
@@ -124,7 +119,7 @@ impl<'a> Piece<'a> {
         if digits.is_empty() || !digits.bytes().all(|byte| byte.is_ascii_digit()) {
             return Err(self.fault());
         }
-        T::parsed(self.text).ok_or(Fault::Usage)
+        self.text.parse().ok().ok_or(Fault::Usage)
     }
 
     /// A truth value: `t` or `f`.
@@ -134,28 +129,5 @@ impl<'a> Piece<'a> {
             "f" => Ok(false),
             _ => Err(self.fault()),
         }
-    }
-
-    /// A name and its arguments.
-    pub fn step(self, alloc: Global) -> Result<Step<'a>, Fault> {
-        match self.headed('(', ")") {
-            Some((head, arguments)) => Ok(Step {
-                name: head.text,
-                arguments: arguments.items(alloc, ',')?,
-            }),
-            None => Err(self.fault()),
-        }
-    }
-}
-
-impl<'a> Step<'a> {
-    /// Argument `i`.
-    pub fn argument(&self, i: usize) -> Result<Piece<'a>, Fault> {
-        self.arguments.get(i).copied().ok_or(Fault::Usage)
-    }
-
-    /// Argument `i`, an integer.
-    pub fn integer<T: Integer>(&self, i: usize) -> Result<T, Fault> {
-        self.argument(i)?.integer()
     }
 }

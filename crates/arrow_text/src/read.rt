@@ -1,22 +1,24 @@
 //! Arrays as text: a type and its rows, as `i32[1,_,3]`, or its parts, as `i32{values=1,2}`, and slices of them.
 
+use crate::bits::slice_within;
 use crate::fault::Fault;
-use crate::flat::{fixed_bytes, flat_rows, primitive};
-use crate::parts::{array_of_parts, keys_in};
+use crate::flat::{Source, flat_array};
+use crate::parts::array_of_parts;
 use crate::piece::Piece;
-use crate::row::{push_often, rows_in, slice_within, validity_of};
-use crate::types::{DEEPEST, boxed_type};
+use crate::row::{push_often, push_rows, rows_in, validity_of};
+use crate::types::{DEEPEST, KEYS, boxed_type, push_text, word_of};
+use crate::write::show;
 use arrow_arrays::array::{
-    AnyArray, AnyOffsetsBuffer, DictionaryArray, FixedSizeListArray, ListArray, MapArray,
+    AnyArray, AnyKeys, AnyOffsetsBuffer, DictionaryArray, FixedSizeListArray, ListArray, MapArray,
     StructArray, UnionArray,
 };
-use arrow_flat::array::AnyElement;
+use arrow_flat::array::AnyPrimitive;
 use arrow_memory::bitmap::Bitmap;
 use arrow_memory::buffer::Buffer;
 use arrow_memory::offset::{Offsets, OffsetsBuffer};
 use arrow_types::datatypes::{DataType, Field, IntegerType, PhysicalType, UnionMode};
 use arrow_types::error::Error;
-use arrow_types::types::{DictionaryKey, Offset};
+use arrow_types::types::Offset;
 use std::alloc::Global;
 
 /// The array that a text says.
@@ -54,9 +56,7 @@ fn take_slices(mut array: Box<AnyArray>, slices: &[Piece<'_>]) -> Result<Box<Any
 /// Keeps a part of the rows.
 fn take_slice(array: &mut AnyArray, slice: Piece<'_>) -> Result<(), Fault> {
     let (offset, len) = slice_within(slice, array.len())?;
-    if offset <= array.len() && len <= array.len() - offset {
-        array.slice(offset, len);
-    }
+    array.slice(offset, len);
     Ok(())
 }
 
@@ -107,9 +107,9 @@ fn array_of_rows(
         return Err(Fault::Usage);
     }
     match data_type.to_logical_type() {
-        DataType::List(item) => lists(alloc, data_type, item, rows, is_marked, depth - 1),
-        DataType::LargeList(item) => lists(alloc, data_type, item, rows, is_marked, depth - 1),
-        DataType::Map(item, _) => lists(alloc, data_type, item, rows, is_marked, depth - 1),
+        DataType::List(item) | DataType::LargeList(item) | DataType::Map(item, _) => {
+            lists(alloc, data_type, item, rows, is_marked, depth - 1)
+        }
         DataType::FixedSizeList(item, size) => {
             fixed_lists(alloc, data_type, (item, *size), rows, is_marked, depth - 1)
         }
@@ -117,11 +117,20 @@ fn array_of_rows(
         DataType::Union(fields, ids, mode) => {
             unions(alloc, data_type, (fields, ids, *mode), rows, depth - 1)
         }
-        DataType::Dictionary(_, values, _) => {
-            dictionaries(alloc, data_type, values, rows, is_marked, depth - 1)
+        DataType::Dictionary(keys, values, _) => {
+            dictionaries(
+                alloc,
+                data_type,
+                (*keys, values),
+                rows,
+                is_marked,
+                depth - 1,
+            )
         }
-        DataType::FixedSizeBinary(size) => fixed_bytes(alloc, data_type, *size, rows, is_marked),
-        _ => flat_rows(alloc, data_type, rows, is_marked),
+        _ => {
+            let kind = data_type.to_physical_type();
+            flat_array(alloc, data_type, kind, Source::Rows(&*rows, is_marked))
+        }
     }
 }
 
@@ -137,87 +146,69 @@ fn lists(
 ) -> Result<Box<AnyArray>, Fault> {
     let (items, lengths) = items_in(alloc, rows)?;
     let values = array_of_rows(alloc, item.data_type(), &items, false, depth)?;
-    let validity = validity_of(alloc, rows, is_marked)?;
-    lists_of(alloc, data_type, &lengths, values, validity)
+    let kind = data_type.to_physical_type();
+    let offsets = any_offsets_of(alloc, kind, &lengths)?;
+    list_array(
+        alloc,
+        data_type,
+        kind,
+        offsets,
+        values,
+        validity_of(alloc, rows, is_marked)?,
+    )
 }
 
-/// Lists or maps, of so many items each.
-fn lists_of(
+/// The offsets of rows of these lengths: of 64 bits where the lists are large.
+fn any_offsets_of(
     alloc: Global,
-    data_type: &DataType,
+    kind: PhysicalType,
     lengths: &[usize],
-    values: Box<AnyArray>,
-    validity: Option<Bitmap>,
-) -> Result<Box<AnyArray>, Fault> {
-    match data_type.to_physical_type() {
-        PhysicalType::Map => {
-            map_array(
-                alloc,
-                data_type,
-                offsets_of(alloc, lengths)?,
-                values,
-                validity,
-            )
-        }
-        PhysicalType::LargeList => {
-            let offsets = AnyOffsetsBuffer::Large(offsets_of(alloc, lengths)?);
-            list_array(alloc, data_type, offsets, values, validity)
-        }
-        _ => {
-            let offsets = AnyOffsetsBuffer::Small(offsets_of(alloc, lengths)?);
-            list_array(alloc, data_type, offsets, values, validity)
-        }
+) -> Result<AnyOffsetsBuffer, Fault> {
+    match kind {
+        PhysicalType::LargeList => offsets_of(alloc, lengths).map(AnyOffsetsBuffer::Large),
+        _ => offsets_of(alloc, lengths).map(AnyOffsetsBuffer::Small),
     }
 }
 
-/// Lists of these parts.
+/// Lists of these parts, or maps.
 pub(crate) fn list_array(
     alloc: Global,
     data_type: &DataType,
+    kind: PhysicalType,
     offsets: AnyOffsetsBuffer,
     values: Box<AnyArray>,
     validity: Option<Bitmap>,
 ) -> Result<Box<AnyArray>, Fault> {
     let data_type = data_type.clone()?;
-    let array = ListArray::try_new(data_type, offsets, values, validity)?;
-    boxed(alloc, AnyArray::List(array))
-}
-
-/// Maps of these parts.
-pub(crate) fn map_array(
-    alloc: Global,
-    data_type: &DataType,
-    offsets: OffsetsBuffer<i32>,
-    values: Box<AnyArray>,
-    validity: Option<Bitmap>,
-) -> Result<Box<AnyArray>, Fault> {
-    let data_type = data_type.clone()?;
-    let array = MapArray::try_new(data_type, offsets, values, validity)?;
-    boxed(alloc, AnyArray::Map(array))
+    match (kind, offsets) {
+        (PhysicalType::Map, AnyOffsetsBuffer::Small(offsets)) => {
+            let array = MapArray::try_new(data_type, offsets, values, validity)?;
+            boxed(alloc, AnyArray::Map(array))
+        }
+        (_, offsets) => {
+            let array = ListArray::try_new(data_type, offsets, values, validity)?;
+            boxed(alloc, AnyArray::List(array))
+        }
+    }
 }
 
 /// The items of all rows, and how many each row has: none where nothing is stored.
 fn items_in<'a>(alloc: Global, rows: &[Piece<'a>]) -> Result<(Vec<Piece<'a>>, Vec<usize>), Fault> {
     let (mut items, mut lengths) = (Vec::new(alloc), Vec::new(alloc));
     for row in rows {
-        let count = match row.stored() {
-            Some(stored) => push_items(alloc, stored, &mut items)?,
-            None => 0,
-        };
-        lengths.push(count)?;
+        let start = items.len();
+        push_items(alloc, *row, &mut items)?;
+        lengths.push(items.len().saturating_sub(start))?;
     }
     Ok((items, lengths))
 }
 
-/// Appends the items of a list, and answers how many there are.
-fn push_items<'a>(
-    alloc: Global,
-    stored: Piece<'a>,
-    items: &mut Vec<Piece<'a>>,
-) -> Result<usize, Fault> {
-    let found = rows_in(alloc, stored.between("[", "]")?)?;
-    items.extend_from_slice(&found)?;
-    Ok(found.len())
+/// Appends the items of a row: none where nothing is stored.
+fn push_items<'a>(alloc: Global, row: Piece<'a>, items: &mut Vec<Piece<'a>>) -> Result<(), Fault> {
+    match row.stored() {
+        Some(stored) => push_rows(alloc, stored.between("[", "]")?, items),
+        None => Ok(()),
+    }
 }
 
 /// The offsets of rows of these lengths.
@@ -245,8 +236,12 @@ fn fixed_lists(
     let (item, size) = item;
     let items = items_of_size(alloc, rows, size)?;
     let values = array_of_rows(alloc, item.data_type(), &items, false, depth)?;
-    let validity = validity_of(alloc, rows, is_marked)?;
-    fixed_list_array(alloc, data_type, values, validity)
+    fixed_list_array(
+        alloc,
+        data_type,
+        values,
+        validity_of(alloc, rows, is_marked)?,
+    )
 }
 
 /// Lists of a fixed size of these parts.
@@ -256,8 +251,7 @@ pub(crate) fn fixed_list_array(
     values: Box<AnyArray>,
     validity: Option<Bitmap>,
 ) -> Result<Box<AnyArray>, Fault> {
-    let data_type = data_type.clone()?;
-    let array = FixedSizeListArray::try_new(data_type, values, validity)?;
+    let array = FixedSizeListArray::try_new(data_type.clone()?, values, validity)?;
     boxed(alloc, AnyArray::FixedSizeList(array))
 }
 
@@ -281,10 +275,15 @@ fn push_of_size<'a>(
     size: usize,
     items: &mut Vec<Piece<'a>>,
 ) -> Result<(), Fault> {
-    match row.stored() {
-        Some(stored) if push_items(alloc, stored, items)? == size => Ok(()),
-        Some(_) => Err(row.fault()),
-        None => push_often(items, row.nothing(), size),
+    if row.stored().is_none() {
+        return push_often(items, row.nothing(), size);
+    }
+    let start = items.len();
+    push_items(alloc, row, items)?;
+    if items.len().saturating_sub(start) == size {
+        Ok(())
+    } else {
+        Err(row.fault())
     }
 }
 
@@ -298,16 +297,30 @@ fn structs(
     is_marked: bool,
     depth: usize,
 ) -> Result<Box<AnyArray>, Fault> {
+    let columns = columns_of(alloc, rows, fields.len())?;
+    let children = children_of(alloc, fields, &columns, depth)?;
+    struct_array(
+        alloc,
+        data_type,
+        children,
+        validity_of(alloc, rows, is_marked)?,
+    )
+}
+
+/// The arrays of fields, each of its own rows.
+#[cycle(rows)]
+fn children_of(
+    alloc: Global,
+    fields: &[Field],
+    columns: &[Vec<Piece<'_>>],
+    depth: usize,
+) -> Result<Vec<AnyArray>, Fault> {
     let mut children = Vec::new(alloc);
-    for (place, field) in fields.iter().enumerate() {
-        let column = column_of(alloc, rows, place, fields.len())?;
-        push_child(
-            &mut children,
-            array_of_rows(alloc, field.data_type(), &column, false, depth)?,
-        )?;
+    for (field, column) in fields.iter().zip(columns) {
+        let child = array_of_rows(alloc, field.data_type(), column, false, depth)?;
+        push_child(&mut children, child)?;
     }
-    let validity = validity_of(alloc, rows, is_marked)?;
-    struct_array(alloc, data_type, children, validity)
+    Ok(children)
 }
 
 /// Appends a child out of its box.
@@ -322,9 +335,21 @@ pub(crate) fn struct_array(
     children: Vec<AnyArray>,
     validity: Option<Bitmap>,
 ) -> Result<Box<AnyArray>, Fault> {
-    let data_type = data_type.clone()?;
-    let array = StructArray::try_new(data_type, children, validity)?;
+    let array = StructArray::try_new(data_type.clone()?, children, validity)?;
     boxed(alloc, AnyArray::Struct(array))
+}
+
+/// The rows of each of so many fields.
+fn columns_of<'a>(
+    alloc: Global,
+    rows: &[Piece<'a>],
+    count: usize,
+) -> Result<Vec<Vec<Piece<'a>>>, Fault> {
+    let mut columns = Vec::new(alloc);
+    for place in 0..count {
+        columns.push(column_of(alloc, rows, place, count)?)?;
+    }
+    Ok(columns)
 }
 
 /// The rows of one field of so many: null slots where nothing is stored.
@@ -336,27 +361,26 @@ fn column_of<'a>(
 ) -> Result<Vec<Piece<'a>>, Fault> {
     let mut column = Vec::new(alloc);
     for row in rows {
-        let item = match row.stored() {
-            Some(stored) => item_of(alloc, stored, place, count)?,
-            None => row.nothing(),
-        };
-        column.push(item)?;
+        column.push(item_of(alloc, *row, place, count)?)?;
     }
     Ok(column)
 }
 
-/// The row of one field of so many.
+/// The row of one field of so many: a null slot where nothing is stored.
 fn item_of<'a>(
     alloc: Global,
-    stored: Piece<'a>,
+    row: Piece<'a>,
     place: usize,
     count: usize,
 ) -> Result<Piece<'a>, Fault> {
+    let Some(stored) = row.stored() else {
+        return Ok(row.nothing());
+    };
     let items = stored.between("(", ")")?.items(alloc, ',')?;
-    if items.len() != count {
-        return Err(stored.fault());
+    match items.get(place) {
+        Some(item) if items.len() == count => Ok(*item),
+        _ => Err(stored.fault()),
     }
-    items.get(place).copied().ok_or(stored.fault())
 }
 
 /// The type ids of a union's fields: 0, 1, 2, .. where the type has none.
@@ -419,6 +443,20 @@ fn variant_of<'a>(
     Ok(column)
 }
 
+/// What each field of a union holds.
+fn variants_of<'a>(
+    alloc: Global,
+    ids: &[i32],
+    mode: UnionMode,
+    rows: &[(i8, Piece<'a>)],
+) -> Result<Vec<Vec<Piece<'a>>>, Fault> {
+    let mut columns = Vec::new(alloc);
+    for id in ids {
+        columns.push(variant_of(alloc, *id, mode, rows)?)?;
+    }
+    Ok(columns)
+}
+
 /// Unions of fields, with type ids or without, of a mode.
 #[cycle(rows)]
 fn unions(
@@ -431,16 +469,21 @@ fn unions(
     let (fields, ids, mode) = of;
     let ids = ids_of(alloc, fields, ids)?;
     let rows = ids_and_rows(alloc, &ids, rows)?;
-    let mut children = Vec::new(alloc);
-    for (field, id) in fields.iter().zip(&ids) {
-        let column = variant_of(alloc, *id, mode, &rows)?;
-        push_child(
-            &mut children,
-            array_of_rows(alloc, field.data_type(), &column, false, depth)?,
-        )?;
-    }
-    let types = types_of(alloc, &rows)?;
-    let offsets = offsets_in(alloc, mode, &rows)?;
+    let columns = variants_of(alloc, &ids, mode, &rows)?;
+    let children = children_of(alloc, fields, &columns, depth)?;
+    union_of_rows(alloc, data_type, mode, &rows, children)
+}
+
+/// Unions of these rows, whose fields hold these children.
+fn union_of_rows(
+    alloc: Global,
+    data_type: &DataType,
+    mode: UnionMode,
+    rows: &[(i8, Piece<'_>)],
+    children: Vec<AnyArray>,
+) -> Result<Box<AnyArray>, Fault> {
+    let types = types_of(alloc, rows)?;
+    let offsets = offsets_in(alloc, mode, rows)?;
     union_array(alloc, data_type, types, children, offsets)
 }
 
@@ -464,8 +507,7 @@ pub(crate) fn union_array(
     children: Vec<AnyArray>,
     offsets: Option<Buffer<i32>>,
 ) -> Result<Box<AnyArray>, Fault> {
-    let data_type = data_type.clone()?;
-    let array = UnionArray::try_new(data_type, types, children, offsets)?;
+    let array = UnionArray::try_new(data_type.clone()?, types, children, offsets)?;
     boxed(alloc, AnyArray::Union(array))
 }
 
@@ -496,15 +538,15 @@ fn places_of(alloc: Global, rows: &[(i8, Piece<'_>)]) -> Result<Buffer<i32>, Fau
 fn dictionaries(
     alloc: Global,
     data_type: &DataType,
-    values: &DataType,
+    of: (IntegerType, &DataType),
     rows: &[Piece<'_>],
     is_marked: bool,
     depth: usize,
 ) -> Result<Box<AnyArray>, Fault> {
-    let (places, found) = keys_and_values(alloc, rows)?;
+    let (keys, values) = of;
+    let found = values_in(alloc, rows)?;
     let values = array_of_rows(alloc, values, &found, false, depth)?;
-    let validity = validity_of(alloc, rows, is_marked)?;
-    let keys = key_array(alloc, data_type, &places, validity)?;
+    let keys = key_array(alloc, keys, &found, rows, is_marked)?;
     dictionary_array(alloc, data_type, &keys, values)
 }
 
@@ -515,78 +557,117 @@ pub(crate) fn dictionary_array(
     keys: &AnyArray,
     values: Box<AnyArray>,
 ) -> Result<Box<AnyArray>, Fault> {
-    let keys = keys_in(keys)?;
-    let data_type = data_type.clone()?;
-    let array = DictionaryArray::try_new(data_type, keys, values)?;
+    let array = DictionaryArray::try_new(data_type.clone()?, keys_in(keys)?, values)?;
     boxed(alloc, AnyArray::Dictionary(array))
 }
 
-/// The place of each row's value among all values, and these. A null that stores nothing has place 0.
-fn keys_and_values<'a>(
-    alloc: Global,
-    rows: &[Piece<'a>],
-) -> Result<(Vec<usize>, Vec<Piece<'a>>), Fault> {
-    let (mut places, mut values) = (Vec::new(alloc), Vec::new(alloc));
-    for row in rows {
-        let place = match row.stored() {
-            None => 0,
-            Some(stored) => place_of(&mut values, stored.strip_prefix("&").unwrap_or(stored))?,
-        };
-        places.push(place)?;
+/// The keys that an array of integers holds, which share what is stored.
+fn keys_in(array: &AnyArray) -> Result<AnyKeys, Fault> {
+    match array {
+        AnyArray::Primitive(AnyPrimitive::Int8(keys)) => Ok(AnyKeys::Int8(keys.clone()?)),
+        AnyArray::Primitive(AnyPrimitive::Int16(keys)) => Ok(AnyKeys::Int16(keys.clone()?)),
+        AnyArray::Primitive(AnyPrimitive::Int32(keys)) => Ok(AnyKeys::Int32(keys.clone()?)),
+        AnyArray::Primitive(AnyPrimitive::Int64(keys)) => Ok(AnyKeys::Int64(keys.clone()?)),
+        AnyArray::Primitive(AnyPrimitive::UInt8(keys)) => Ok(AnyKeys::UInt8(keys.clone()?)),
+        AnyArray::Primitive(AnyPrimitive::UInt16(keys)) => Ok(AnyKeys::UInt16(keys.clone()?)),
+        AnyArray::Primitive(AnyPrimitive::UInt32(keys)) => Ok(AnyKeys::UInt32(keys.clone()?)),
+        AnyArray::Primitive(AnyPrimitive::UInt64(keys)) => Ok(AnyKeys::UInt64(keys.clone()?)),
+        _ => Err(Fault::Usage),
     }
-    Ok((places, values))
 }
 
-/// Where a value stands, which is appended where it does not stand yet.
-fn place_of<'a>(values: &mut Vec<Piece<'a>>, value: Piece<'a>) -> Result<usize, Fault> {
-    let place = values.iter().position(|other| other.text() == value.text());
-    match place {
-        Some(place) => Ok(place),
-        None => {
-            values.push(value)?;
-            Ok(values.len().saturating_sub(1))
+/// What stands in a row of a dictionary, if the text says it: the value, before which an ampersand may stand.
+fn value_in(row: Piece<'_>) -> Option<Piece<'_>> {
+    let stored = row.stored()?;
+    Some(stored.strip_prefix("&").unwrap_or(stored))
+}
+
+/// The values of rows, each once, in the order in which they come first.
+fn values_in<'a>(alloc: Global, rows: &[Piece<'a>]) -> Result<Vec<Piece<'a>>, Fault> {
+    let mut values = Vec::new(alloc);
+    for row in rows {
+        if let Some(value) = value_in(*row) {
+            push_once(&mut values, value)?;
         }
     }
+    Ok(values)
 }
 
-/// Places as an array of a dictionary's keys.
+/// Appends a value that does not stand there yet.
+fn push_once<'a>(values: &mut Vec<Piece<'a>>, value: Piece<'a>) -> Result<(), Fault> {
+    match place_of(values, value) {
+        Some(_) => Ok(()),
+        None => Ok(values.push(value)?),
+    }
+}
+
+/// Where a value stands, if it does.
+fn place_of(values: &[Piece<'_>], value: Piece<'_>) -> Option<usize> {
+    for (place, other) in values.iter().enumerate() {
+        if other.text() == value.text() {
+            return Some(place);
+        }
+    }
+    None
+}
+
+/// The keys of rows, as an array of their type: too many values for it are refused.
 fn key_array(
     alloc: Global,
-    dictionary: &DataType,
-    places: &[usize],
-    validity: Option<Bitmap>,
+    of: IntegerType,
+    values: &[Piece<'_>],
+    rows: &[Piece<'_>],
+    is_marked: bool,
 ) -> Result<Box<AnyArray>, Fault> {
-    let PhysicalType::Dictionary(of) = dictionary.to_physical_type() else {
-        return Err(Fault::Usage);
-    };
-    match of {
-        IntegerType::Int8 => numbered::<i8>(alloc, DataType::Int8, places, validity),
-        IntegerType::Int16 => numbered::<i16>(alloc, DataType::Int16, places, validity),
-        IntegerType::Int32 => numbered::<i32>(alloc, DataType::Int32, places, validity),
-        IntegerType::Int64 => numbered::<i64>(alloc, DataType::Int64, places, validity),
-        IntegerType::UInt8 => numbered::<u8>(alloc, DataType::UInt8, places, validity),
-        IntegerType::UInt16 => numbered::<u16>(alloc, DataType::UInt16, places, validity),
-        IntegerType::UInt32 => numbered::<u32>(alloc, DataType::UInt32, places, validity),
-        IntegerType::UInt64 => numbered::<u64>(alloc, DataType::UInt64, places, validity),
+    if values.len() > most_of(of) {
+        return Err(Fault::Refused(Error::Overflow));
     }
+    let mut text = String::new(alloc);
+    write_keys(&mut text, values, rows)?;
+    array_of_keys(alloc, of, text.as_str(), is_marked)
 }
 
-/// Places as an array of one type.
-fn numbered<K: DictionaryKey + AnyElement>(
+/// Keys of a type, as rows are written.
+fn array_of_keys(
     alloc: Global,
-    data_type: DataType,
-    places: &[usize],
-    validity: Option<Bitmap>,
+    of: IntegerType,
+    text: &str,
+    is_marked: bool,
 ) -> Result<Box<AnyArray>, Fault> {
-    let keys = keys_of::<K>(alloc, places)?;
-    primitive(alloc, &data_type, keys, validity)
+    let data_type = boxed_type(alloc, Piece::new(0, word_of(&KEYS, &of)))?;
+    let rows = rows_in(alloc, Piece::new(0, text))?;
+    let kind = data_type.to_physical_type();
+    flat_array(alloc, &data_type, kind, Source::Rows(&rows, is_marked))
 }
 
-/// Places as keys; too many values for their type are refused.
-fn keys_of<K: DictionaryKey>(alloc: Global, places: &[usize]) -> Result<Buffer<K>, Fault> {
-    let mut keys = Vec::with_capacity(alloc, places.len())?;
-    for place in places {
-        keys.push(K::from_usize(*place).ok_or(Fault::Refused(Error::Overflow))?)?;
+/// How many values the keys of a type can name.
+fn most_of(of: IntegerType) -> usize {
+    match of {
+        IntegerType::Int8 => 1 << 7,
+        IntegerType::Int16 => 1 << 15,
+        IntegerType::Int32 => 1 << 31,
+        IntegerType::Int64 => 1 << 63,
+        IntegerType::UInt8 => 1 << 8,
+        IntegerType::UInt16 => 1 << 16,
+        IntegerType::UInt32 => 1 << 32,
+        IntegerType::UInt64 => usize::MAX,
     }
-    Ok(Buffer::from_vec(alloc, keys)?)
+}
+
+/// Appends the keys of rows, as the rows of their array are written.
+fn write_keys(text: &mut String, values: &[Piece<'_>], rows: &[Piece<'_>]) -> Result<(), Fault> {
+    for (i, row) in rows.iter().enumerate() {
+        push_text(text, if i > 0 { "," } else { "" })?;
+        push_text(text, if row.is_null() { "_" } else { "" })?;
+        push_key(text, values, *row)?;
+    }
+    Ok(())
+}
+
+/// Appends the place of a row's value among all, if the row stores one.
+fn push_key(text: &mut String, values: &[Piece<'_>], row: Piece<'_>) -> Result<(), Fault> {
+    match value_in(row) {
+        Some(value) => show(text, place_of(values, value).unwrap_or(0)),
+        None => Ok(()),
+    }
 }

@@ -1,6 +1,5 @@
 //! Rows as text: their validity, what is stored, and the rows of children that they name.
 
-use crate::bits::read_slice;
 use crate::fault::Fault;
 use crate::number::Element;
 use crate::piece::Piece;
@@ -13,28 +12,41 @@ const MOST: usize = 1 << 24;
 /// Rows parted by commas; `row*3` stands for three such rows.
 pub fn rows_in<'a>(alloc: Global, piece: Piece<'a>) -> Result<Vec<Piece<'a>>, Fault> {
     let mut rows = Vec::new(alloc);
-    for item in piece.items(alloc, ',')? {
-        let parts = item.split(alloc, '*')?;
-        match parts.as_slice() {
-            [row] => rows.push(*row)?,
-            [row, count] => push_often(&mut rows, *row, count.integer()?)?,
-            _ => return Err(item.fault()),
-        }
-    }
+    push_rows(alloc, piece, &mut rows)?;
     Ok(rows)
 }
 
-/// Appends a row so often.
-pub(crate) fn push_often<'a>(
+/// Appends the rows that a text says.
+pub(crate) fn push_rows<'a>(
+    alloc: Global,
+    piece: Piece<'a>,
     rows: &mut Vec<Piece<'a>>,
-    row: Piece<'a>,
-    count: usize,
 ) -> Result<(), Fault> {
+    let items = piece.items(alloc, ',')?;
+    for item in &items {
+        let (row, count) = row_and_count(alloc, *item)?;
+        push_often(rows, row, count)?;
+    }
+    Ok(())
+}
+
+/// A row, and how often it is said.
+fn row_and_count<'a>(alloc: Global, item: Piece<'a>) -> Result<(Piece<'a>, usize), Fault> {
+    let parts = item.split(alloc, '*')?;
+    match parts.as_slice() {
+        [row] => Ok((*row, 1)),
+        [row, count] => Ok((*row, count.integer()?)),
+        _ => Err(item.fault()),
+    }
+}
+
+/// Appends an item so often.
+pub(crate) fn push_often<T: Copy>(items: &mut Vec<T>, item: T, count: usize) -> Result<(), Fault> {
     if count > MOST {
         return Err(Fault::Usage);
     }
     for _ in 0..count {
-        rows.push(row)?;
+        items.push(item)?;
     }
     Ok(())
 }
@@ -54,17 +66,17 @@ impl<'a> Piece<'a> {
         }
     }
 
-    /// The element that is stored in the row; zero where the text says none.
-    pub fn element<T: Element>(self) -> Result<T, Fault> {
-        match self.stored() {
+    /// The element that is stored in the row; zero where the text says none. A null that may not be is no element.
+    pub(crate) fn element<T: Element>(self, may_be_null: bool) -> Result<T, Fault> {
+        let stored = if may_be_null {
+            self.stored()
+        } else {
+            Some(self)
+        };
+        match stored {
             Some(stored) => T::read(stored),
             None => Ok(T::default()),
         }
-    }
-
-    /// The null row that stores nothing, where this row stands.
-    pub fn nothing(self) -> Piece<'a> {
-        self.renamed("_")
     }
 }
 
@@ -138,26 +150,6 @@ fn push_quoted(bytes: &mut Vec<u8>, quoted: Piece<'_>) -> Result<(), Fault> {
     }
     if is_escaped {
         return Err(quoted.fault());
-    }
-    Ok(())
-}
-
-/// Whether a slice lies within so many rows, and where it begins and how long it is.
-pub fn slice_within(piece: Piece<'_>, len: usize) -> Result<(usize, usize), Fault> {
-    let (offset, count) = read_slice(piece)?;
-    if offset > len || count > len - offset {
-        return Err(Fault::Usage);
-    }
-    Ok((offset, count))
-}
-
-/// Appends so many zeros.
-pub(crate) fn push_zeros(bytes: &mut Vec<u8>, count: usize) -> Result<(), Fault> {
-    if count > MOST {
-        return Err(Fault::Usage);
-    }
-    for _ in 0..count {
-        bytes.push(0)?;
     }
     Ok(())
 }

@@ -67,14 +67,13 @@ fn scalar_of_row(
     if depth == 0 {
         return Err(row.fault());
     }
-    match (data_type.to_logical_type(), value_of(row)) {
-        (DataType::Dictionary(_, values, _), Some(value)) => {
-            let value = value.strip_prefix("&").unwrap_or(value);
+    match data_type.to_logical_type() {
+        DataType::Dictionary(_, values, _) if !row.is_null() => {
+            let value = row.strip_prefix("&").unwrap_or(row);
             let value = scalar_of_row(alloc, values, value, depth - 1)?;
             dictionary(alloc, data_type, Some(value))
         }
-        (DataType::Dictionary(_, _, _), None) => dictionary(alloc, data_type, None),
-        (_, value) => flat_scalar(alloc, data_type, value),
+        _ => flat_scalar(alloc, data_type, value_of(row)),
     }
 }
 
@@ -94,7 +93,7 @@ fn dictionary(
     boxed(alloc, AnyScalar::Dictionary(scalar))
 }
 
-/// A scalar whose type is no dictionary.
+/// A scalar that has no other one inside.
 fn flat_scalar(
     alloc: Global,
     data_type: &DataType,
@@ -102,27 +101,13 @@ fn flat_scalar(
 ) -> Result<Box<AnyScalar>, Fault> {
     match data_type {
         DataType::Boolean => truth(alloc, value),
-        DataType::Utf8 => {
-            let value = text_of(alloc, value)?;
-            boxed(alloc, AnyScalar::Utf8(Utf8Scalar::<i32>::new(value)))
-        }
-        DataType::LargeUtf8 => {
-            let value = text_of(alloc, value)?;
-            boxed(alloc, AnyScalar::LargeUtf8(Utf8Scalar::<i64>::new(value)))
-        }
-        DataType::Binary => {
-            let value = bytes_of(alloc, value)?;
-            boxed(alloc, AnyScalar::Binary(BinaryScalar::<i32>::new(value)))
-        }
-        DataType::LargeBinary => {
-            let value = bytes_of(alloc, value)?;
-            boxed(
-                alloc,
-                AnyScalar::LargeBinary(BinaryScalar::<i64>::new(value)),
-            )
-        }
+        DataType::Utf8 => text(alloc, value, false),
+        DataType::LargeUtf8 => text(alloc, value, true),
+        DataType::Binary => bytes(alloc, value, false),
+        DataType::LargeBinary => bytes(alloc, value, true),
         data_type => match data_type.to_physical_type() {
             PhysicalType::Primitive(of) => number(alloc, data_type, of, value),
+            PhysicalType::Dictionary(_) => dictionary(alloc, data_type, None),
             _ => Err(Fault::Usage),
         },
     }
@@ -137,11 +122,32 @@ fn truth(alloc: Global, value: Option<Piece<'_>>) -> Result<Box<AnyScalar>, Faul
     boxed(alloc, AnyScalar::Boolean(BooleanScalar::new(value)))
 }
 
+/// Bytes.
+fn bytes(alloc: Global, value: Option<Piece<'_>>, is_large: bool) -> Result<Box<AnyScalar>, Fault> {
+    let value = bytes_of(alloc, value)?;
+    match is_large {
+        false => boxed(alloc, AnyScalar::Binary(BinaryScalar::<i32>::new(value))),
+        true => boxed(
+            alloc,
+            AnyScalar::LargeBinary(BinaryScalar::<i64>::new(value)),
+        ),
+    }
+}
+
 /// The bytes of a value.
 fn bytes_of(alloc: Global, value: Option<Piece<'_>>) -> Result<Option<Vec<u8>>, Fault> {
     match value {
         Some(value) => read_bytes(alloc, value).map(Some),
         None => Ok(None),
+    }
+}
+
+/// A text.
+fn text(alloc: Global, value: Option<Piece<'_>>, is_large: bool) -> Result<Box<AnyScalar>, Fault> {
+    let value = text_of(alloc, value)?;
+    match is_large {
+        false => boxed(alloc, AnyScalar::Utf8(Utf8Scalar::<i32>::new(value))),
+        true => boxed(alloc, AnyScalar::LargeUtf8(Utf8Scalar::<i64>::new(value))),
     }
 }
 
@@ -167,29 +173,30 @@ fn number(
     boxed(alloc, AnyScalar::Primitive(scalar))
 }
 
+/// The scalar of the element type that a primitive type names, as one of any.
+macro_rules! any_scalar {
+    ($of:expr, $element:expr, $($name:ident)*) => {
+        match $of {
+            $(PrimitiveType::$name => match $element {
+                Ok(scalar) => Ok(AnyPrimitiveScalar::$name(scalar)),
+                Err(fault) => Err(fault),
+            },)*
+            _ => Err(Fault::Usage),
+        }
+    };
+}
+
 /// The same, outside a box.
 fn any_number(
     data_type: &DataType,
     of: PrimitiveType,
     value: Option<Piece<'_>>,
 ) -> Result<AnyPrimitiveScalar, Fault> {
-    match of {
-        PrimitiveType::Int8 => Ok(AnyPrimitiveScalar::Int8(element(data_type, value)?)),
-        PrimitiveType::Int16 => Ok(AnyPrimitiveScalar::Int16(element(data_type, value)?)),
-        PrimitiveType::Int32 => Ok(AnyPrimitiveScalar::Int32(element(data_type, value)?)),
-        PrimitiveType::Int64 => Ok(AnyPrimitiveScalar::Int64(element(data_type, value)?)),
-        PrimitiveType::Int128 => Ok(AnyPrimitiveScalar::Int128(element(data_type, value)?)),
-        PrimitiveType::Int256 => Ok(AnyPrimitiveScalar::Int256(element(data_type, value)?)),
-        PrimitiveType::UInt8 => Ok(AnyPrimitiveScalar::UInt8(element(data_type, value)?)),
-        PrimitiveType::UInt16 => Ok(AnyPrimitiveScalar::UInt16(element(data_type, value)?)),
-        PrimitiveType::UInt32 => Ok(AnyPrimitiveScalar::UInt32(element(data_type, value)?)),
-        PrimitiveType::UInt64 => Ok(AnyPrimitiveScalar::UInt64(element(data_type, value)?)),
-        PrimitiveType::DaysMs => Ok(AnyPrimitiveScalar::DaysMs(element(data_type, value)?)),
-        PrimitiveType::MonthDayNano => {
-            Ok(AnyPrimitiveScalar::MonthDayNano(element(data_type, value)?))
-        }
-        _ => Err(Fault::Usage),
-    }
+    any_scalar!(
+        of,
+        element(data_type, value),
+        Int8 Int16 Int32 Int64 Int128 Int256 UInt8 UInt16 UInt32 UInt64 DaysMs MonthDayNano
+    )
 }
 
 /// An element.

@@ -1,7 +1,6 @@
 //! Data types as text, as `list<struct<a:i8,b:utf8!>>`.
 
 use crate::fault::Fault;
-use crate::number::Integer;
 use crate::piece::Piece;
 use arrow_types::datatypes::{DataType, Field, IntegerType, IntervalUnit, TimeUnit, UnionMode};
 use std::alloc::Global;
@@ -20,7 +19,7 @@ pub fn read_type(alloc: Global, piece: Piece<'_>) -> Result<DataType, Fault> {
 
 /// The same in a box.
 pub(crate) fn boxed_type(alloc: Global, piece: Piece<'_>) -> Result<Box<DataType>, Fault> {
-    boxed_type_of(alloc, piece, DEEPEST)
+    Ok(Box::new(alloc, read_type(alloc, piece)?)?)
 }
 
 /// What stands beside a word in a table.
@@ -59,8 +58,8 @@ fn flat_type(word: &str) -> Option<DataType> {
     }
 }
 
-/// The word that says a type alone; none of a type that has parts.
-fn flat_word(data_type: &DataType) -> &'static str {
+/// The word of a type, with the bracket behind it where it has parts.
+fn word(data_type: &DataType) -> &'static str {
     match data_type {
         DataType::Null => "null",
         DataType::Boolean => "bool",
@@ -81,7 +80,25 @@ fn flat_word(data_type: &DataType) -> &'static str {
         DataType::LargeUtf8 => "large_utf8",
         DataType::Binary => "binary",
         DataType::LargeBinary => "large_binary",
-        _ => "",
+        DataType::Struct(_) => "struct<",
+        DataType::Union(_, _, UnionMode::Sparse) => "union_sparse<",
+        DataType::Union(_, _, UnionMode::Dense) => "union_dense<",
+        DataType::List(_) => "list<",
+        DataType::LargeList(_) => "large_list<",
+        DataType::Map(_, false) => "map<",
+        DataType::Map(_, true) => "sorted_map<",
+        DataType::FixedSizeList(_, _) => "fsl<",
+        DataType::Dictionary(_, _, false) => "dict<",
+        DataType::Dictionary(_, _, true) => "ordered_dict<",
+        DataType::Extension(_, _, _) => "ext<",
+        DataType::Time32(_) => "time32<",
+        DataType::Time64(_) => "time64<",
+        DataType::Duration(_) => "duration<",
+        DataType::Timestamp(_, _) => "timestamp<",
+        DataType::Interval(_) => "interval<",
+        DataType::FixedSizeBinary(_) => "fsb<",
+        DataType::Decimal(_, _) => "decimal<",
+        DataType::Decimal256(_, _) => "decimal256<",
     }
 }
 
@@ -117,22 +134,39 @@ const INTERVALS: [(&str, IntervalUnit); 3] = [
 enum Form {
     Struct,
     Union(UnionMode),
+    List(Lists),
+    FixedSizeList,
+    Dictionary(bool),
+    Extension,
+    Time(Times),
+    Interval,
+    FixedSizeBinary,
+    Decimal(Bits),
+}
+
+/// The types of lists of any number of items.
+#[derive(Clone, Copy)]
+enum Lists {
     List,
     LargeList,
     Map,
     SortedMap,
-    FixedSizeList,
-    Dictionary,
-    OrderedDictionary,
-    Extension,
+}
+
+/// The types that have a unit of time.
+#[derive(Clone, Copy)]
+enum Times {
     Time32,
     Time64,
     Duration,
     Timestamp,
-    Interval,
-    FixedSizeBinary,
-    Decimal,
-    Decimal256,
+}
+
+/// How many bits a decimal has.
+#[derive(Clone, Copy)]
+enum Bits {
+    Of128,
+    Of256,
 }
 
 /// The forms by their words.
@@ -140,22 +174,22 @@ const FORMS: [(&str, Form); 19] = [
     ("struct", Form::Struct),
     ("union_sparse", Form::Union(UnionMode::Sparse)),
     ("union_dense", Form::Union(UnionMode::Dense)),
-    ("list", Form::List),
-    ("large_list", Form::LargeList),
-    ("map", Form::Map),
-    ("sorted_map", Form::SortedMap),
+    ("list", Form::List(Lists::List)),
+    ("large_list", Form::List(Lists::LargeList)),
+    ("map", Form::List(Lists::Map)),
+    ("sorted_map", Form::List(Lists::SortedMap)),
     ("fsl", Form::FixedSizeList),
-    ("dict", Form::Dictionary),
-    ("ordered_dict", Form::OrderedDictionary),
+    ("dict", Form::Dictionary(false)),
+    ("ordered_dict", Form::Dictionary(true)),
     ("ext", Form::Extension),
-    ("time32", Form::Time32),
-    ("time64", Form::Time64),
-    ("duration", Form::Duration),
-    ("timestamp", Form::Timestamp),
+    ("time32", Form::Time(Times::Time32)),
+    ("time64", Form::Time(Times::Time64)),
+    ("duration", Form::Time(Times::Duration)),
+    ("timestamp", Form::Time(Times::Timestamp)),
     ("interval", Form::Interval),
     ("fsb", Form::FixedSizeBinary),
-    ("decimal", Form::Decimal),
-    ("decimal256", Form::Decimal256),
+    ("decimal", Form::Decimal(Bits::Of128)),
+    ("decimal256", Form::Decimal(Bits::Of256)),
 ];
 
 /// The type that a text says, nested at most so deep.
@@ -165,7 +199,10 @@ fn type_of(alloc: Global, piece: Piece<'_>, depth: usize) -> Result<DataType, Fa
         return Err(piece.fault());
     }
     match piece.headed('<', ">") {
-        Some((word, inner)) => type_of_parts(alloc, word, inner, depth - 1),
+        Some((word, inner)) => {
+            let parts = inner.items(alloc, ',')?;
+            type_of_parts(alloc, word, &parts, depth - 1)
+        }
         None => flat_type(piece.text()).ok_or(piece.fault()),
     }
 }
@@ -175,36 +212,17 @@ fn type_of(alloc: Global, piece: Piece<'_>, depth: usize) -> Result<DataType, Fa
 fn type_of_parts(
     alloc: Global,
     word: Piece<'_>,
-    inner: Piece<'_>,
-    depth: usize,
-) -> Result<DataType, Fault> {
-    let parts = inner.items(alloc, ',')?;
-    match find(&FORMS, word.text()) {
-        Some(form) => formed(alloc, *form, word, &parts, depth),
-        None => Err(word.fault()),
-    }
-}
-
-/// The type that a form makes of parts.
-#[cycle(read_type)]
-fn formed(
-    alloc: Global,
-    form: Form,
-    word: Piece<'_>,
     parts: &[Piece<'_>],
     depth: usize,
 ) -> Result<DataType, Fault> {
+    let form = *find(&FORMS, word.text()).ok_or(word.fault())?;
     match (form, parts) {
-        (Form::Struct, parts) => fields_of(alloc, parts, depth).map(DataType::Struct),
+        (Form::Struct, parts) => struct_of(alloc, parts, depth),
         (Form::Union(mode), parts) => union_of(alloc, parts, mode, depth),
+        (Form::List(of), [item]) => list_of(alloc, of, *item, depth),
         (Form::FixedSizeList, [size, item]) => fixed_list_of(alloc, *size, *item, depth),
-        (Form::List, [item]) => boxed_field(alloc, *item, depth).map(DataType::List),
-        (Form::LargeList, [item]) => boxed_field(alloc, *item, depth).map(DataType::LargeList),
-        (Form::Map, [item]) => map_of(alloc, *item, false, depth),
-        (Form::SortedMap, [item]) => map_of(alloc, *item, true, depth),
-        (Form::Dictionary, [keys, values]) => { dictionary_of(alloc, *keys, *values, false, depth) }
-        (Form::OrderedDictionary, [keys, values]) => {
-            dictionary_of(alloc, *keys, *values, true, depth)
+        (Form::Dictionary(is_ordered), [keys, values]) => {
+            dictionary_of(alloc, *keys, *values, is_ordered, depth)
         }
         (Form::Extension, [name, inner]) => extension_of(alloc, *name, None, *inner, depth),
         (Form::Extension, [name, metadata, inner]) => {
@@ -212,18 +230,6 @@ fn formed(
         }
         (form, parts) => measured(alloc, form, word, parts),
     }
-}
-
-/// A type in a box.
-#[cycle(read_type)]
-fn boxed_type_of(alloc: Global, piece: Piece<'_>, depth: usize) -> Result<Box<DataType>, Fault> {
-    Ok(Box::new(alloc, type_of(alloc, piece, depth)?)?)
-}
-
-/// A field in a box.
-#[cycle(read_type)]
-fn boxed_field(alloc: Global, piece: Piece<'_>, depth: usize) -> Result<Box<Field>, Fault> {
-    Ok(Box::new(alloc, field_of(alloc, piece, depth)?)?)
 }
 
 /// A field: a type that may stand behind a name, and before an exclamation mark where no row is null.
@@ -253,17 +259,29 @@ fn name_and_type<'a>(alloc: Global, piece: Piece<'a>) -> Result<(&'a str, Piece<
     }
 }
 
-/// The fields that stand behind one another.
+/// The fields that stand behind one another, each of which may have its type id before it where it is one of a union.
 #[cycle(read_type)]
-fn fields_of(alloc: Global, parts: &[Piece<'_>], depth: usize) -> Result<Vec<Field>, Fault> {
+fn fields_of(
+    alloc: Global,
+    parts: &[Piece<'_>],
+    is_union: bool,
+    depth: usize,
+) -> Result<Vec<Field>, Fault> {
     let mut fields = Vec::new(alloc);
     for part in parts {
-        fields.push(field_of(alloc, *part, depth)?)?;
+        let part = if is_union { without_id(*part) } else { *part };
+        fields.push(field_of(alloc, part, depth)?)?;
     }
     Ok(fields)
 }
 
-/// A union of fields, each of which may have its type id before it.
+/// A struct of fields.
+#[cycle(read_type)]
+fn struct_of(alloc: Global, parts: &[Piece<'_>], depth: usize) -> Result<DataType, Fault> {
+    Ok(DataType::Struct(fields_of(alloc, parts, false, depth)?))
+}
+
+/// A union of fields.
 #[cycle(read_type)]
 fn union_of(
     alloc: Global,
@@ -271,12 +289,8 @@ fn union_of(
     mode: UnionMode,
     depth: usize,
 ) -> Result<DataType, Fault> {
-    let mut fields = Vec::new(alloc);
-    for part in parts {
-        fields.push(field_of(alloc, without_id(*part), depth)?)?;
-    }
-    let ids = ids_of(alloc, parts)?;
-    Ok(DataType::Union(fields, ids, mode))
+    let fields = fields_of(alloc, parts, true, depth)?;
+    Ok(DataType::Union(fields, ids_of(alloc, parts)?, mode))
 }
 
 /// The type ids that stand before fields, if some do.
@@ -307,6 +321,18 @@ fn without_id(piece: Piece<'_>) -> Piece<'_> {
     }
 }
 
+/// Lists of any number of items.
+#[cycle(read_type)]
+fn list_of(alloc: Global, of: Lists, item: Piece<'_>, depth: usize) -> Result<DataType, Fault> {
+    let item = Box::new(alloc, field_of(alloc, item, depth)?)?;
+    Ok(match of {
+        Lists::List => DataType::List(item),
+        Lists::LargeList => DataType::LargeList(item),
+        Lists::Map => DataType::Map(item, false),
+        Lists::SortedMap => DataType::Map(item, true),
+    })
+}
+
 /// Lists of so many items each.
 #[cycle(read_type)]
 fn fixed_list_of(
@@ -316,18 +342,8 @@ fn fixed_list_of(
     depth: usize,
 ) -> Result<DataType, Fault> {
     let size = size.integer()?;
-    Ok(DataType::FixedSizeList(boxed_field(alloc, item, depth)?, size))
-}
-
-/// Maps of entries.
-#[cycle(read_type)]
-fn map_of(
-    alloc: Global,
-    entries: Piece<'_>,
-    is_sorted: bool,
-    depth: usize,
-) -> Result<DataType, Fault> {
-    Ok(DataType::Map(boxed_field(alloc, entries, depth)?, is_sorted))
+    let item = Box::new(alloc, field_of(alloc, item, depth)?)?;
+    Ok(DataType::FixedSizeList(item, size))
 }
 
 /// A dictionary: the type of its keys and that of its values.
@@ -340,7 +356,8 @@ fn dictionary_of(
     depth: usize,
 ) -> Result<DataType, Fault> {
     let keys = *find(&KEYS, keys.text()).ok_or(keys.fault())?;
-    Ok(DataType::Dictionary(keys, boxed_type_of(alloc, values, depth)?, is_ordered))
+    let values = Box::new(alloc, type_of(alloc, values, depth)?)?;
+    Ok(DataType::Dictionary(keys, values, is_ordered))
 }
 
 /// A type by a name of its own, with metadata or none.
@@ -352,9 +369,10 @@ fn extension_of(
     inner: Piece<'_>,
     depth: usize,
 ) -> Result<DataType, Fault> {
+    let inner = Box::new(alloc, type_of(alloc, inner, depth)?)?;
     let metadata = optional_text(alloc, metadata)?;
     let name = String::from_str(alloc, name.text())?;
-    Ok(DataType::Extension(name, boxed_type_of(alloc, inner, depth)?, metadata))
+    Ok(DataType::Extension(name, inner, metadata))
 }
 
 /// The characters of a text, if there is one.
@@ -373,17 +391,31 @@ fn measured(
     parts: &[Piece<'_>],
 ) -> Result<DataType, Fault> {
     match (form, parts) {
-        (Form::Time32, [unit]) => unit_of(*unit).map(DataType::Time32),
-        (Form::Time64, [unit]) => unit_of(*unit).map(DataType::Time64),
-        (Form::Duration, [unit]) => unit_of(*unit).map(DataType::Duration),
+        (Form::Time(of), [unit]) => time_of(of, *unit),
+        (Form::Time(Times::Timestamp), [unit, zone]) => zoned(alloc, *unit, *zone),
         (Form::Interval, [unit]) => interval_of(*unit),
-        (Form::FixedSizeBinary, [size]) => size.integer().map(DataType::FixedSizeBinary),
-        (Form::Timestamp, [unit]) => timestamp_of(alloc, *unit, None),
-        (Form::Timestamp, [unit, zone]) => timestamp_of(alloc, *unit, Some(*zone)),
-        (Form::Decimal, [precision, scale]) => decimal_of(*precision, *scale),
-        (Form::Decimal256, [precision, scale]) => decimal256_of(*precision, *scale),
+        (Form::FixedSizeBinary, [size]) => bytes_of(*size),
+        (Form::Decimal(bits), [precision, scale]) => decimal_of(bits, *precision, *scale),
         _ => Err(word.fault()),
     }
+}
+
+/// A type of a unit of time, in no time zone.
+fn time_of(of: Times, unit: Piece<'_>) -> Result<DataType, Fault> {
+    let unit = unit_of(unit)?;
+    Ok(match of {
+        Times::Time32 => DataType::Time32(unit),
+        Times::Time64 => DataType::Time64(unit),
+        Times::Duration => DataType::Duration(unit),
+        Times::Timestamp => DataType::Timestamp(unit, None),
+    })
+}
+
+/// Points in time, in a time zone.
+fn zoned(alloc: Global, unit: Piece<'_>, zone: Piece<'_>) -> Result<DataType, Fault> {
+    let unit = unit_of(unit)?;
+    let zone = String::from_str(alloc, zone.text())?;
+    Ok(DataType::Timestamp(unit, Some(zone)))
 }
 
 /// What an interval counts.
@@ -394,24 +426,19 @@ fn interval_of(unit: Piece<'_>) -> Result<DataType, Fault> {
     }
 }
 
-/// Points in time, in a time zone or in none.
-fn timestamp_of(
-    alloc: Global,
-    unit: Piece<'_>,
-    zone: Option<Piece<'_>>,
-) -> Result<DataType, Fault> {
-    let unit = unit_of(unit)?;
-    Ok(DataType::Timestamp(unit, optional_text(alloc, zone)?))
+/// Bytes of a fixed size.
+fn bytes_of(size: Piece<'_>) -> Result<DataType, Fault> {
+    Ok(DataType::FixedSizeBinary(size.integer()?))
 }
 
-/// Decimals of 128 bits.
-fn decimal_of(precision: Piece<'_>, scale: Piece<'_>) -> Result<DataType, Fault> {
-    Ok(DataType::Decimal(precision.integer()?, scale.integer()?))
-}
-
-/// Decimals of 256 bits.
-fn decimal256_of(precision: Piece<'_>, scale: Piece<'_>) -> Result<DataType, Fault> {
-    Ok(DataType::Decimal256(precision.integer()?, scale.integer()?))
+/// Decimals of so many bits.
+fn decimal_of(bits: Bits, precision: Piece<'_>, scale: Piece<'_>) -> Result<DataType, Fault> {
+    let precision = precision.integer()?;
+    let scale = scale.integer()?;
+    Ok(match bits {
+        Bits::Of128 => DataType::Decimal(precision, scale),
+        Bits::Of256 => DataType::Decimal256(precision, scale),
+    })
 }
 
 /// A unit of time.
@@ -425,7 +452,7 @@ pub fn write_type(out: &mut String, data_type: &DataType) -> Result<(), Fault> {
 }
 
 /// The word of a value in a table.
-fn word_of<T: PartialEq>(table: &[(&'static str, T)], value: &T) -> &'static str {
+pub(crate) fn word_of<T: PartialEq>(table: &[(&'static str, T)], value: &T) -> &'static str {
     for (word, other) in table {
         if other == value {
             return word;
@@ -434,77 +461,65 @@ fn word_of<T: PartialEq>(table: &[(&'static str, T)], value: &T) -> &'static str
     ""
 }
 
-/// Appends a data type that nests at most so deep.
+/// Appends a data type that nests at most so deep: what it says before its children, these, and a bracket.
 #[cycle(push_type)]
 fn push_type(out: &mut String, data_type: &DataType, depth: usize) -> Result<(), Fault> {
     if depth == 0 {
         return Err(Fault::Usage);
     }
+    push_head(out, data_type)?;
     match data_type {
-        DataType::List(item) => push_list(out, "list<", item, depth - 1),
-        DataType::LargeList(item) => push_list(out, "large_list<", item, depth - 1),
-        DataType::Map(item, false) => push_list(out, "map<", item, depth - 1),
-        DataType::Map(item, true) => push_list(out, "sorted_map<", item, depth - 1),
-        DataType::FixedSizeList(item, size) => push_fixed_list(out, *size, item, depth - 1),
-        DataType::Struct(fields) => push_fields(out, "struct<", fields, &None, depth - 1),
-        DataType::Union(fields, ids, UnionMode::Sparse) => {
-            push_fields(out, "union_sparse<", fields, ids, depth - 1)
+        DataType::List(item)
+        | DataType::LargeList(item)
+        | DataType::Map(item, _)
+        | DataType::FixedSizeList(item, _) => push_field(out, item, ">", depth - 1),
+        DataType::Struct(fields) => push_fields(out, fields, &None, depth - 1),
+        DataType::Union(fields, ids, _) => push_fields(out, fields, ids, depth - 1),
+        DataType::Dictionary(_, inner, _) | DataType::Extension(_, inner, _) => {
+            push_type(out, inner, depth - 1)?;
+            push_text(out, ">")
         }
-        DataType::Union(fields, ids, UnionMode::Dense) => {
-            push_fields(out, "union_dense<", fields, ids, depth - 1)
-        }
-        DataType::Dictionary(keys, values, is_ordered) => {
-            push_dictionary(out, *keys, values, *is_ordered, depth - 1)
-        }
-        DataType::Extension(name, inner, metadata) => {
-            push_extension(out, name, inner, metadata, depth - 1)
-        }
-        data_type => push_flat(out, data_type),
+        _ => Ok(()),
     }
 }
 
-/// Appends a text.
-fn push_text(out: &mut String, text: &str) -> Result<(), Fault> {
-    Ok(out.push_str(text)?)
-}
-
-/// Appends a value and what stands behind it.
-fn push_before<T: Display + Drop>(out: &mut String, value: T, text: &str) -> Result<(), Fault> {
-    Ok(write!(out, "{value}{text}")?)
-}
-
-/// Appends a word and an item, and closes the bracket.
+/// Appends a field, and what stands behind it.
 #[cycle(push_type)]
-fn push_list(out: &mut String, word: &str, item: &Field, depth: usize) -> Result<(), Fault> {
-    push_text(out, word)?;
-    push_field(out, item, depth)?;
-    push_text(out, ">")
+fn push_field(out: &mut String, field: &Field, end: &str, depth: usize) -> Result<(), Fault> {
+    push_name(out, field.name())?;
+    push_type(out, field.data_type(), depth)?;
+    push_text(out, if field.is_nullable() { "" } else { "!" })?;
+    push_text(out, end)
 }
 
-/// Appends a list of so many items each.
-#[cycle(push_type)]
-fn push_fixed_list(out: &mut String, size: usize, item: &Field, depth: usize) -> Result<(), Fault> {
-    push_text(out, "fsl<")?;
-    push_before(out, size, ",")?;
-    push_list(out, "", item, depth)
-}
-
-/// Appends a word and fields, with their type ids where there are some, and closes the bracket.
+/// Appends fields, with their type ids where there are some, and closes the bracket.
 #[cycle(push_type)]
 fn push_fields(
     out: &mut String,
-    word: &str,
     fields: &[Field],
     ids: &Option<Vec<i32>>,
     depth: usize,
 ) -> Result<(), Fault> {
-    push_text(out, word)?;
     for (place, field) in fields.iter().enumerate() {
         push_text(out, if place > 0 { "," } else { "" })?;
         push_id(out, ids, place)?;
-        push_field(out, field, depth)?;
+        push_field(out, field, "", depth)?;
     }
     push_text(out, ">")
+}
+
+/// Appends a text.
+pub(crate) fn push_text(out: &mut String, text: &str) -> Result<(), Fault> {
+    Ok(out.push_str(text)?)
+}
+
+/// Appends a value and what stands behind it.
+pub(crate) fn push_before<T: Display + Drop>(
+    out: &mut String,
+    value: T,
+    text: &str,
+) -> Result<(), Fault> {
+    Ok(write!(out, "{value}{text}")?)
 }
 
 /// Appends the type id of a field, where there are some.
@@ -515,53 +530,6 @@ fn push_id(out: &mut String, ids: &Option<Vec<i32>>, place: usize) -> Result<(),
     }
 }
 
-/// Appends a dictionary.
-#[cycle(push_type)]
-fn push_dictionary(
-    out: &mut String,
-    keys: IntegerType,
-    values: &DataType,
-    is_ordered: bool,
-    depth: usize,
-) -> Result<(), Fault> {
-    push_text(out, if is_ordered { "ordered_dict<" } else { "dict<" })?;
-    push_before(out, word_of(&KEYS, &keys), ",")?;
-    push_type(out, values, depth)?;
-    push_text(out, ">")
-}
-
-/// Appends an extension.
-#[cycle(push_type)]
-fn push_extension(
-    out: &mut String,
-    name: &str,
-    inner: &DataType,
-    metadata: &Option<String>,
-    depth: usize,
-) -> Result<(), Fault> {
-    push_text(out, "ext<")?;
-    push_before(out, name, ",")?;
-    push_metadata(out, metadata)?;
-    push_type(out, inner, depth)?;
-    push_text(out, ">")
-}
-
-/// Appends an extension's metadata, where it has some.
-fn push_metadata(out: &mut String, metadata: &Option<String>) -> Result<(), Fault> {
-    match metadata {
-        Some(metadata) => push_before(out, metadata.as_str(), ","),
-        None => Ok(()),
-    }
-}
-
-/// Appends a field.
-#[cycle(push_type)]
-fn push_field(out: &mut String, field: &Field, depth: usize) -> Result<(), Fault> {
-    push_name(out, field.name())?;
-    push_type(out, field.data_type(), depth)?;
-    push_text(out, if field.is_nullable() { "" } else { "!" })
-}
-
 /// Appends a field's name, unless it is that of a field without one.
 fn push_name(out: &mut String, name: &str) -> Result<(), Fault> {
     if name == ITEM {
@@ -570,41 +538,48 @@ fn push_name(out: &mut String, name: &str) -> Result<(), Fault> {
     push_before(out, name, ":")
 }
 
-/// Appends a data type without fields.
-fn push_flat(out: &mut String, data_type: &DataType) -> Result<(), Fault> {
+/// Appends a word, and the parts of a data type that are none themselves.
+fn push_head(out: &mut String, data_type: &DataType) -> Result<(), Fault> {
+    push_text(out, word(data_type))?;
     match data_type {
         DataType::Timestamp(unit, zone) => push_timestamp(out, *unit, zone),
-        DataType::Time32(unit) => push_one(out, "time32", word_of(&UNITS, unit)),
-        DataType::Time64(unit) => push_one(out, "time64", word_of(&UNITS, unit)),
-        DataType::Duration(unit) => push_one(out, "duration", word_of(&UNITS, unit)),
-        DataType::Interval(unit) => push_one(out, "interval", word_of(&INTERVALS, unit)),
-        DataType::FixedSizeBinary(size) => push_one(out, "fsb", *size),
-        DataType::Decimal(precision, scale) => push_two(out, "decimal", *precision, *scale),
-        DataType::Decimal256(precision, scale) => push_two(out, "decimal256", *precision, *scale),
-        data_type => push_text(out, flat_word(data_type)),
+        DataType::Time32(unit) | DataType::Time64(unit) | DataType::Duration(unit) => {
+            push_before(out, word_of(&UNITS, unit), ">")
+        }
+        DataType::Interval(unit) => push_before(out, word_of(&INTERVALS, unit), ">"),
+        DataType::FixedSizeBinary(size) => push_before(out, *size, ">"),
+        DataType::FixedSizeList(_, size) => push_before(out, *size, ","),
+        DataType::Decimal(precision, scale) => push_both(out, *precision, *scale),
+        DataType::Decimal256(precision, scale) => push_both(out, *precision, *scale),
+        DataType::Dictionary(keys, _, _) => push_before(out, word_of(&KEYS, keys), ","),
+        DataType::Extension(name, _, metadata) => push_named(out, name, metadata),
+        _ => Ok(()),
     }
 }
 
-/// Appends a word, and a part of it in brackets.
-fn push_one<T: Display + Drop>(out: &mut String, word: &str, part: T) -> Result<(), Fault> {
-    Ok(write!(out, "{word}<{part}>")?)
+/// Appends two sizes.
+fn push_both(out: &mut String, precision: usize, scale: usize) -> Result<(), Fault> {
+    push_before(out, precision, ",")?;
+    push_before(out, scale, ">")
 }
 
-/// Appends a word, and two parts of it in brackets.
-fn push_two<S: Display + Drop, T: Display + Drop>(
-    out: &mut String,
-    word: &str,
-    first: S,
-    second: T,
-) -> Result<(), Fault> {
-    Ok(write!(out, "{word}<{first},{second}>")?)
-}
-
-/// Appends points in time, in a time zone or in none.
+/// Appends the unit of points in time, and their time zone where they have one.
 fn push_timestamp(out: &mut String, unit: TimeUnit, zone: &Option<String>) -> Result<(), Fault> {
     let unit = word_of(&UNITS, &unit);
     match zone {
-        Some(zone) => push_two(out, "timestamp", unit, zone.as_str()),
-        None => push_one(out, "timestamp", unit),
+        Some(zone) => {
+            push_before(out, unit, ",")?;
+            push_before(out, zone.as_str(), ">")
+        }
+        None => push_before(out, unit, ">"),
+    }
+}
+
+/// Appends the name of an extension, and its metadata where it has some.
+fn push_named(out: &mut String, name: &str, metadata: &Option<String>) -> Result<(), Fault> {
+    push_before(out, name, ",")?;
+    match metadata {
+        Some(metadata) => push_before(out, metadata.as_str(), ","),
+        None => Ok(()),
     }
 }

@@ -2,10 +2,8 @@
 
 use crate::fault::Fault;
 use crate::number::Element;
-use crate::types::{DEEPEST, write_type};
-use arrow_arrays::array::{
-    AnyArray, DictionaryArray, FixedSizeListArray, ListArray, MapArray, StructArray, UnionArray,
-};
+use crate::types::{DEEPEST, push_before, push_text, write_type};
+use arrow_arrays::array::{AnyArray, DictionaryArray, StructArray, UnionArray};
 use arrow_flat::array::{AnyPrimitive, BooleanArray, PrimitiveArray};
 use arrow_flat::scalar::{AnyPrimitiveScalar, AnyScalar, PrimitiveScalar};
 use arrow_memory::bitmap::Bitmap;
@@ -19,17 +17,17 @@ pub fn show<T: Display + Drop>(out: &mut String, value: T) -> Result<(), Fault> 
 
 /// Appends the array that a call made, unless it was refused.
 pub fn write_made(out: &mut String, outcome: Result<AnyArray, Error>) -> Result<(), Fault> {
-    match outcome {
-        Ok(array) => write_array(out, &array),
-        Err(error) => Err(Fault::Refused(error)),
+    match &outcome {
+        Ok(array) => write_array(out, array),
+        Err(error) => Err(Fault::Refused(*error)),
     }
 }
 
 /// Appends the array that a call made, or the name of its refusal.
 pub fn write_made_or_name(out: &mut String, outcome: Result<AnyArray, Error>) -> Result<(), Fault> {
-    match outcome {
-        Ok(array) => write_array(out, &array),
-        Err(error) => write_name(out, error),
+    match &outcome {
+        Ok(array) => write_array(out, array),
+        Err(error) => write_name(out, *error),
     }
 }
 
@@ -40,10 +38,7 @@ pub fn write_name(out: &mut String, error: Error) -> Result<(), Fault> {
 
 /// Appends the truth values that a call made, unless it was refused.
 pub fn write_truths(out: &mut String, outcome: Result<BooleanArray, Error>) -> Result<(), Fault> {
-    match outcome {
-        Ok(array) => write_array(out, &AnyArray::Boolean(array)),
-        Err(error) => Err(Fault::Refused(error)),
-    }
+    write_made(out, outcome.map(AnyArray::Boolean))
 }
 
 /// Appends an array's type and rows.
@@ -63,29 +58,67 @@ fn write_items(
     let (start, end) = span;
     out.push('[')?;
     for i in start..end {
-        if i > start {
-            out.push(',')?;
-        }
-        write_row(out, array, i, depth)?;
+        push_text(out, if i > start { "," } else { "" })?;
+        write_row(out, array, i, 0, depth)?;
     }
     Ok(out.push(']')?)
 }
 
-/// Appends row `i`.
+/// Appends row `i`, which so many keys of dictionaries name.
 #[cycle(written)]
-fn write_row(out: &mut String, array: &AnyArray, i: usize, depth: usize) -> Result<(), Fault> {
+fn write_row(
+    out: &mut String,
+    array: &AnyArray,
+    i: usize,
+    keys: usize,
+    depth: usize,
+) -> Result<(), Fault> {
     if depth == 0 || i >= array.len() {
         return Err(Fault::Usage);
     }
     match array {
         AnyArray::Union(array) => write_variant(out, array, i, depth - 1),
-        array if !array.is_valid(i) => Ok(out.push('_')?),
-        AnyArray::List(array) => write_list(out, array, i, depth - 1),
-        AnyArray::Map(array) => write_map(out, array, i, depth - 1),
-        AnyArray::FixedSizeList(array) => write_fixed_list(out, array, i, depth - 1),
+        array if !array.is_valid(i) => write_null(out, keys),
         AnyArray::Struct(array) => write_struct(out, array, i, depth - 1),
-        AnyArray::Dictionary(array) => write_entry(out, array, i, depth - 1),
-        array => write_flat(out, array, i),
+        AnyArray::Dictionary(array) => match key_of(array, i) {
+            Some(key) => write_row(out, array.values(), key, keys.saturating_add(1), depth - 1),
+            None => Err(Fault::Usage),
+        },
+        array => match items_of(array, i) {
+            Some((items, span)) => write_items(out, items, span, depth - 1),
+            None => write_flat(out, array, i),
+        },
+    }
+}
+
+/// Appends a null, and an ampersand for each key that names it.
+fn write_null(out: &mut String, keys: usize) -> Result<(), Fault> {
+    for _ in 0..keys {
+        out.push('&')?;
+    }
+    Ok(out.push('_')?)
+}
+
+/// The key of a row of a dictionary, if there is one.
+fn key_of(array: &DictionaryArray, i: usize) -> Option<usize> {
+    let keys = array.keys();
+    if i < keys.len() { keys.key(i) } else { None }
+}
+
+/// The items of a row of a list or a map, and where they lie among those of all rows.
+fn items_of(array: &AnyArray, i: usize) -> Option<(&AnyArray, (usize, usize))> {
+    match array {
+        AnyArray::List(array) if i < array.len() => {
+            Some((array.values(), array.offsets().start_end(i)))
+        }
+        AnyArray::Map(array) if i < array.len() => {
+            Some((array.field(), array.offsets().start_end(i)))
+        }
+        AnyArray::FixedSizeList(array) => {
+            let start = i.saturating_mul(array.size());
+            Some((array.values(), (start, start.saturating_add(array.size()))))
+        }
+        _ => None,
     }
 }
 
@@ -169,42 +202,6 @@ pub fn write_bytes(out: &mut String, bytes: &[u8]) -> Result<(), Fault> {
     Ok(())
 }
 
-/// Appends the items of a list.
-#[cycle(written)]
-fn write_list(out: &mut String, array: &ListArray, i: usize, depth: usize) -> Result<(), Fault> {
-    if i >= array.len() {
-        return Err(Fault::Usage);
-    }
-    write_items(out, array.values(), array.offsets().start_end(i), depth)
-}
-
-/// Appends the entries of a map.
-#[cycle(written)]
-fn write_map(out: &mut String, array: &MapArray, i: usize, depth: usize) -> Result<(), Fault> {
-    if i >= array.len() {
-        return Err(Fault::Usage);
-    }
-    write_items(out, array.field(), array.offsets().start_end(i), depth)
-}
-
-/// Appends the items of a list of a fixed size.
-#[cycle(written)]
-fn write_fixed_list(
-    out: &mut String,
-    array: &FixedSizeListArray,
-    i: usize,
-    depth: usize,
-) -> Result<(), Fault> {
-    let size = array.size();
-    let start = i.saturating_mul(size);
-    write_items(
-        out,
-        array.values(),
-        (start, start.saturating_add(size)),
-        depth,
-    )
-}
-
 /// Appends the row of each field of a struct.
 #[cycle(written)]
 fn write_struct(
@@ -215,10 +212,8 @@ fn write_struct(
 ) -> Result<(), Fault> {
     out.push('(')?;
     for (place, child) in array.values().iter().enumerate() {
-        if place > 0 {
-            out.push(',')?;
-        }
-        write_row(out, child, i, depth)?;
+        push_text(out, if place > 0 { "," } else { "" })?;
+        write_row(out, child, i, 0, depth)?;
     }
     Ok(out.push(')')?)
 }
@@ -236,49 +231,10 @@ fn write_variant(
     }
     let (field, place) = array.index(i);
     let id = array.types().as_slice().get(i).copied().unwrap_or(-1);
-    write!(out, "{id}:")?;
+    push_before(out, id, ":")?;
     match array.fields().get(field) {
-        Some(child) => write_row(out, child, place, depth),
+        Some(child) => write_row(out, child, place, 0, depth),
         None => Err(Fault::Usage),
-    }
-}
-
-/// Appends the value that a key names. An ampersand stands before a value that would read as a null.
-#[cycle(written)]
-fn write_entry(
-    out: &mut String,
-    array: &DictionaryArray,
-    i: usize,
-    depth: usize,
-) -> Result<(), Fault> {
-    let keys = array.keys();
-    let key = if i < keys.len() { keys.key(i) } else { None };
-    let Some(key) = key else {
-        return Err(Fault::Usage);
-    };
-    let values = array.values();
-    if reads_as_null(values, key, depth) {
-        out.push('&')?;
-    }
-    write_row(out, values, key, depth)
-}
-
-/// Whether the text of a row begins as that of a null or of a key that names one.
-fn reads_as_null(values: &AnyArray, i: usize, depth: usize) -> bool {
-    if depth == 0 || i >= values.len() {
-        return false;
-    }
-    match values {
-        AnyArray::Union(_) => false,
-        AnyArray::Dictionary(array) => {
-            let keys = array.keys();
-            let key = if i < keys.len() { keys.key(i) } else { None };
-            match key {
-                Some(key) => reads_as_null(array.values(), key, depth - 1),
-                None => true,
-            }
-        }
-        values => !values.is_valid(i),
     }
 }
 
@@ -303,70 +259,49 @@ pub fn write_validity(out: &mut String, validity: Option<&Bitmap>) -> Result<(),
 pub fn write_scalar(out: &mut String, scalar: &AnyScalar) -> Result<(), Fault> {
     write_type(out, scalar.data_type())?;
     out.push('(')?;
-    write_value(out, scalar, DEEPEST)?;
+    write_value(out, scalar, 0, DEEPEST)?;
     Ok(out.push(')')?)
 }
 
-/// Appends the row of a scalar.
-fn write_value(out: &mut String, scalar: &AnyScalar, depth: usize) -> Result<(), Fault> {
+/// Appends the row of a scalar, which so many keys of dictionaries name.
+fn write_value(
+    out: &mut String,
+    scalar: &AnyScalar,
+    keys: usize,
+    depth: usize,
+) -> Result<(), Fault> {
     if depth == 0 {
         return Err(Fault::Usage);
     }
     match scalar {
-        AnyScalar::Boolean(scalar) => match scalar.value() {
-            Some(truth) => write_truth(out, truth),
-            None => Ok(out.push('_')?),
+        scalar if !scalar.is_valid() => write_null(out, keys),
+        AnyScalar::Dictionary(scalar) => match scalar.value() {
+            Some(value) => write_value(out, value, keys.saturating_add(1), depth - 1),
+            None => Err(Fault::Usage),
         },
+        scalar => write_flat_value(out, scalar),
+    }
+}
+
+/// Appends the row of a scalar that has no other one inside, which is not null.
+fn write_flat_value(out: &mut String, scalar: &AnyScalar) -> Result<(), Fault> {
+    match scalar {
+        AnyScalar::Boolean(scalar) => write_truth(out, scalar.value() == Some(true)),
         AnyScalar::Primitive(scalar) => {
             of_any!(AnyPrimitiveScalar, scalar, scalar => write_element(out, scalar))
         }
-        AnyScalar::Utf8(scalar) => write_optional_text(out, scalar.value()),
-        AnyScalar::LargeUtf8(scalar) => write_optional_text(out, scalar.value()),
-        AnyScalar::Binary(scalar) => write_optional_bytes(out, scalar.value()),
-        AnyScalar::LargeBinary(scalar) => write_optional_bytes(out, scalar.value()),
-        AnyScalar::Dictionary(scalar) => match scalar.value() {
-            Some(value) => {
-                if is_null_inside(value, depth - 1) {
-                    out.push('&')?;
-                }
-                write_value(out, value, depth - 1)
-            }
-            None => Ok(out.push('_')?),
-        },
+        AnyScalar::Utf8(scalar) => write_text(out, scalar.value().unwrap_or("")),
+        AnyScalar::LargeUtf8(scalar) => write_text(out, scalar.value().unwrap_or("")),
+        AnyScalar::Binary(scalar) => write_bytes(out, scalar.value().unwrap_or(&[])),
+        AnyScalar::LargeBinary(scalar) => write_bytes(out, scalar.value().unwrap_or(&[])),
+        AnyScalar::Dictionary(_) => Err(Fault::Usage),
     }
 }
 
-/// Whether a scalar is null, or a dictionary's whose value is so.
-fn is_null_inside(scalar: &AnyScalar, depth: usize) -> bool {
-    match scalar {
-        AnyScalar::Dictionary(scalar) if depth > 0 => match scalar.value() {
-            Some(value) => is_null_inside(value, depth - 1),
-            None => true,
-        },
-        scalar => !scalar.is_valid(),
-    }
-}
-
-/// Appends an element, or an underscore.
+/// Appends an element.
 fn write_element<T: Element>(out: &mut String, scalar: &PrimitiveScalar<T>) -> Result<(), Fault> {
     match scalar.value() {
         Some(value) => value.write(out),
-        None => Ok(out.push('_')?),
-    }
-}
-
-/// Appends a text, or an underscore.
-fn write_optional_text(out: &mut String, text: Option<&str>) -> Result<(), Fault> {
-    match text {
-        Some(text) => write_text(out, text),
-        None => Ok(out.push('_')?),
-    }
-}
-
-/// Appends bytes, or an underscore.
-fn write_optional_bytes(out: &mut String, bytes: Option<&[u8]>) -> Result<(), Fault> {
-    match bytes {
-        Some(bytes) => write_bytes(out, bytes),
-        None => Ok(out.push('_')?),
+        None => Err(Fault::Usage),
     }
 }

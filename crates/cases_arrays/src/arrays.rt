@@ -4,7 +4,7 @@ ghost use Rattle.std.specs.Prelude.{IfOk};
 ghost use Rattle.arrow_types.specs.Carried.{IsCarried};
 ghost use Rattle.arrow_types.specs.TypeOf.{type_of};
 
-use crate::parts;
+use crate::parts::{self, OfPart};
 use crate::within::check_within;
 use arrow_arrays::array::{AnyArray, new_empty_array, new_null_array};
 use arrow_text::call::Call;
@@ -18,16 +18,12 @@ use std::alloc::Global;
 /// The methods of an array that take nothing else.
 #[derive(Clone, Copy)]
 pub(crate) enum OfArray {
-    BytesSize,
     Clone,
     DataType,
     IsEmpty,
-    Keys,
     Len,
-    ListSize,
     NullCount,
-    Offsets,
-    Start,
+    Part(OfPart),
     TryNew,
     Validity,
 }
@@ -46,16 +42,12 @@ pub(crate) fn of_array(
 /// The same of an array that is lent.
 fn write_of_array(method: OfArray, array: &AnyArray, out: &mut String) -> Result<(), Fault> {
     match method {
-        OfArray::BytesSize => parts::bytes_size(array, out),
         OfArray::Clone => write_made(out, cloned(array)),
         OfArray::DataType => write_type(out, array.data_type()),
         OfArray::IsEmpty => show(out, array.is_empty()),
-        OfArray::Keys => parts::keys(array, out),
         OfArray::Len => show(out, array.len()),
-        OfArray::ListSize => parts::list_size(array, out),
         OfArray::NullCount => show(out, array.null_count()),
-        OfArray::Offsets => parts::offsets(array, out),
-        OfArray::Start => parts::start(array, out),
+        OfArray::Part(part) => parts::size(part, array, out),
         OfArray::TryNew => write_array(out, array),
         OfArray::Validity => write_validity(out, array.validity()),
     }

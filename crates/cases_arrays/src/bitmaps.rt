@@ -71,6 +71,13 @@ pub(crate) fn new_zeroed(alloc: Global, call: &Call<'_>, out: &mut String) -> Re
     write_made_bits(out, Bitmap::new_zeroed(alloc, call.integer(0)?))
 }
 
+/// So many bits that are equal to a truth value.
+pub(crate) fn new_constant(alloc: Global, call: &Call<'_>, out: &mut String) -> Result<(), Fault> {
+    call.takes(2)?;
+    let value = call.argument(0)?.truth()?;
+    write_made_bits(out, Bitmap::new_constant(alloc, value, call.integer(1)?))
+}
+
 /// The methods of a bitmap that take a number too.
 #[derive(Clone, Copy)]
 pub(crate) enum OfBitmapAt {

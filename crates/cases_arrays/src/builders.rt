@@ -9,32 +9,22 @@ use arrow_text::bits::read_bits;
 use arrow_text::call::Call;
 use arrow_text::fault::Fault;
 use arrow_text::number::Integer;
-use arrow_text::piece::{Piece, Step};
+use arrow_text::piece::Piece;
 use arrow_text::types::find;
 use arrow_types::error::Error;
 use arrow_types::types::Offset;
 use std::alloc::Global;
 use std::fmt::Display;
 
-/// That a step has so many arguments.
-fn takes(step: &Step<'_>, count: usize) -> Result<(), Fault> {
-    if step.arguments.len() == count {
-        Ok(())
-    } else {
-        Err(Fault::Usage)
-    }
-}
-
 /// Arguments 1 and 2 of a step that has no more, where a part begins and how long it is.
-fn range(step: &Step<'_>) -> Result<(usize, usize), Fault> {
-    takes(step, 3)?;
-    let start = step.integer(1)?;
-    Ok((start, step.integer(2)?))
+fn range(step: &Call<'_>) -> Result<(usize, usize), Fault> {
+    step.takes(3)?;
+    step.range(1)
 }
 
 /// Appends a value and a space, if the step takes no argument.
-fn show_alone<T: Display + Drop>(out: &mut String, step: &Step<'_>, value: T) -> Result<(), Fault> {
-    takes(step, 0)?;
+fn show_alone<T: Display + Drop>(out: &mut String, step: &Call<'_>, value: T) -> Result<(), Fault> {
+    step.takes(0)?;
     Ok(write!(out, "{value} ")?)
 }
 
@@ -82,7 +72,7 @@ fn new_bits(alloc: Global, piece: Piece<'_>) -> Result<MutableBitmap, Fault> {
     let step = piece.step(alloc)?;
     match step.name {
         "new" => {
-            takes(&step, 0)?;
+            step.takes(0)?;
             Ok(MutableBitmap::new(alloc))
         }
         "with_capacity" => Ok(MutableBitmap::with_capacity(alloc, only(&step)?)?),
@@ -91,8 +81,8 @@ fn new_bits(alloc: Global, piece: Piece<'_>) -> Result<MutableBitmap, Fault> {
 }
 
 /// The only argument of a step, a number.
-fn only(step: &Step<'_>) -> Result<usize, Fault> {
-    takes(step, 1)?;
+fn only(step: &Call<'_>) -> Result<usize, Fault> {
+    step.takes(1)?;
     step.integer(0)
 }
 
@@ -128,7 +118,7 @@ fn take_bits_step(
     alloc: Global,
     kind: BitsStep,
     bits: &mut MutableBitmap,
-    step: &Step<'_>,
+    step: &Call<'_>,
     out: &mut String,
 ) -> Result<(), Fault> {
     match kind {
@@ -142,15 +132,15 @@ fn take_bits_step(
 }
 
 /// Appends a bit.
-fn push_bit(bits: &mut MutableBitmap, step: &Step<'_>, out: &mut String) -> Result<(), Fault> {
-    takes(step, 1)?;
+fn push_bit(bits: &mut MutableBitmap, step: &Call<'_>, out: &mut String) -> Result<(), Fault> {
+    step.takes(1)?;
     let bit = step.argument(0)?.truth()?;
     write_refusal(out, bits.push(bit))
 }
 
 /// Appends a bit so often.
-fn push_often(bits: &mut MutableBitmap, step: &Step<'_>, out: &mut String) -> Result<(), Fault> {
-    takes(step, 2)?;
+fn push_often(bits: &mut MutableBitmap, step: &Call<'_>, out: &mut String) -> Result<(), Fault> {
+    step.takes(2)?;
     let additional = step.integer(0)?;
     let bit = step.argument(1)?.truth()?;
     write_refusal(out, bits.extend_constant(additional, bit))
@@ -160,7 +150,7 @@ fn push_often(bits: &mut MutableBitmap, step: &Step<'_>, out: &mut String) -> Re
 fn extend_from_bitmap(
     alloc: Global,
     bits: &mut MutableBitmap,
-    step: &Step<'_>,
+    step: &Call<'_>,
     out: &mut String,
 ) -> Result<(), Fault> {
     let (start, len) = range(step)?;
@@ -170,8 +160,8 @@ fn extend_from_bitmap(
 }
 
 /// Appends the lowest bits of a word.
-fn push_word(bits: &mut MutableBitmap, step: &Step<'_>, out: &mut String) -> Result<(), Fault> {
-    takes(step, 2)?;
+fn push_word(bits: &mut MutableBitmap, step: &Call<'_>, out: &mut String) -> Result<(), Fault> {
+    step.takes(2)?;
     let word = step.integer(0)?;
     let len = step.integer(1)?;
     check_within(len, 0, 64)?;
@@ -256,7 +246,7 @@ fn take_offsets_step<O: Offset + Integer>(
     alloc: Global,
     kind: OffsetsStep,
     offsets: &mut Offsets<O>,
-    step: &Step<'_>,
+    step: &Call<'_>,
     out: &mut String,
 ) -> Result<(), Fault> {
     match kind {
@@ -272,7 +262,7 @@ fn take_offsets_step<O: Offset + Integer>(
 /// Appends rows of no item.
 fn extend_constant<O: Offset>(
     offsets: &mut Offsets<O>,
-    step: &Step<'_>,
+    step: &Call<'_>,
     out: &mut String,
 ) -> Result<(), Fault> {
     let additional = only(step)?;
@@ -282,7 +272,7 @@ fn extend_constant<O: Offset>(
 /// Appends a row.
 fn try_push<O: Offset>(
     offsets: &mut Offsets<O>,
-    step: &Step<'_>,
+    step: &Call<'_>,
     out: &mut String,
 ) -> Result<(), Fault> {
     let length = only(step)?;
@@ -293,7 +283,7 @@ fn try_push<O: Offset>(
 fn extend_from_slice<O: Offset + Integer>(
     alloc: Global,
     offsets: &mut Offsets<O>,
-    step: &Step<'_>,
+    step: &Call<'_>,
     out: &mut String,
 ) -> Result<(), Fault> {
     let (start, len) = range(step)?;
@@ -306,10 +296,10 @@ fn extend_from_slice<O: Offset + Integer>(
 fn extend_from_valid<O: Offset + Integer>(
     alloc: Global,
     offsets: &mut Offsets<O>,
-    step: &Step<'_>,
+    step: &Call<'_>,
     out: &mut String,
 ) -> Result<(), Fault> {
-    takes(step, 3)?;
+    step.takes(3)?;
     let start = step.integer(1)?;
     let other = read::<O>(alloc, step.argument(0)?)?;
     let validity = read_bits(alloc, step.argument(2)?)?;

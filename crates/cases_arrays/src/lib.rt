@@ -23,6 +23,7 @@ use crate::bitmaps::{
 use crate::buffers::{OfBuffer, of_buffer};
 use crate::datatypes::{OfType, of_type};
 use crate::offsets::{Method, of_offsets};
+use crate::parts::OfPart;
 use crate::scalars::{OfScalar, of_scalar};
 use arrow_text::call::Call;
 use arrow_text::fault::Fault;
@@ -64,6 +65,7 @@ enum Other {
     ArraySlice,
     ArraySliced,
     BitmapEqualRange,
+    BitmapNewConstant,
     BitmapNewZeroed,
     BufferSlice,
     BufferSliced,
@@ -80,7 +82,7 @@ enum Other {
 }
 
 /// The calls by their names.
-const CALLS: [(&str, Takes); 69] = [
+const CALLS: [(&str, Takes); 70] = [
     ("AnyArray::clone", Takes::Array(OfArray::Clone)),
     ("AnyArray::data_type", Takes::Array(OfArray::DataType)),
     ("AnyArray::eq", Takes::Other(Other::ArrayEq)),
@@ -92,8 +94,11 @@ const CALLS: [(&str, Takes); 69] = [
     ("AnyArray::sliced", Takes::Other(Other::ArraySliced)),
     ("AnyArray::validity", Takes::Array(OfArray::Validity)),
     ("AnyKeys::key", Takes::ArrayAt(OfArrayAt::Key)),
-    ("AnyKeys::len", Takes::Array(OfArray::Keys)),
-    ("AnyOffsetsBuffer::len", Takes::Array(OfArray::Offsets)),
+    ("AnyKeys::len", Takes::Array(OfArray::Part(OfPart::Keys))),
+    (
+        "AnyOffsetsBuffer::len",
+        Takes::Array(OfArray::Part(OfPart::Offsets)),
+    ),
     (
         "AnyOffsetsBuffer::start_end",
         Takes::ArrayAt(OfArrayAt::StartEnd),
@@ -109,6 +114,10 @@ const CALLS: [(&str, Takes); 69] = [
     ("Bitmap::get_bit", Takes::BitmapAt(OfBitmapAt::GetBit)),
     ("Bitmap::is_empty", Takes::Bitmap(OfBitmap::IsEmpty)),
     ("Bitmap::len", Takes::Bitmap(OfBitmap::Len)),
+    (
+        "Bitmap::new_constant",
+        Takes::Other(Other::BitmapNewConstant),
+    ),
     ("Bitmap::new_zeroed", Takes::Other(Other::BitmapNewZeroed)),
     ("Bitmap::not", Takes::Bitmap(OfBitmap::Not)),
     ("Bitmap::or", Takes::Bitmaps(OfBitmaps::Or)),
@@ -139,9 +148,12 @@ const CALLS: [(&str, Takes); 69] = [
     ),
     (
         "FixedSizeBinaryArray::size",
-        Takes::Array(OfArray::BytesSize),
+        Takes::Array(OfArray::Part(OfPart::BytesSize)),
     ),
-    ("FixedSizeListArray::size", Takes::Array(OfArray::ListSize)),
+    (
+        "FixedSizeListArray::size",
+        Takes::Array(OfArray::Part(OfPart::ListSize)),
+    ),
     (
         "FlatArray::equal_range",
         Takes::Other(Other::FlatEqualRange),
@@ -158,7 +170,10 @@ const CALLS: [(&str, Takes); 69] = [
     ("OffsetsBuffer::try_from", Takes::Offsets(Method::TryFrom)),
     ("Scalar::new", Takes::Scalar(OfScalar::New)),
     ("UnionArray::index", Takes::ArrayAt(OfArrayAt::Index)),
-    ("UnionArray::start", Takes::Array(OfArray::Start)),
+    (
+        "UnionArray::start",
+        Takes::Array(OfArray::Part(OfPart::Start)),
+    ),
     ("append_span", Takes::Other(Other::AppendSpan)),
     ("are_within", Takes::ArrayAt(OfArrayAt::AreWithin)),
     ("new_empty_array", Takes::Other(Other::NewEmptyArray)),
@@ -212,6 +227,7 @@ fn answer_other(
         Other::ArraySlice => arrays::slice(alloc, call, out),
         Other::ArraySliced => arrays::sliced(alloc, call, out),
         Other::BitmapEqualRange => bitmaps::equal_range(alloc, call, out),
+        Other::BitmapNewConstant => bitmaps::new_constant(alloc, call, out),
         Other::BitmapNewZeroed => bitmaps::new_zeroed(alloc, call, out),
         Other::BufferSlice => buffers::slice(alloc, call, out),
         Other::BufferSliced => buffers::sliced(alloc, call, out),

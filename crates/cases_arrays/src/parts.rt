@@ -6,42 +6,29 @@ use arrow_flat::array::AnyPrimitive;
 use arrow_text::fault::Fault;
 use arrow_text::write::show;
 
-/// How many keys a dictionary has.
-pub(crate) fn keys(array: &AnyArray, out: &mut String) -> Result<(), Fault> {
-    match array {
-        AnyArray::Dictionary(array) => show(out, array.keys().len()),
-        _ => Err(Fault::Usage),
-    }
+/// The sizes that a part of an array has, or where it begins.
+#[derive(Clone, Copy)]
+pub(crate) enum OfPart {
+    /// How many bytes a row of bytes of a fixed size has.
+    BytesSize,
+    /// How many keys a dictionary has.
+    Keys,
+    /// How many items a row of a list of a fixed size has.
+    ListSize,
+    /// How many offsets a list has.
+    Offsets,
+    /// In which row of its fields a sparse union begins.
+    Start,
 }
 
-/// How many offsets a list has.
-pub(crate) fn offsets(array: &AnyArray, out: &mut String) -> Result<(), Fault> {
-    match array {
-        AnyArray::List(array) => show(out, array.offsets().len()),
-        _ => Err(Fault::Usage),
-    }
-}
-
-/// How many bytes a row of bytes of a fixed size has.
-pub(crate) fn bytes_size(array: &AnyArray, out: &mut String) -> Result<(), Fault> {
-    match array {
-        AnyArray::FixedSizeBinary(array) => show(out, array.size()),
-        _ => Err(Fault::Usage),
-    }
-}
-
-/// How many items a row of a list of a fixed size has.
-pub(crate) fn list_size(array: &AnyArray, out: &mut String) -> Result<(), Fault> {
-    match array {
-        AnyArray::FixedSizeList(array) => show(out, array.size()),
-        _ => Err(Fault::Usage),
-    }
-}
-
-/// In which row of its fields a sparse union begins.
-pub(crate) fn start(array: &AnyArray, out: &mut String) -> Result<(), Fault> {
-    match array {
-        AnyArray::Union(array) => show(out, array.start()),
+/// Appends a size of an array's part.
+pub(crate) fn size(method: OfPart, array: &AnyArray, out: &mut String) -> Result<(), Fault> {
+    match (method, array) {
+        (OfPart::BytesSize, AnyArray::FixedSizeBinary(array)) => show(out, array.size()),
+        (OfPart::Keys, AnyArray::Dictionary(array)) => show(out, array.keys().len()),
+        (OfPart::ListSize, AnyArray::FixedSizeList(array)) => show(out, array.size()),
+        (OfPart::Offsets, AnyArray::List(array)) => show(out, array.offsets().len()),
+        (OfPart::Start, AnyArray::Union(array)) => show(out, array.start()),
         _ => Err(Fault::Usage),
     }
 }

@@ -30,9 +30,6 @@ decreases-parts::fixed_list_of l = 6 * l.depth + 3
 abbrev pub decreases-parts::list_of : goal.decreases-parts::list_of
 decreases-parts::list_of l = 6 * l.depth + 3
 
-abbrev pub decreases-parts::map_of : goal.decreases-parts::map_of
-decreases-parts::map_of l = 6 * l.depth + 3
-
 abbrev pub decreases-parts::struct_of : goal.decreases-parts::struct_of
 decreases-parts::struct_of l = 6 * l.depth + 3
 

@@ -4,37 +4,31 @@ use Rattle.arrow_text.proofs.types.+read_type.Given as goal
 -- each call lowers the depth, or comes nearer to one that does
 
 abbrev pub decreases-type_of : goal.decreases-type_of
-decreases-type_of l = 6 * l.depth + 0
+decreases-type_of l = 5 * l.depth + 0
 
 abbrev pub decreases-field_of : goal.decreases-field_of
-decreases-field_of l = 6 * l.depth + 1
-
-abbrev pub decreases-boxed_type_of : goal.decreases-boxed_type_of
-decreases-boxed_type_of l = 6 * l.depth + 1
-
-abbrev pub decreases-boxed_field : goal.decreases-boxed_field
-decreases-boxed_field l = 6 * l.depth + 2
+decreases-field_of l = 5 * l.depth + 1
 
 abbrev pub decreases-fields_of : goal.decreases-fields_of
-decreases-fields_of l = 6 * l.depth + 2
-
-abbrev pub decreases-union_of : goal.decreases-union_of
-decreases-union_of l = 6 * l.depth + 2
+decreases-fields_of l = 5 * l.depth + 2
 
 abbrev pub decreases-dictionary_of : goal.decreases-dictionary_of
-decreases-dictionary_of l = 6 * l.depth + 2
+decreases-dictionary_of l = 5 * l.depth + 1
 
 abbrev pub decreases-extension_of : goal.decreases-extension_of
-decreases-extension_of l = 6 * l.depth + 2
+decreases-extension_of l = 5 * l.depth + 1
+
+abbrev pub decreases-list_of : goal.decreases-list_of
+decreases-list_of l = 5 * l.depth + 2
 
 abbrev pub decreases-fixed_list_of : goal.decreases-fixed_list_of
-decreases-fixed_list_of l = 6 * l.depth + 3
+decreases-fixed_list_of l = 5 * l.depth + 2
 
-abbrev pub decreases-map_of : goal.decreases-map_of
-decreases-map_of l = 6 * l.depth + 3
+abbrev pub decreases-struct_of : goal.decreases-struct_of
+decreases-struct_of l = 5 * l.depth + 3
 
-abbrev pub decreases-formed : goal.decreases-formed
-decreases-formed l = 6 * l.depth + 4
+abbrev pub decreases-union_of : goal.decreases-union_of
+decreases-union_of l = 5 * l.depth + 3
 
 abbrev pub decreases-type_of_parts : goal.decreases-type_of_parts
-decreases-type_of_parts l = 6 * l.depth + 5
+decreases-type_of_parts l = 5 * l.depth + 4
