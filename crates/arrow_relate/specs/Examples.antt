@@ -1,9 +1,12 @@
 -- Worked rows.
-use Rattle.std.specs.Prelude.{◌≡◌, refl, true, false, pos, None, Some, [], ◌∷◌}
+use Rattle.std.specs.Prelude.{◌≡◌, ℕ, refl, true, false, pos, None, Some, [], ◌∷◌, replicate}
 use Rattle.arrow_types.specs.Logic.{finished_eq, finished_neq}
 use Rattle.arrow_types.specs.Relation.{related, eq, neq, lt, gt_eq}
 use Rattle.arrow_types.specs.Slot.{Null, Boolean, Number, DayTime, Text}
+use Rattle.arrow_memory.specs.Sliced.{sliced}
+use Rattle.arrow_memory.specs.Words.{word_of}
 use Rattle.arrow_logic.specs.RowByRow.{row_by_row}
+use Rattle.arrow_relate.specs.Chunked.{chunk_of}
 use Rattle.arrow_relate.specs.Finished.{finished}
 
 -- a null beside a value gives a null, whatever lies beneath it
@@ -36,3 +39,14 @@ unequal = refl
 -- without a validity all rows of that side are valid
 equal_to_valid : finished finished_eq (Boolean true ∷ Boolean true ∷ []) (Some (true ∷ false ∷ [])) None ≡ Boolean true ∷ Boolean false ∷ []
 equal_to_valid = refl
+
+-- the second chunk of nine ones is filled with the default
+last_chunk : chunk_of {A = ℕ} 0 (1 ∷ 1 ∷ 1 ∷ 1 ∷ 1 ∷ 1 ∷ 1 ∷ 1 ∷ 1 ∷ []) 1 ≡ 1 ∷ 0 ∷ 0 ∷ 0 ∷ 0 ∷ 0 ∷ 0 ∷ 0 ∷ []
+last_chunk = refl
+
+-- true, true and false as a word, and 64 copies of true
+word_of_rows : word_of (sliced (true ∷ true ∷ false ∷ []) 0 64) ≡ 3
+word_of_rows = refl
+
+word_of_copies : word_of (replicate 64 true) ≡ 18446744073709551615
+word_of_copies = refl

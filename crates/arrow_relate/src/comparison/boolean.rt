@@ -1,6 +1,6 @@
 //! Relations of truth values: false comes before true.
 
-ghost use Rattle.std.specs.Prelude.{◌≡◌, ◌*◌, ◌<◌, ℕ, if◌then◌else◌, length, map, replicate, IfOk, IsOkUnless};
+ghost use Rattle.std.specs.Prelude.{◌≡◌, ◌*◌, ◌<◌, if◌then◌else◌, length, map, replicate, IfOk, IsOkUnless};
 ghost use Rattle.arrow_types.specs.declared.error.Error.{Error};
 ghost use Rattle.arrow_types.specs.ArrowType.{boolean, plain};
 ghost use Rattle.arrow_types.specs.Relation.{related};
@@ -10,9 +10,8 @@ ghost use Rattle.arrow_types.specs.Slot.{Boolean};
 ghost use Rattle.arrow_flat.specs.Parts.{boolean_rows};
 ghost use Rattle.arrow_logic.specs.RowByRow.{row_by_row};
 ghost use Rattle.arrow_relate.specs.Same.{is_same, differs};
-ghost use Rattle.arrow_memory.specs.Sliced.{sliced};
 ghost use Rattle.arrow_memory.specs.Words.{word_of};
-ghost use Rattle.arrow_relate.specs.Chunked.{Chunked, IsChunked, answers_word};
+ghost use Rattle.arrow_relate.specs.Chunked.{AnswersByWords, Chunked, TakesWords, answers_word};
 
 use crate::fixed::{Equal, FixedRelation, Greater, GreaterOrEqual, Less, LessOrEqual, NotEqual};
 use crate::relation::Relation;
@@ -354,9 +353,9 @@ pub fn compare_op_scalar<F: Fn(u64, u64) -> u64>(
     rhs: bool,
     op: F,
 ) -> Result<BooleanArray, Error>
-    requires { (j : ℕ) → 64 * j < length lhs.now.values → F.pre op (word_of (sliced lhs.now.values (64 * j) 64)) (word_of (replicate 64 rhs)) }
+    requires { TakesWords (F.pre op) lhs.now.values rhs }
     ensures array_type { IfOk result (λ array. array.arrow_type ≡ plain boolean) }
-    ensures rows { IfOk result (λ array. IsChunked 64 (answers_word (F.post op) lhs.now.values rhs) lhs.now.validity (length lhs.now.values) (boolean_rows array)) }
+    ensures rows { IfOk result (λ array. AnswersByWords (F.post op) lhs.now rhs (boolean_rows array)) }
     ensures err { IsOkUnless result Error.OutOfMemory }
 {
     let bits = bits_of_words(alloc, lhs.values(), rhs, &op)?;
@@ -376,8 +375,8 @@ fn bits_of_words<F: Fn(u64, u64) -> u64>(
     scalar: bool,
     op: &F,
 ) -> Result<Bitmap, Error>
-    requires { (j : ℕ) → 64 * j < length stored.now → F.pre op.now (word_of (sliced stored.now (64 * j) 64)) (word_of (replicate 64 scalar)) }
-    ensures ok { IfOk result (λ bits. Chunked 64 (answers_word (F.post op.now) stored.now scalar) (length stored.now) bits) }
+    requires { TakesWords (F.pre op.now) stored.now scalar }
+    ensures ok { IfOk result (Chunked 64 (answers_word (F.post op.now) stored.now scalar) (length stored.now)) }
     ensures err { IsOkUnless result Error.OutOfMemory }
 {
     Bitmap::collect_words(alloc, stored.len(), |j| answer_at(op, stored, scalar, j))
@@ -388,7 +387,7 @@ fn bits_of_words<F: Fn(u64, u64) -> u64>(
 /// # Requires
 /// It may be called on each word, and there is word `j`.
 fn answer_at<F: Fn(u64, u64) -> u64>(op: &F, bits: &Bitmap, scalar: bool, j: usize) -> u64
-    requires callable { (j : ℕ) → 64 * j < length bits.now → F.pre op.now (word_of (sliced bits.now (64 * j) 64)) (word_of (replicate 64 scalar)) }
+    requires callable { TakesWords (F.pre op.now) bits.now scalar }
     requires some { 64 * j < length bits.now }
     ensures { answers_word (F.post op.now) bits.now scalar j result }
 {

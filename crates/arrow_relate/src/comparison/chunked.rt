@@ -1,9 +1,9 @@
 //! Bits that a closure answers of chunks of eight values, eight bytes to a word.
 
-ghost use Rattle.std.specs.Prelude.{◌≡◌, ◌-◌, ◌*◌, ◌<◌, ℕ, length, min, replicate, slice_index_or, IfOk, IsOkUnless};
+ghost use Rattle.std.specs.Prelude.{◌≡◌, ◌-◌, ◌*◌, ◌<◌, length, min, slice_index_or, IfOk, IsOkUnless};
 ghost use Rattle.std.specs.Int.{div_ceil};
 ghost use Rattle.arrow_types.specs.declared.error.Error.{Error};
-ghost use Rattle.arrow_relate.specs.Chunked.{Chunked, GathersBytes, answers_chunk, chunk_of};
+ghost use Rattle.arrow_relate.specs.Chunked.{Chunked, GathersBytes, TakesChunks, answers_chunk};
 
 use arrow_memory::bitmap::Bitmap;
 use arrow_types::error::Error;
@@ -42,8 +42,8 @@ pub(super) fn bits_of_chunks<T: NativeType, F: Fn([T; 8], [T; 8]) -> u8>(
     scalar: T,
     op: &F,
 ) -> Result<Bitmap, Error>
-    requires { (j : ℕ) → 8 * j < length stored.now → F.pre op.now (chunk_of T.zero stored.now j) (replicate 8 scalar) }
-    ensures ok { IfOk result (λ bits. Chunked 8 (answers_chunk (F.post op.now) T.zero stored.now scalar) (length stored.now) bits) }
+    requires { TakesChunks (F.pre op.now) T.zero stored.now scalar }
+    ensures ok { IfOk result (Chunked 8 (answers_chunk (F.post op.now) T.zero stored.now scalar) (length stored.now)) }
     ensures err { IsOkUnless result Error.OutOfMemory }
 {
     Bitmap::collect_words(
@@ -63,7 +63,7 @@ fn word_of_chunks<T: NativeType, F: Fn([T; 8], [T; 8]) -> u8>(
     op: &F,
     j: usize,
 ) -> u64
-    requires callable { (j : ℕ) → 8 * j < length stored.now → F.pre op.now (chunk_of T.zero stored.now j) (replicate 8 scalar) }
+    requires callable { TakesChunks (F.pre op.now) T.zero stored.now scalar }
     requires some { 64 * j < length stored.now }
     ensures { GathersBytes (answers_chunk (F.post op.now) T.zero stored.now scalar) (8 * j) (min 8 (div_ceil (length stored.now) 8 - 8 * j)) result }
 {
@@ -85,7 +85,7 @@ fn answer_at<T: NativeType, F: Fn([T; 8], [T; 8]) -> u8>(
     op: &F,
     j: usize,
 ) -> u8
-    requires callable { (j : ℕ) → 8 * j < length stored.now → F.pre op.now (chunk_of T.zero stored.now j) (replicate 8 scalar) }
+    requires callable { TakesChunks (F.pre op.now) T.zero stored.now scalar }
     requires some { 8 * j < length stored.now }
     ensures { answers_chunk (F.post op.now) T.zero stored.now scalar j result }
 {

@@ -1,6 +1,6 @@
 //! Relations of numbers, by value, and whether intervals are equal.
 
-ghost use Rattle.std.specs.Prelude.{◌≡◌, ◌*◌, ◌<◌, ℕ, Some, length, map, replicate, slice_get, IfOk, IsOkUnless};
+ghost use Rattle.std.specs.Prelude.{◌≡◌, ◌<◌, Some, length, map, slice_get, IfOk, IsOkUnless};
 ghost use Rattle.arrow_types.specs.declared.error.Error.{Error};
 ghost use Rattle.arrow_types.specs.ArrowType.{boolean, plain};
 ghost use Rattle.arrow_types.specs.Relation.{related};
@@ -9,7 +9,7 @@ ghost use Rattle.arrow_relate.specs.Related.{relation_of};
 ghost use Rattle.arrow_types.specs.Slot.{Boolean};
 ghost use Rattle.arrow_flat.specs.Parts.{boolean_rows, rows_by};
 ghost use Rattle.arrow_logic.specs.RowByRow.{row_by_row};
-ghost use Rattle.arrow_relate.specs.Chunked.{IsChunked, answers_chunk, chunk_of};
+ghost use Rattle.arrow_relate.specs.Chunked.{AnswersChunks, TakesChunks};
 ghost use Rattle.arrow_relate.specs.Same.{is_same, differs};
 
 use crate::comparison::chunked::bits_of_chunks;
@@ -403,9 +403,9 @@ pub fn compare_op_scalar<T: NativeType, F: Fn([T; 8], [T; 8]) -> u8>(
     rhs: T,
     op: F,
 ) -> Result<BooleanArray, Error>
-    requires { (j : ℕ) → 8 * j < length lhs.now.values → F.pre op (chunk_of T.zero lhs.now.values j) (replicate 8 rhs) }
+    requires { TakesChunks (F.pre op) T.zero lhs.now.values rhs }
     ensures array_type { IfOk result (λ array. array.arrow_type ≡ plain boolean) }
-    ensures rows { IfOk result (λ array. IsChunked 8 (answers_chunk (F.post op) T.zero lhs.now.values rhs) lhs.now.validity (length lhs.now.values) (boolean_rows array)) }
+    ensures rows { IfOk result (λ array. AnswersChunks (F.post op) T.zero lhs.now rhs (boolean_rows array)) }
     ensures err { IsOkUnless result Error.OutOfMemory }
 {
     let bits = bits_of_chunks(alloc, lhs.values().as_slice(), rhs, &op)?;
