@@ -1,11 +1,13 @@
 -- What the laws are stated by.
-use Rattle.std.specs.Prelude.{ℕ, ◌≡◌, ◌-◌, min, Option, Some, None}
+use Rattle.std.specs.Prelude.{ℕ, ◌≡◌, ◌-◌, min, Option, Some, None, List}
 use Rattle.arrow_types.specs.declared.datatypes.physical_type.PhysicalType.{PhysicalType}
 use Rattle.arrow_types.specs.declared.datatypes.physical_type.PhysicalType.TheVariants.{Binary, LargeBinary, LargeUtf8, Utf8}
 use Rattle.arrow_types.specs.ArrowType.{ArrowType}
 use Rattle.arrow_types.specs.Carried.{IsCarried}
 use Rattle.arrow_types.specs.Physical.{physical_type_of}
+use Rattle.arrow_types.specs.Slot.{Slot}
 use Rattle.arrow_logic.specs.Nullif.{IsPrimitive}
+use Rattle.arrow_logic.specs.RowByRow.{row_by_row}
 
 -- how many units a part of a part has at most: what its length says, and no more than the first part has behind its beginning
 abbrev pub length_within : Option ℕ → ℕ → Option ℕ → Option ℕ
@@ -36,3 +38,7 @@ AreTextsOrBytes t = IsCarried t × IsByteLayout (physical_type_of t)
 -- there are arrays of the types, and `nullif` may be asked of them
 abbrev pub MeetNullif : ArrowType → ArrowType → Type 0
 MeetNullif left right = (left ≡ right) × IsCarried left × IsPrimitive (physical_type_of left)
+
+-- whatever is given of two rows, it is the same list row by row of two lists as of two others
+abbrev pub GiveAlike : List Slot × List Slot → List Slot × List Slot → Type 0
+GiveAlike lists others = (give : Slot → Slot → Slot) → row_by_row give others.0 others.1 ≡ row_by_row give lists.0 lists.1

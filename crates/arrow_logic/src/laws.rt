@@ -1,22 +1,23 @@
-//! The laws of logic, of parts, and of the types that the calls named `can_` list: each is the contract of a function over what is handed in, and says of the definitions
-//! that the kernels' contracts cite what a caller may replace by what. None makes an array.
+//! The laws of logic, of parts, of the types that the calls named `can_` list, and of equal inputs: each is the contract of
+//! a function over what is handed in, and says of the definitions that the kernels' contracts cite what a caller may
+//! replace by what. None makes an array.
 
-ghost use Rattle.std.specs.Prelude.{◌≡◌, ◌+◌, map, pos, not};
+ghost use Rattle.std.specs.Prelude.{◌≡◌, ◌+◌, List, map, pos, not};
 ghost use Rattle.arrow_types.specs.Logic.{both, either, kleene_both, kleene_either, negated};
 ghost use Rattle.arrow_types.specs.Part.{part};
 ghost use Rattle.arrow_types.specs.Relation.{is_null};
-ghost use Rattle.arrow_types.specs.Slot.{Boolean, Bytes, Text};
+ghost use Rattle.arrow_types.specs.Slot.{Boolean, Bytes, Slot, Text};
 ghost use Rattle.arrow_types.specs.TypeOf.{type_of};
-ghost use Rattle.arrow_flat.specs.Parts.{boolean_rows};
+ghost use Rattle.arrow_flat.specs.Parts.{boolean_rows, rows_by};
 ghost use Rattle.arrow_arrays.specs.Any.{any_array_rows};
-ghost use Rattle.arrow_logic.specs.Laws.{AreTexts, AreTextsOrBytes, MeetNullif, length_within};
+ghost use Rattle.arrow_logic.specs.Laws.{AreTexts, AreTextsOrBytes, GiveAlike, MeetNullif, length_within};
 ghost use Rattle.arrow_logic.specs.Length.{HasLength};
 ghost use Rattle.arrow_logic.specs.Nullif.{CanNullif};
 ghost use Rattle.arrow_logic.specs.RowByRow.{row_by_row};
 ghost use Rattle.arrow_logic.specs.Substring.{HasParts};
 
 use arrow_arrays::array::AnyArray;
-use arrow_flat::array::BooleanArray;
+use arrow_flat::array::{BooleanArray, FlatArray, Values};
 use arrow_types::datatypes::DataType;
 
 /// It makes no difference which side of an `and` is the left one.
@@ -119,4 +120,41 @@ pub fn can_substring_is_supported(data_type: &DataType)
 /// Types that `can_nullif` lists are one carried type of a primitive layout, which is what `nullif` asks of them.
 pub fn can_nullif_is_supported(lhs: &DataType, rhs: &DataType)
     ensures { CanNullif (type_of lhs.now) (type_of rhs.now) → MeetNullif (type_of lhs.now) (type_of rhs.now) }
+{}
+
+/// An array as the laws of equal inputs see it, of whatever layout: by its rows.
+pub trait Rows {
+    // its rows
+    ghost rows: { Self → List Slot };
+}
+
+impl<V: Values> Rows for FlatArray<V> {
+    ghost rows = { rows_by V.slots };
+}
+
+impl Rows for AnyArray {
+    ghost rows = { any_array_rows };
+}
+
+/// A kernel that answers row by row of two arrays answers the same rows of two others of the same rows, whatever their
+/// layouts and whatever it gives of two rows. Such are both logics, `nullif`, each comparison of arrays, and its form
+/// that compares nulls too; the contract of each says what it gives, and the type of its answer.
+///
+/// # Requires
+/// The left arrays have the same rows, and so have the right ones.
+pub fn row_by_row_goes_by_rows<L: Rows, R: Rows>(lhs: &L, rhs: &R, other_lhs: &L, other_rhs: &R)
+    requires left { L.rows other_lhs.now ≡ L.rows lhs.now }
+    requires right { R.rows other_rhs.now ≡ R.rows rhs.now }
+    ensures { GiveAlike (L.rows lhs.now, R.rows rhs.now) (L.rows other_lhs.now, R.rows other_rhs.now) }
+{}
+
+/// A kernel that answers of each row of an array answers the same rows of another one of the same rows, whatever their
+/// layouts and whatever it gives of a row. Such are the forms of all these that take a scalar, `not`, `is_null`,
+/// `is_not_null`, `length` and `substring`; the contract of each says what it gives, and the type of its answer.
+///
+/// # Requires
+/// Both arrays have the same rows.
+pub fn each_row_goes_by_rows<A: Rows>(array: &A, other: &A)
+    requires { A.rows other.now ≡ A.rows array.now }
+    ensures { (give : Slot → Slot) → map give (A.rows other.now) ≡ map give (A.rows array.now) }
 {}

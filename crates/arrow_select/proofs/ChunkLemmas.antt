@@ -4,6 +4,7 @@ use Rattle.std.specs.Prelude.{count_by}
 use Rattle.std.specs.List.{All}
 use Rattle.std.proofs.lemmas.List.{get_or-map, length-map, map-append}
 use Rattle.std.proofs.lemmas.List.Elements.{All-map}
+use Rattle.std.proofs.lemmas.Option.{get_or_from_slice_get, slice_get_within}
 use Rattle.arrow_types.specs.Fits.{Fits}
 use Rattle.arrow_types.proofs.RowsLemmas.{take_at_read}
 use Rattle.arrow_types.proofs.SelectLemmas.{length-select}
@@ -12,7 +13,7 @@ use Rattle.arrow_arrays.specs.Layout.{Layout, rows, type_of_layout}
 use Rattle.arrow_arrays.specs.StructParts.{AreColumns, HaveRows}
 use Rattle.arrow_arrays.specs.declared.array.any.AnyArray.{AnyArray}
 use Rattle.arrow_growable.proofs.JoinedLemmas.{slice_get-map_read}
-use Rattle.arrow_select.specs.Selected.{selected_rows}
+use Rattle.arrow_select.specs.Selected.{FirstDoesNotFit, selected_rows}
 
 -- each has so many rows, where all do
 pub column_long : (n : ℕ) (columns : List AnyArray) (i : ℕ) (item : AnyArray) → HaveRows n (map layout_of columns) → i < length columns → item ≡ get_or columns i item → n ≡ length (any_array_rows item)
@@ -53,3 +54,12 @@ kept_fit mask columns kept fits types same =
     let type : type_of_layout (get_or kept k d) ≡ type_of_layout (get_or columns k d) = sym (get_or-map type_of_layout kept k d (type_of_layout d) here) ∙ (ap (λ ts. get_or ts k (type_of_layout d)) types ∙ get_or-map type_of_layout columns k d (type_of_layout d) within) in
     let row : rows (get_or kept k d) ≡ selected_rows mask (get_or columns k d) = sym (get_or-map rows kept k d (rows d) here) ∙ (ap (λ xs. get_or xs k (rows d)) same ∙ get_or-map (selected_rows mask) columns k d (rows d) within) in
     subst (λ t. Fits t (selected_rows mask (get_or columns k d))) type (subst (Fits (type_of_layout (get_or kept k d))) row (fits k d here))
+
+-- then there is no first column of which they do not
+pub none_passes : (mask : List Bool) (columns : List Layout) → All (λ l. Fits (type_of_layout l) (selected_rows mask l)) columns → FirstDoesNotFit mask columns → ⊥
+none_passes mask columns fit first =
+    let k = first.0 in
+    let column = first.1 in
+    let here = get_or_from_slice_get columns k column column first.2 in
+    let fits = fit k column (slice_get_within columns k column first.2) in
+    first.4 (subst (λ l. Fits (type_of_layout l) (selected_rows mask l)) here fits)

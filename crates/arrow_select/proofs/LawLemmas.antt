@@ -1,15 +1,16 @@
 -- The laws of rows that are selected, taken and joined.
-use Rattle.std.proofs.Common.{arith, ◌≡◌, ◌+◌, ◌-◌, ℕ, ◌≤◌, pos, Bool, true, false, Some, List, [], ◌∷◌, ◌++◌, length, map, take, drop, refl, ap, sym, ◌∙◌, append_assoc}
+use Rattle.std.proofs.Common.{arith, ◌≡◌, ◌+◌, ◌-◌, ℕ, ◌≤◌, pos, Bool, true, false, Some, List, [], ◌∷◌, ◌++◌, length, map, take, drop, refl, ap, sym, subst, ◌∙◌, append_assoc}
 use Rattle.std.specs.Prelude.{option_map, slice_get, unwrap_or}
 use Rattle.std.proofs.lemmas.List.{append-nil, length-append, length-drop, take-append-drop, take_all}
 use Rattle.std.proofs.lemmas.Option.{slice_get-get_or, slice_get-map}
 use Rattle.std.proofs.lemmas.Simd.{map-map}
 use Rattle.arrow_types.specs.ArrowType.{ArrowType}
-use Rattle.arrow_types.specs.Rows.{gather, gathered, joined, select}
+use Rattle.arrow_types.specs.Rows.{gather, gathered, joined, mask_of, select}
 use Rattle.arrow_types.specs.Slot.{Slot, Null, Number, null_slot}
 use Rattle.arrow_memory.specs.Sliced.{sliced}
 use Rattle.arrow_arrays.specs.KeyedParts.{AreKeys, IsKey}
-use Rattle.arrow_select.specs.Laws.{places_from, true_places}
+use Rattle.arrow_arrays.specs.Layout.{Layout, rows}
+use Rattle.arrow_select.specs.Laws.{RowsFit, kept_columns, places_from, true_places}
 use Rattle.arrow_select.proofs.IndexLemmas.{each_index, map-agree}
 
 -- the row behind others
@@ -46,3 +47,19 @@ pub joined-cut : (xs : List Slot) (at : ℕ) → at ≤ length xs → joined (sl
 joined-cut xs at within =
     let rest = append-nil (sliced xs at (length xs - at)) ∙ take_all (length xs - at) (drop at xs) (omega (arith, length-drop at xs)) in
     ap (λ ys. take at xs ++ ys) rest ∙ take-append-drop at xs
+
+-- a kernel whose answer is what is made of type and rows of its inputs, of equal ones
+pub equal_inputs : {A B : Type 0} (kernel : A → B) (inputs others : A) (result other : B) → others ≡ inputs → result ≡ kernel inputs → other ≡ kernel others → other ≡ result
+equal_inputs kernel inputs others result other same is other_is =
+    other_is ∙ (ap kernel same ∙ sym is)
+
+-- and rows that it may answer of the one where those of the other fit
+pub fits_alike : {A : Type 0} (kernel : A → ArrowType × List Slot) (inputs others : A) (result : ArrowType × List Slot) → others ≡ inputs → result ≡ kernel inputs → RowsFit result → RowsFit (kernel others)
+fits_alike kernel inputs others result same is fits =
+    subst RowsFit (is ∙ ap kernel (sym same)) fits
+
+-- rows that are kept of columns of the same rows
+pub columns_alike : (ps qs : List Slot) (columns others : List Layout) → qs ≡ ps → map rows others ≡ map rows columns → kept_columns qs others ≡ kept_columns ps columns
+columns_alike ps qs columns others same same_rows =
+    let of = λ (ps : List Slot) (columns : List Layout). map-map (select (mask_of ps)) rows columns in
+    sym (of qs others) ∙ ((λ i. map (select (mask_of (same i))) (same_rows i)) ∙ of ps columns)

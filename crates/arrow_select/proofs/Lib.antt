@@ -1,8 +1,10 @@
 pub mod ArrayLemmas
 pub mod ChoiceLemmas
 pub mod ChunkLemmas
+pub mod EdgeLemmas
 pub mod FilterLemmas
 pub mod IndexLemmas
+pub mod KeptLemmas
 pub mod KeyLemmas
 pub mod LawLemmas
 pub mod SetBytes

@@ -1,6 +1,14 @@
 -- What the kernels' laws are stated by.
-use Rattle.std.specs.Prelude.{ℕ, ◌+◌, pos, Bool, List, [], ◌∷◌, map, if◌then◌else◌}
-use Rattle.arrow_types.specs.Slot.{Slot, Number}
+use Rattle.std.specs.Prelude.{ℕ, ◌+◌, ℤ, pos, Bool, true, None, List, [], ◌∷◌, map, replicate, if◌then◌else◌}
+use Rattle.arrow_types.specs.declared.datatypes.UnionMode.TheVariants.{Dense}
+use Rattle.arrow_types.specs.ArrowType.{ArrowType, plain, null, union, field, no_fields, more_fields}
+use Rattle.arrow_types.specs.Fits.{Fits}
+use Rattle.arrow_types.specs.Rows.{chosen, gather, mask_of, select, shifted}
+use Rattle.arrow_types.specs.Slot.{Slot, Null, Number, Variant}
+use Rattle.arrow_arrays.specs.Any.{any_array_rows, any_array_type}
+use Rattle.arrow_arrays.specs.Layout.{Layout}
+use Rattle.arrow_arrays.specs.declared.array.any.AnyArray.{AnyArray}
+use Rattle.arrow_select.specs.Selected.{selected_rows}
 
 -- the places at which a mask is true, of which the first has this number
 abbrev pub places_from : ℕ → List Bool → List ℕ
@@ -10,3 +18,36 @@ places_from i (chosen ∷ mask) = if chosen then i ∷ places_from (i + 1) mask 
 -- as indices
 abbrev pub true_places : List Bool → List Slot
 true_places mask = map (λ n. Number (pos n)) (places_from 0 mask)
+
+-- what a call answers of arrays, as type and rows: `Filter::apply` by a mask and `filter` by the rows of a predicate,
+abbrev pub selected_of : List Bool → AnyArray → ArrowType × List Slot
+selected_of mask array = (any_array_type array, select mask (any_array_rows array))
+
+abbrev pub kept_of : List Slot → AnyArray → ArrowType × List Slot
+kept_of ps array = selected_of (mask_of ps) array
+
+-- `shift` by an offset, `take` by indices,
+abbrev pub shifted_of : ℤ → AnyArray → ArrowType × List Slot
+shifted_of offset array = (any_array_type array, shifted (any_array_rows array) offset (any_array_type array))
+
+abbrev pub gathered_of : List Slot → AnyArray → ArrowType × List Slot
+gathered_of indices array = (any_array_type array, gather (any_array_rows array) indices (any_array_type array))
+
+-- and `if_then_else` by the rows of a predicate
+abbrev pub chosen_of : List Slot → AnyArray → AnyArray → ArrowType × List Slot
+chosen_of ps left right = (any_array_type left, chosen ps (any_array_rows left) (any_array_rows right) (any_array_type left))
+
+-- rows that fit their type
+abbrev pub RowsFit : ArrowType × List Slot → Type 0
+RowsFit meaning = Fits meaning.0 meaning.1
+
+-- rows of each column that a predicate keeps
+abbrev pub kept_columns : List Slot → List Layout → List (List Slot)
+kept_columns ps columns = map (selected_rows (mask_of ps)) columns
+
+-- a dense union of one field, of the null type, and so many rows of it
+abbrev pub dense_nulls : ArrowType
+dense_nulls = union Dense None (more_fields (field [] (plain null) true) no_fields)
+
+abbrev pub dense_rows : ℕ → List Slot
+dense_rows n = replicate n (Variant (pos 0) Null)

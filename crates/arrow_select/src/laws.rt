@@ -1,18 +1,24 @@
 //! The laws of the kernels: each is the contract of a function over arrays that are handed in, and says of the definitions
 //! that the kernels' contracts cite what a caller may replace by what. None makes an array.
 
-ghost use Rattle.std.specs.Prelude.{◌≡◌, ◌-◌, ◌<◌, ◌≤◌, [], ◌∷◌, All, length, map};
+ghost use Rattle.std.specs.Prelude.{◌≡◌, ◌-◌, ◌<◌, ◌≤◌, ◌^◌, Bool, List, [], ◌∷◌, All, length, map};
+ghost use Rattle.arrow_types.specs.Fits.{Fits};
 ghost use Rattle.arrow_types.specs.Rows.{gather, joined, mask_of, select, shifted};
 ghost use Rattle.arrow_types.specs.TypeOf.{type_of};
 ghost use Rattle.arrow_memory.specs.Sliced.{sliced};
 ghost use Rattle.arrow_flat.specs.Parts.{boolean_rows, rows_by};
 ghost use Rattle.arrow_arrays.specs.Any.{any_array_meaning, any_array_rows, any_array_type};
 ghost use Rattle.arrow_arrays.specs.KeyedParts.{AreKeys};
+ghost use Rattle.arrow_arrays.specs.Layout.{rows, type_of_layout};
 ghost use Rattle.arrow_select.specs.Arrays.{rows_in, types_in};
-ghost use Rattle.arrow_select.specs.Laws.{true_places};
+ghost use Rattle.arrow_select.specs.Keys.{HasNoDictionary};
+ghost use Rattle.arrow_select.specs.Laws.{RowsFit, chosen_of, dense_nulls, dense_rows, gathered_of, kept_columns, kept_of, selected_of, shifted_of, true_places};
+ghost use Rattle.arrow_select.specs.Selected.{FirstDoesNotFit};
 ghost use Rattle.arrow_select.specs.Taken.{CanTake, IsNotTaken};
 
+use crate::filter::Filter;
 use arrow_arrays::array::AnyArray;
+use arrow_arrays::chunk::Chunk;
 use arrow_flat::array::{BooleanArray, PrimitiveArray};
 use arrow_types::datatypes::DataType;
 use arrow_types::types::Index;
@@ -132,4 +138,222 @@ pub fn take_goes_by_rows<I: Index, J: Index>(
 pub fn can_take_is_implemented<I: Index>(data_type: &DataType, indices: &PrimitiveArray<I>)
     requires { CanTake (type_of data_type.now) }
     ensures { IsNotTaken (type_of data_type.now) (rows_by (map I.slot) indices.now) → ⊥ }
+{}
+
+/// Arrays of the same type and rows are filtered to the same type and rows by prepared filters of one mask.
+///
+/// # Requires
+/// Each result is what `Filter::apply` answers of its filter and array.
+pub fn apply_goes_by_rows(
+    filter: &Filter,
+    array: &AnyArray,
+    kept: &AnyArray,
+    other_filter: &Filter,
+    other: &AnyArray,
+    other_kept: &AnyArray,
+)
+    requires filters { other_filter.now ≡ filter.now }
+    requires same { any_array_meaning other.now ≡ any_array_meaning array.now }
+    requires kept { any_array_meaning kept.now ≡ selected_of filter.now array.now }
+    requires other_kept { any_array_meaning other_kept.now ≡ selected_of other_filter.now other.now }
+    ensures { any_array_meaning other_kept.now ≡ any_array_meaning kept.now }
+{}
+
+/// Batches of the same types and rows are filtered to the same types and rows by predicates of the same rows.
+///
+/// # Requires
+/// Each result is what `filter_chunk` answers of its columns and predicate.
+pub fn chunk_goes_by_rows(
+    columns: &Chunk,
+    filter: &BooleanArray,
+    kept: &Chunk,
+    other: &Chunk,
+    other_filter: &BooleanArray,
+    other_kept: &Chunk,
+)
+    requires same_types { map type_of_layout other.now ≡ map type_of_layout columns.now }
+    requires same_rows { map rows other.now ≡ map rows columns.now }
+    requires filters { boolean_rows other_filter.now ≡ boolean_rows filter.now }
+    requires types { map type_of_layout kept.now ≡ map type_of_layout columns.now }
+    requires rows { map rows kept.now ≡ kept_columns (boolean_rows filter.now) columns.now }
+    requires other_types { map type_of_layout other_kept.now ≡ map type_of_layout other.now }
+    requires other_rows { map rows other_kept.now ≡ kept_columns (boolean_rows other_filter.now) other.now }
+    ensures types { map type_of_layout other_kept.now ≡ map type_of_layout kept.now }
+    ensures rows { map rows other_kept.now ≡ map rows kept.now }
+{}
+
+/// Of arrays of the same types and rows the same type and rows are chosen, by predicates of the same rows.
+///
+/// # Requires
+/// Each result is what `if_then_else` answers of its predicate and arrays.
+pub fn choice_goes_by_rows(
+    predicate: &BooleanArray,
+    lhs: &AnyArray,
+    rhs: &AnyArray,
+    all: &AnyArray,
+    other_predicate: &BooleanArray,
+    other_lhs: &AnyArray,
+    other_rhs: &AnyArray,
+    other_all: &AnyArray,
+)
+    requires predicates { boolean_rows other_predicate.now ≡ boolean_rows predicate.now }
+    requires left { any_array_meaning other_lhs.now ≡ any_array_meaning lhs.now }
+    requires right { any_array_meaning other_rhs.now ≡ any_array_meaning rhs.now }
+    requires all { any_array_meaning all.now ≡ chosen_of (boolean_rows predicate.now) lhs.now rhs.now }
+    requires other { any_array_meaning other_all.now ≡ chosen_of (boolean_rows other_predicate.now) other_lhs.now other_rhs.now }
+    ensures { any_array_meaning other_all.now ≡ any_array_meaning all.now }
+{}
+
+/// Where `filter` answered `Ok` of one array, it does not answer `Overflow` of another one of the same type and rows, by a
+/// predicate of the same rows: what it keeps of that one fits its type.
+///
+/// # Requires
+/// The result is what `filter` answers of the first array and predicate, so its rows fit.
+pub fn filter_fits_alike(
+    array: &AnyArray,
+    filter: &BooleanArray,
+    kept: &AnyArray,
+    other: &AnyArray,
+    other_filter: &BooleanArray,
+)
+    requires same { any_array_meaning other.now ≡ any_array_meaning array.now }
+    requires filters { boolean_rows other_filter.now ≡ boolean_rows filter.now }
+    requires kept { any_array_meaning kept.now ≡ kept_of (boolean_rows filter.now) array.now }
+    requires fits { RowsFit (any_array_meaning kept.now) }
+    ensures { RowsFit (kept_of (boolean_rows other_filter.now) other.now) }
+{}
+
+/// The same of `Filter::apply`, by filters of one mask.
+///
+/// # Requires
+/// The result is what `Filter::apply` answers of the first filter and array, so its rows fit.
+pub fn apply_fits_alike(
+    filter: &Filter,
+    array: &AnyArray,
+    kept: &AnyArray,
+    other_filter: &Filter,
+    other: &AnyArray,
+)
+    requires filters { other_filter.now ≡ filter.now }
+    requires same { any_array_meaning other.now ≡ any_array_meaning array.now }
+    requires kept { any_array_meaning kept.now ≡ selected_of filter.now array.now }
+    requires fits { RowsFit (any_array_meaning kept.now) }
+    ensures { RowsFit (selected_of other_filter.now other.now) }
+{}
+
+/// The same of `filter_chunk`, by predicates of the same rows: what is kept of each column fits its type, so there is no
+/// first one of which it does not.
+///
+/// # Requires
+/// The result is what `filter_chunk` answers of the first columns and predicate, so the rows of each column fit.
+pub fn chunk_fits_alike(
+    columns: &Chunk,
+    filter: &BooleanArray,
+    kept: &Chunk,
+    other: &Chunk,
+    other_filter: &BooleanArray,
+)
+    requires same_types { map type_of_layout other.now ≡ map type_of_layout columns.now }
+    requires same_rows { map rows other.now ≡ map rows columns.now }
+    requires filters { boolean_rows other_filter.now ≡ boolean_rows filter.now }
+    requires types { map type_of_layout kept.now ≡ map type_of_layout columns.now }
+    requires rows { map rows kept.now ≡ kept_columns (boolean_rows filter.now) columns.now }
+    requires fits { All (λ column. Fits (type_of_layout column) (rows column)) kept.now }
+    ensures { FirstDoesNotFit (mask_of (boolean_rows other_filter.now)) other.now → ⊥ }
+{}
+
+/// The same of `shift`, by one offset.
+///
+/// # Requires
+/// The result is what `shift` answers of the first array by the offset, so its rows fit.
+pub fn shift_fits_alike(array: &AnyArray, moved: &AnyArray, other: &AnyArray, offset: i64)
+    requires same { any_array_meaning other.now ≡ any_array_meaning array.now }
+    requires moved { any_array_meaning moved.now ≡ shifted_of offset array.now }
+    requires fits { RowsFit (any_array_meaning moved.now) }
+    ensures { RowsFit (shifted_of offset other.now) }
+{}
+
+/// The same of `take`, by indices of the same rows, of any widths.
+///
+/// # Requires
+/// The result is what `take` answers of the first array and indices, so its rows fit.
+pub fn take_fits_alike<I: Index, J: Index>(
+    array: &AnyArray,
+    indices: &PrimitiveArray<I>,
+    taken: &AnyArray,
+    other: &AnyArray,
+    other_indices: &PrimitiveArray<J>,
+)
+    requires same { any_array_meaning other.now ≡ any_array_meaning array.now }
+    requires indices { rows_by (map J.slot) other_indices.now ≡ rows_by (map I.slot) indices.now }
+    requires taken { any_array_meaning taken.now ≡ gathered_of (rows_by (map I.slot) indices.now) array.now }
+    requires fits { RowsFit (any_array_meaning taken.now) }
+    ensures { RowsFit (gathered_of (rows_by (map J.slot) other_indices.now) other.now) }
+{}
+
+/// Where `concatenate` answered `Ok` of arrays of a type that holds no dictionary, it does not answer `Overflow` of others of
+/// the same types and rows: they hold none, and their rows fit.
+///
+/// Of a type that holds one it may: the values of dictionaries are joined whole, named or not. Keys of 8 bits, [0] over
+/// one value, and over 100 values of which that is the first, are equal rows; behind 29 values the first array is joined,
+/// and the second one is `Overflow`.
+///
+/// # Requires
+/// The result is what `concatenate` answers of the first arrays, so its rows fit, and its type holds no dictionary.
+pub fn concatenate_fits_alike(arrays: &[&AnyArray], all: &AnyArray, others: &[&AnyArray])
+    requires types { types_in others.now ≡ types_in arrays.now }
+    requires rows { rows_in others.now ≡ rows_in arrays.now }
+    requires all_type { All (λ t. t ≡ any_array_type all.now) (types_in arrays.now) }
+    requires all_rows { any_array_rows all.now ≡ joined (rows_in arrays.now) }
+    requires fits { RowsFit (any_array_meaning all.now) }
+    requires no_dictionary { HasNoDictionary (any_array_type all.now) }
+    ensures no_dictionary { All HasNoDictionary (types_in others.now) }
+    ensures fits { All (λ t. Fits t (joined (rows_in others.now))) (types_in others.now) }
+{}
+
+/// The same of `if_then_else`, by predicates of the same rows: of a type that holds no dictionary. Of one that holds one
+/// how many values the dictionaries of both arrays have decides too.
+///
+/// # Requires
+/// The result is what `if_then_else` answers of the first predicate and arrays, so its rows fit, and its type holds no
+/// dictionary.
+pub fn choice_fits_alike(
+    predicate: &BooleanArray,
+    lhs: &AnyArray,
+    rhs: &AnyArray,
+    all: &AnyArray,
+    other_predicate: &BooleanArray,
+    other_lhs: &AnyArray,
+    other_rhs: &AnyArray,
+)
+    requires predicates { boolean_rows other_predicate.now ≡ boolean_rows predicate.now }
+    requires left { any_array_meaning other_lhs.now ≡ any_array_meaning lhs.now }
+    requires right { any_array_meaning other_rhs.now ≡ any_array_meaning rhs.now }
+    requires all { any_array_meaning all.now ≡ chosen_of (boolean_rows predicate.now) lhs.now rhs.now }
+    requires fits { RowsFit (any_array_meaning all.now) }
+    requires no_dictionary { HasNoDictionary (any_array_type all.now) }
+    ensures no_dictionary { HasNoDictionary (any_array_type other_lhs.now) }
+    ensures fits { RowsFit (chosen_of (boolean_rows other_predicate.now) other_lhs.now other_rhs.now) }
+{}
+
+/// Rows that are kept of rows that fit a type fit it, whatever the mask. So `filter`, `Filter::apply` and `filter_chunk`
+/// never answer `Overflow` of what a kernel answered: its rows fit, as its contract says.
+///
+/// # Requires
+/// The rows of the array fit its type.
+pub fn kept_rows_fit(array: &AnyArray)
+    requires { RowsFit (any_array_meaning array.now) }
+    ensures { (mask : List Bool) → RowsFit (selected_of mask array.now) }
+{}
+
+/// A dense union of one field, of the null type, holds 2^31 rows at most: its rows fit exactly where they are no more.
+pub fn dense_union_holds(count: usize)
+    ensures fits { count ≤ 2 ^ 31 → Fits dense_nulls (dense_rows count) }
+    ensures passes { 2 ^ 31 < count → Fits dense_nulls (dense_rows count) → ⊥ }
+{}
+
+/// So 2^31 rows fit, and one more does not.
+pub fn dense_union_edge()
+    ensures fits { Fits dense_nulls (dense_rows 2147483648) }
+    ensures passes { Fits dense_nulls (dense_rows 2147483649) → ⊥ }
 {}
