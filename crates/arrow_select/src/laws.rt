@@ -295,8 +295,8 @@ pub fn take_fits_alike<I: Index, J: Index>(
 /// the same types and rows: they hold none, and their rows fit.
 ///
 /// Of a type that holds one it may: the values of dictionaries are joined whole, named or not. Keys of 8 bits, [0] over
-/// one value, and over 100 values of which that is the first, are equal rows; behind 29 values the first array is joined,
-/// and the second one is `Overflow`.
+/// one value, and over 100 values of which that is the first, are equal rows; in front of the key 28 over 29 values the
+/// first array is joined, and the second one is `Overflow`.
 ///
 /// # Requires
 /// The result is what `concatenate` answers of the first arrays, so its rows fit, and its type holds no dictionary.

@@ -2,17 +2,20 @@
 //! stands in its contract.
 
 ghost use Rattle.std.specs.Prelude.{◌≡◌, IsTrue};
-ghost use Rattle.arrow_arrays.specs.Any.{any_array_meaning};
+ghost use Rattle.arrow_arrays.specs.Any.{any_array_meaning, any_array_type};
+ghost use Rattle.arrow_select.specs.Keys.{HasNoDictionary};
 
 use crate::arrays::{numbers, truths};
 use crate::lines::{Answer, Line, PLAIN, check_lines};
 use arrow_arrays::array::{AnyArray, are_within};
+use arrow_arrays::chunk::Chunk;
 use arrow_compare::comparison::can_eq;
 use arrow_compare::laws as compared;
 use arrow_logic::laws as logical;
 use arrow_relate::relation::Relation;
 use arrow_select::concatenate::concatenate;
-use arrow_select::filter::filter;
+use arrow_select::filter::{build_filter, filter, filter_chunk};
+use arrow_select::if_then_else::if_then_else;
 use arrow_select::laws as selected;
 use arrow_select::take::{can_take, take};
 use arrow_select::window::shift;
@@ -20,11 +23,12 @@ use arrow_text::fault::Fault;
 use arrow_text::given::{Array, Scalar};
 use arrow_text::piece::Piece;
 use arrow_text::scalar::read_scalar;
+use arrow_types::datatypes::DataType;
 use arrow_types::laws::{equals_both_ways, equals_itself, equals_through};
 use std::alloc::Global;
 
 /// The laws, by a name for those that are called together.
-const ANSWERS: [(&str, Answer); 11] = [
+const ANSWERS: [(&str, Answer); 13] = [
     ("logic", logic),
     ("types", types),
     ("comparisons", comparisons),
@@ -34,6 +38,8 @@ const ANSWERS: [(&str, Answer); 11] = [
     ("shift", shifted),
     ("filter", filtered),
     ("take", taken),
+    ("choice", chosen),
+    ("chunk", of_columns),
     ("equal", equality),
     ("different", equality),
 ];
@@ -56,6 +62,8 @@ fn logic(_alloc: Global, _name: &str, arrays: &[AnyArray]) -> Result<bool, Fault
     logical::negated_kleene_both(left, right);
     logical::negated_kleene_either(left, right);
     logical::negated_twice(left);
+    logical::row_by_row_goes_by_rows(left, right, left, right);
+    logical::each_row_goes_by_rows(left, right);
     Ok(true)
 }
 
@@ -75,6 +83,8 @@ fn types(_alloc: Global, _name: &str, arrays: &[AnyArray]) -> Result<bool, Fault
     compared::can_lt_has_order(data_type);
     compared::can_eq_scalar_has_equality(data_type);
     compared::can_lt_scalar_has_order(data_type);
+    selected::dense_union_holds(5);
+    selected::dense_union_edge();
     Ok(true)
 }
 
@@ -137,12 +147,23 @@ fn are_equal(array: &AnyArray, other: &AnyArray) -> bool
     *array == *other
 }
 
-/// Arrays of the same rows are concatenated to the same rows.
+/// Whether an array is of numbers of 32 bits, a type that holds no dictionary.
+fn is_of_numbers(array: &AnyArray) -> bool
+    ensures { IsTrue result → HasNoDictionary (any_array_type array.now) }
+{
+    match array.data_type() {
+        DataType::Int32 => true,
+        _ => false,
+    }
+}
+
+/// Arrays of the same rows are concatenated to the same rows, and where they hold no dictionary refused alike.
 fn concatenated(alloc: Global, _name: &str, arrays: &[AnyArray]) -> Result<bool, Fault> {
     match arrays {
-        [array, other] if are_equal(array, other) => {
+        [array, other] if are_equal(array, other) && is_of_numbers(array) => {
             let (left, right) = ([array, other], [other, array]);
             let all = Array::new(alloc, concatenate(alloc, &left)?)?;
+            selected::concatenate_fits_alike(&left, &all.array, &right);
             let other_all = Array::new(alloc, concatenate(alloc, &right)?)?;
             selected::concatenate_goes_by_rows(&left, &all.array, &right, &other_all.array);
             Ok(true)
@@ -151,11 +172,14 @@ fn concatenated(alloc: Global, _name: &str, arrays: &[AnyArray]) -> Result<bool,
     }
 }
 
-/// They are shifted to the same rows.
+/// They are shifted to the same rows, and refused alike; and what is given of each row, or of each two, is the same.
 fn shifted(alloc: Global, _name: &str, arrays: &[AnyArray]) -> Result<bool, Fault> {
     match arrays {
         [array, other] if are_equal(array, other) => {
+            logical::row_by_row_goes_by_rows(array, array, other, other);
+            logical::each_row_goes_by_rows(array, other);
             let moved = Array::new(alloc, shift(alloc, array, 1)?)?;
+            selected::shift_fits_alike(array, &moved.array, other, 1);
             let other_moved = Array::new(alloc, shift(alloc, other, 1)?)?;
             selected::shift_goes_by_rows(array, &moved.array, other, &other_moved.array, 1);
             Ok(true)
@@ -164,7 +188,8 @@ fn shifted(alloc: Global, _name: &str, arrays: &[AnyArray]) -> Result<bool, Faul
     }
 }
 
-/// They are filtered to the same rows.
+/// They are filtered to the same rows, by a predicate and by a filter that was prepared of it, and refused alike; what is kept
+/// can be filtered again.
 fn filtered(alloc: Global, _name: &str, arrays: &[AnyArray]) -> Result<bool, Fault> {
     let [array, other, predicate] = arrays else {
         return Err(Fault::Usage);
@@ -173,13 +198,25 @@ fn filtered(alloc: Global, _name: &str, arrays: &[AnyArray]) -> Result<bool, Fau
     if !are_equal(array, other) || mask.len() != array.len() {
         return Err(Fault::Usage);
     }
+    let prepared = build_filter(alloc, mask)?;
     let kept = Array::new(alloc, filter(alloc, array, mask)?)?;
+    selected::kept_rows_fit(&kept.array);
+    selected::filter_fits_alike(array, mask, &kept.array, other, mask);
+    selected::apply_fits_alike(&prepared, array, &kept.array, &prepared, other);
     let other_kept = Array::new(alloc, filter(alloc, other, mask)?)?;
     selected::filter_goes_by_rows(array, mask, &kept.array, other, mask, &other_kept.array);
+    selected::apply_goes_by_rows(
+        &prepared,
+        array,
+        &kept.array,
+        &prepared,
+        other,
+        &other_kept.array,
+    );
     Ok(true)
 }
 
-/// They are taken to the same rows.
+/// They are taken to the same rows, and refused alike.
 fn taken(alloc: Global, _name: &str, arrays: &[AnyArray]) -> Result<bool, Fault> {
     let [array, other, indices] = arrays else {
         return Err(Fault::Usage);
@@ -189,6 +226,7 @@ fn taken(alloc: Global, _name: &str, arrays: &[AnyArray]) -> Result<bool, Fault>
         return Err(Fault::Usage);
     }
     let taken = Array::new(alloc, take(alloc, array, places)?)?;
+    selected::take_fits_alike(array, places, &taken.array, other, places);
     let other_taken = Array::new(alloc, take(alloc, other, places)?)?;
     selected::take_goes_by_rows(
         array,
@@ -198,6 +236,47 @@ fn taken(alloc: Global, _name: &str, arrays: &[AnyArray]) -> Result<bool, Fault>
         places,
         &other_taken.array,
     );
+    Ok(true)
+}
+
+/// The same rows are chosen of them, and they are refused alike where they hold no dictionary.
+fn chosen(alloc: Global, _name: &str, arrays: &[AnyArray]) -> Result<bool, Fault> {
+    let [array, other, predicate] = arrays else {
+        return Err(Fault::Usage);
+    };
+    let mask = truths(predicate)?;
+    if !are_equal(array, other) || !is_of_numbers(array) {
+        return Err(Fault::Usage);
+    }
+    let all = Array::new(alloc, if_then_else(alloc, mask, array, other)?)?;
+    selected::choice_fits_alike(mask, array, other, &all.array, mask, other, array);
+    let other_all = Array::new(alloc, if_then_else(alloc, mask, other, array)?)?;
+    selected::choice_goes_by_rows(
+        mask,
+        array,
+        other,
+        &all.array,
+        mask,
+        other,
+        array,
+        &other_all.array,
+    );
+    Ok(true)
+}
+
+/// A batch is filtered to the same columns as itself.
+fn of_columns(alloc: Global, _name: &str, arrays: &[AnyArray]) -> Result<bool, Fault> {
+    let [array, predicate] = arrays else {
+        return Err(Fault::Usage);
+    };
+    let mask = truths(predicate)?;
+    let columns = Chunk::try_new(vec![in alloc; array.clone()?]?)?;
+    if mask.len() != columns.len() {
+        return Err(Fault::Usage);
+    }
+    let kept = filter_chunk(alloc, &columns, mask)?;
+    selected::chunk_fits_alike(&columns, mask, &kept, &columns, mask);
+    selected::chunk_goes_by_rows(&columns, mask, &kept, &columns, mask, &kept);
     Ok(true)
 }
 
@@ -217,7 +296,7 @@ fn equality(_alloc: Global, name: &str, arrays: &[AnyArray]) -> Result<bool, Fau
 }
 
 /// An array, one of the same rows, and one of others; predicates and indices.
-const LINES: [Line; 11] = [
+const LINES: [Line; 13] = [
     ["equal i32[1,_2,3] i32[9,1,_,3]@1+3", ""],
     ["different i32[1,_2,3] i32[3,2,_1]", ""],
     ["logic bool[t,_,f]", ""],
@@ -229,6 +308,8 @@ const LINES: [Line; 11] = [
     ["shift i32[1,_2,3] i32[9,1,_,3]@1+3", ""],
     ["filter i32[1,_2,3] i32[9,1,_,3]@1+3 bool[t,_,f]", ""],
     ["take i32[1,_2,3] i32[9,1,_,3]@1+3 i32[2,_9,0]", ""],
+    ["choice i32[1,_2,3] i32[9,1,_,3]@1+3 bool[t,_,f]", ""],
+    ["chunk i32[1,_2,3] bool[t,_,f]", ""],
 ];
 
 #[test]
