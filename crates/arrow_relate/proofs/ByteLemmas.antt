@@ -1,4 +1,4 @@
--- Relations of rows of bytes: whether two are equal, and rows that are lent as slices.
+-- Relations of rows of bytes that are lent as slices.
 use Rattle.std.proofs.Common.{◌≡◌, ℕ, ◌<◌, ℤ, pos, Bool, true, false, Some, List, length, map, get_or, slice_index, unsigned_abs, refl, ap, sym, subst, ◌∙◌}
 use Rattle.std.specs.Prelude.{option_map, slice_get, nat_eq}
 use Rattle.std.specs.Bool.{Decides}
@@ -16,18 +16,6 @@ use Rattle.arrow_flat.specs.ByteRows.{ByteParts, AreByteRows}
 use Rattle.arrow_logic.specs.RowByRow.{row_by_row}
 use Rattle.arrow_relate.specs.LentRows.{AreLentRows, lent_parts}
 use Rattle.arrow_relate.proofs.RowLemmas.{read-row_by_row}
-
--- ---- whether two rows have the same bytes
-
--- rows of different lengths have not
-pub other_lengths : (xs ys : List ℕ) → (length xs ≡ length ys → ⊥) → nat_eq (length xs) (length ys) ≡ is_eq (byte_order xs ys)
-other_lengths xs ys differ =
-    unequal (nat_eq (length xs) (length ys)) (bytes_eq xs ys) (Decides-eqb (length xs) (length ys)) (bytes_eq-Decides xs ys) ∙ sym (is_eq-slice_cmp xs ys)
-  where
-    unequal : (long same : Bool) → Decides long (length xs ≡ length ys) → Decides same (xs ≡ ys) → long ≡ same
-    unequal false false lengths bytes = refl
-    unequal true same lengths bytes = absurd (differ (lengths.0 refl))
-    unequal false true lengths bytes = absurd (differ (ap length (bytes.0 refl)))
 
 -- ---- rows that are lent
 

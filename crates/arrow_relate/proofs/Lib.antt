@@ -1,3 +1,4 @@
+pub mod AlikeLemmas
 pub mod ByteLemmas
 pub mod ChunkLemmas
 pub mod FinishLemmas

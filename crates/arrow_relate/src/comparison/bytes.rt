@@ -1,7 +1,8 @@
 //! Relations of rows of bytes, of texts and of any bytes alike.
 
-ghost use Rattle.std.specs.Prelude.{◌≡◌, ◌+◌, ◌<◌, ◌≤◌, ℕ, List, Some, length, map, refl, slice_get, slice_index, IfOk, IsOkUnless, IsUtf8};
+ghost use Rattle.std.specs.Prelude.{◌≡◌, ◌+◌, ◌<◌, ◌≤◌, ℕ, List, Some, length, map, refl, slice_get, slice_index, IfOk, IsOkUnless};
 ghost use Rattle.std.specs.Ordering.{is_eq};
+ghost use Rattle.std.specs.Slice.Scan.{IsFirstPlace, differ};
 ghost use Rattle.arrow_types.specs.declared.error.Error.{Error};
 ghost use Rattle.arrow_types.specs.ArrowType.{boolean, plain};
 ghost use Rattle.arrow_types.specs.Relation.{Relation as RowRelation, byte_order, holds, related};
@@ -23,6 +24,10 @@ use arrow_types::types::{Index, Offset};
 use std::alloc::Global;
 use std::cmp::Ordering;
 use std::marker::{Model, PhantomData};
+use std::simd::prelude::*;
+
+/// How many bytes are compared at once.
+const BLOCK: usize = 16;
 
 /// Whether each row of the left side equals that of the right one, and null where one of the two is.
 ///
@@ -227,10 +232,14 @@ pub trait ComparedBytes: ByteKind {
     ///
     /// # Requires
     /// Both are rows of the kind.
+    #[inline(never)]
     fn are_equal(left: &[u8], right: &[u8]) -> bool
         requires left { Self.Allows left.now }
         requires right { Self.Allows right.now }
-        ensures { result ≡ is_eq (byte_order left.now right.now) };
+        ensures { result ≡ is_eq (byte_order left.now right.now) }
+    {
+        left == right
+    }
 
     /// How two rows compare, by the first byte that differs, unsigned; a beginning comes before what goes on.
     ///
@@ -239,41 +248,19 @@ pub trait ComparedBytes: ByteKind {
     fn order(left: &[u8], right: &[u8]) -> Ordering
         requires left { Self.Allows left.now }
         requires right { Self.Allows right.now }
-        ensures { result ≡ byte_order left.now right.now };
+        ensures { result ≡ byte_order left.now right.now }
+    {
+        left.cmp(right)
+    }
 
     ghost related_slots: { (op : RowRelation) (x y : List ℕ) → related op (Self.slot x) (Self.slot y) ≡ Boolean (holds op (byte_order x y)) };
 }
 
-// As texts, which std compares many bytes at a time.
 impl ComparedBytes for Text {
-    fn are_equal(left: &[u8], right: &[u8]) -> bool {
-        left.len() == right.len() && as_text(left) == as_text(right)
-    }
-
-    fn order(left: &[u8], right: &[u8]) -> Ordering {
-        as_text(left).cmp(as_text(right))
-    }
-
     ghost related_slots = { λ op x y. refl };
 }
 
-/// The text of bytes that are UTF-8.
-fn as_text(bytes: &[u8]) -> &str
-    requires { IsUtf8 bytes.now }
-    ensures { result.now ≡ bytes.now }
-{
-    unsafe { str::from_utf8_unchecked(bytes) }
-}
-
 impl ComparedBytes for Binary {
-    fn are_equal(left: &[u8], right: &[u8]) -> bool {
-        left == right
-    }
-
-    fn order(left: &[u8], right: &[u8]) -> Ordering {
-        left.cmp(right)
-    }
-
     ghost related_slots = { λ op x y. refl };
 }
 
@@ -283,25 +270,25 @@ pub(crate) trait ByteTest: FixedRelation {
     ///
     /// # Requires
     /// Both are rows of the kind.
-    fn of_bytes<K: ComparedBytes>(left: &[u8], right: &[u8]) -> bool
+    fn of_rows<K: ComparedBytes>(left: &Row<'_>, right: &Row<'_>) -> bool
         requires left { K.Allows left.now }
         requires right { K.Allows right.now }
         ensures { Boolean result ≡ related Self.op (K.slot left.now) (K.slot right.now) }
     {
-        Self::holds(K::order(left, right))
+        Self::holds(order_of_rows::<K>(left, right))
     }
 }
 
 // Rows that are not as long differ without a look at their bytes.
 impl ByteTest for Equal {
-    fn of_bytes<K: ComparedBytes>(left: &[u8], right: &[u8]) -> bool {
-        K::are_equal(left, right)
+    fn of_rows<K: ComparedBytes>(left: &Row<'_>, right: &Row<'_>) -> bool {
+        are_equal_rows::<K>(left, right)
     }
 }
 
 impl ByteTest for NotEqual {
-    fn of_bytes<K: ComparedBytes>(left: &[u8], right: &[u8]) -> bool {
-        !K::are_equal(left, right)
+    fn of_rows<K: ComparedBytes>(left: &Row<'_>, right: &Row<'_>) -> bool {
+        !are_equal_rows::<K>(left, right)
     }
 }
 
@@ -312,6 +299,99 @@ impl ByteTest for LessOrEqual {}
 impl ByteTest for Greater {}
 
 impl ByteTest for GreaterOrEqual {}
+
+/// Whether two rows have the same bytes.
+///
+/// # Requires
+/// Both are rows of the kind.
+fn are_equal_rows<K: ComparedBytes>(left: &Row<'_>, right: &Row<'_>) -> bool
+    requires left { K.Allows left.now }
+    requires right { K.Allows right.now }
+    ensures { result ≡ is_eq (byte_order left.now right.now) }
+{
+    if left.len != right.len {
+        return false;
+    }
+    let (from, other) = (left.from, right.from);
+    if BLOCK <= from.len() && BLOCK <= other.len() {
+        let alike = alike(from, other);
+        if left.len <= alike {
+            return true;
+        }
+        if alike < BLOCK {
+            return false;
+        }
+    }
+    K::are_equal(left.bytes(), right.bytes())
+}
+
+/// How two rows compare.
+///
+/// # Requires
+/// Both are rows of the kind.
+fn order_of_rows<K: ComparedBytes>(left: &Row<'_>, right: &Row<'_>) -> Ordering
+    requires left { K.Allows left.now }
+    requires right { K.Allows right.now }
+    ensures { result ≡ byte_order left.now right.now }
+{
+    let (from, other) = (left.from, right.from);
+    if BLOCK <= from.len() && BLOCK <= other.len() {
+        let both = left.len.min(right.len);
+        let alike = alike(from, other);
+        if both <= alike {
+            return left.len.cmp(&right.len);
+        }
+        if alike < BLOCK {
+            return from[alike].cmp(&other[alike]);
+        }
+    }
+    K::order(left.bytes(), right.bytes())
+}
+
+/// How many bytes of a block are alike, up to the first two that differ.
+fn alike(left: &[u8], right: &[u8]) -> usize
+    requires left { 16 ≤ length left.now }
+    requires right { 16 ≤ length right.now }
+    ensures { IsFirstPlace (differ left.now right.now) 0 16 result }
+{
+    let differ = u8x16::from_slice(left)
+        .simd_ne(u8x16::from_slice(right))
+        .to_bitmask();
+    if differ == 0 {
+        return BLOCK;
+    }
+    differ.trailing_zeros() as usize
+}
+
+/// A row, with what lies behind it in its buffer.
+#[derive(Drop)]
+pub(crate) struct Row<'a> {
+    from: &'a [u8],
+    len: usize,
+}
+
+impl<'a> Model for Row<'a> {
+    ghost use Rattle.std.specs.Prelude.{ℕ, ◌≤◌, List, length, take};
+    ghost use Rattle.std.specs.Coded.{coded_list, coded_ℕ};
+
+    ghost Value = { List ℕ };
+
+    ghost coded = { coded_list coded_ℕ };
+
+    ghost view = { λ a. take a.len a.from.now };
+
+    ghost invariant = { λ a. a.len ≤ length a.from.now };
+}
+
+impl<'a> Row<'a> {
+    /// Its bytes.
+    fn bytes(&self) -> &'a [u8]
+        ensures { result.now ≡ self.now }
+    {
+        let from = self.from;
+        &from[..self.len]
+    }
+}
 
 /// Rows of bytes, lent as the slices that hold them.
 #[derive(Drop)]
@@ -353,15 +433,18 @@ impl<'a, O: Offset, K: ByteKind> LentRows<'a, O, K> {
         self.offsets.len() - 1
     }
 
-    /// The bytes of row `i`.
-    fn row(&self, i: usize) -> &'a [u8]
+    /// Row `i`.
+    fn row(&self, i: usize) -> Row<'a>
         requires { i < length (row_bytes self.now) }
-        ensures row { slice_get (row_bytes self.now) i ≡ Some result.now }
-        ensures kind { K.Allows result.now }
+        ensures row { slice_get (row_bytes self.now) i ≡ Some result }
+        ensures kind { K.Allows result }
     {
         let bytes = self.bytes;
         let (start, end) = self.start_end(i);
-        &bytes[start..end]
+        Row {
+            from: &bytes[start..],
+            len: end - start,
+        }
     }
 
     /// Where row `i` begins and ends.
@@ -390,7 +473,7 @@ fn are_related<'a, R: ByteTest, O: Offset, K: ComparedBytes>(
     requires right { row < length (row_bytes right.now) }
     ensures { slice_get (row_by_row (related R.op) (byte_slots K.slot left.now) (byte_slots K.slot right.now)) row ≡ Some (Boolean result) }
 {
-    R::of_bytes::<K>(left.row(row), right.row(row))
+    R::of_rows::<K>(&left.row(row), &right.row(row))
 }
 
 /// Whether the relation holds of a row and a scalar.
@@ -399,14 +482,14 @@ fn are_related<'a, R: ByteTest, O: Offset, K: ComparedBytes>(
 /// There is the row, and the scalar is one of the kind.
 fn is_related<'a, R: ByteTest, O: Offset, K: ComparedBytes>(
     rows: &LentRows<'a, O, K>,
-    scalar: &[u8],
+    scalar: &Row<'_>,
     row: usize,
 ) -> bool
     requires row { row < length (row_bytes rows.now) }
     requires scalar { K.Allows scalar.now }
     ensures { slice_get (map (λ s. related R.op s (K.slot scalar.now)) (byte_slots K.slot rows.now)) row ≡ Some (Boolean result) }
 {
-    R::of_bytes::<K>(rows.row(row), scalar)
+    R::of_rows::<K>(&rows.row(row), scalar)
 }
 
 impl<O: Offset, K: ComparedBytes, R: ByteTest> RelatedBy<R> for ByteRows<O, K> {
@@ -437,10 +520,14 @@ impl<'a, O: Offset, K: ComparedBytes, R: ByteTest> RelatedToScalar<R, &'a [u8]> 
         rhs: &'a [u8],
     ) -> Result<Bitmap, Error> {
         let rows = LentRows::of(lhs);
+        let scalar = Row {
+            from: rhs,
+            len: rhs.len(),
+        };
         Bitmap::collect_bool(
             alloc,
             rows.len(),
-            |row| is_related::<R, O, K>(&rows, rhs, row),
+            |row| is_related::<R, O, K>(&rows, &scalar, row),
         )
     }
 }
