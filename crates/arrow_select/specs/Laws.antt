@@ -1,11 +1,11 @@
 -- What the kernels' laws are stated by.
-use Rattle.std.specs.Prelude.{ℕ, ◌+◌, ℤ, pos, Bool, true, None, List, [], ◌∷◌, map, replicate, if◌then◌else◌}
+use Rattle.std.specs.Prelude.{◌≡◌, ℕ, ◌+◌, ℤ, pos, Bool, true, None, List, [], ◌∷◌, map, replicate, if◌then◌else◌}
 use Rattle.arrow_types.specs.declared.datatypes.UnionMode.TheVariants.{Dense}
 use Rattle.arrow_types.specs.ArrowType.{ArrowType, plain, null, union, field, no_fields, more_fields}
 use Rattle.arrow_types.specs.Fits.{Fits}
 use Rattle.arrow_types.specs.Rows.{chosen, gather, mask_of, select, shifted}
 use Rattle.arrow_types.specs.Slot.{Slot, Null, Number, Variant}
-use Rattle.arrow_arrays.specs.Any.{any_array_rows, any_array_type}
+use Rattle.arrow_arrays.specs.Any.{any_array_meaning, any_array_rows, any_array_type}
 use Rattle.arrow_arrays.specs.Layout.{Layout}
 use Rattle.arrow_arrays.specs.declared.array.any.AnyArray.{AnyArray}
 use Rattle.arrow_select.specs.Selected.{selected_rows}
@@ -36,6 +36,10 @@ gathered_of indices array = (any_array_type array, gather (any_array_rows array)
 -- and `if_then_else` by the rows of a predicate
 abbrev pub chosen_of : List Slot → AnyArray → AnyArray → ArrowType × List Slot
 chosen_of ps left right = (any_array_type left, chosen ps (any_array_rows left) (any_array_rows right) (any_array_type left))
+
+-- an array of this type and these rows
+abbrev pub IsChoice : List Slot → AnyArray → AnyArray → AnyArray → Type 0
+IsChoice ps left right all = any_array_meaning all ≡ chosen_of ps left right
 
 -- rows that fit their type
 abbrev pub RowsFit : ArrowType × List Slot → Type 0

@@ -12,7 +12,7 @@ ghost use Rattle.arrow_arrays.specs.KeyedParts.{AreKeys};
 ghost use Rattle.arrow_arrays.specs.Layout.{rows, type_of_layout};
 ghost use Rattle.arrow_select.specs.Arrays.{rows_in, types_in};
 ghost use Rattle.arrow_select.specs.Keys.{HasNoDictionary};
-ghost use Rattle.arrow_select.specs.Laws.{RowsFit, chosen_of, dense_nulls, dense_rows, gathered_of, kept_columns, kept_of, selected_of, shifted_of, true_places};
+ghost use Rattle.arrow_select.specs.Laws.{IsChoice, RowsFit, chosen_of, dense_nulls, dense_rows, gathered_of, kept_columns, kept_of, selected_of, shifted_of, true_places};
 ghost use Rattle.arrow_select.specs.Selected.{FirstDoesNotFit};
 ghost use Rattle.arrow_select.specs.Taken.{CanTake, IsNotTaken};
 
@@ -199,8 +199,8 @@ pub fn choice_goes_by_rows(
     requires predicates { boolean_rows other_predicate.now ≡ boolean_rows predicate.now }
     requires left { any_array_meaning other_lhs.now ≡ any_array_meaning lhs.now }
     requires right { any_array_meaning other_rhs.now ≡ any_array_meaning rhs.now }
-    requires all { any_array_meaning all.now ≡ chosen_of (boolean_rows predicate.now) lhs.now rhs.now }
-    requires other { any_array_meaning other_all.now ≡ chosen_of (boolean_rows other_predicate.now) other_lhs.now other_rhs.now }
+    requires all { IsChoice (boolean_rows predicate.now) lhs.now rhs.now all.now }
+    requires other { IsChoice (boolean_rows other_predicate.now) other_lhs.now other_rhs.now other_all.now }
     ensures { any_array_meaning other_all.now ≡ any_array_meaning all.now }
 {}
 
@@ -329,7 +329,7 @@ pub fn choice_fits_alike(
     requires predicates { boolean_rows other_predicate.now ≡ boolean_rows predicate.now }
     requires left { any_array_meaning other_lhs.now ≡ any_array_meaning lhs.now }
     requires right { any_array_meaning other_rhs.now ≡ any_array_meaning rhs.now }
-    requires all { any_array_meaning all.now ≡ chosen_of (boolean_rows predicate.now) lhs.now rhs.now }
+    requires all { IsChoice (boolean_rows predicate.now) lhs.now rhs.now all.now }
     requires fits { RowsFit (any_array_meaning all.now) }
     requires no_dictionary { HasNoDictionary (any_array_type all.now) }
     ensures no_dictionary { HasNoDictionary (any_array_type other_lhs.now) }
