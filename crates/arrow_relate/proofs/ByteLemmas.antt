@@ -1,15 +1,8 @@
 -- Relations of rows of bytes that are lent as slices.
-use Rattle.std.proofs.Common.{◌≡◌, ℕ, ◌<◌, ℤ, pos, Bool, true, false, Some, List, length, map, get_or, slice_index, unsigned_abs, refl, ap, sym, subst, ◌∙◌}
-use Rattle.std.specs.Prelude.{option_map, slice_get, nat_eq}
-use Rattle.std.specs.Bool.{Decides}
-use Rattle.std.specs.Ordering.{is_eq}
-use Rattle.std.specs.Str.{bytes_eq}
-use Rattle.std.proofs.lemmas.Bool.Decides.{Decides-eqb}
+use Rattle.std.proofs.Common.{◌≡◌, ℕ, ◌<◌, ℤ, pos, Bool, Some, List, length, map, get_or, slice_index, unsigned_abs, ap, sym, subst, ◌∙◌}
+use Rattle.std.specs.Prelude.{option_map, slice_get}
 use Rattle.std.proofs.lemmas.List.{length-map}
-use Rattle.std.proofs.lemmas.Map.Text.{is_eq-slice_cmp}
 use Rattle.std.proofs.lemmas.Option.{slice_get-map}
-use Rattle.std.proofs.lemmas.Slice.Eq.{bytes_eq-Decides}
-use Rattle.arrow_types.specs.Relation.{byte_order}
 use Rattle.arrow_types.specs.Slot.{Slot, Boolean}
 use Rattle.arrow_memory.proofs.OffsetLemmas.{as_seen, number_at}
 use Rattle.arrow_flat.specs.ByteRows.{ByteParts, AreByteRows}

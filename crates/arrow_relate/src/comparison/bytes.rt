@@ -228,31 +228,6 @@ pub fn relate<O: Offset, K: ComparedBytes>(
 
 /// A kind of rows that are compared by their bytes.
 pub trait ComparedBytes: ByteKind {
-    /// Whether two rows have the same bytes: their lengths are compared first.
-    ///
-    /// # Requires
-    /// Both are rows of the kind.
-    #[inline(never)]
-    fn are_equal(left: &[u8], right: &[u8]) -> bool
-        requires left { Self.Allows left.now }
-        requires right { Self.Allows right.now }
-        ensures { result ≡ is_eq (byte_order left.now right.now) }
-    {
-        left == right
-    }
-
-    /// How two rows compare, by the first byte that differs, unsigned; a beginning comes before what goes on.
-    ///
-    /// # Requires
-    /// Both are rows of the kind.
-    fn order(left: &[u8], right: &[u8]) -> Ordering
-        requires left { Self.Allows left.now }
-        requires right { Self.Allows right.now }
-        ensures { result ≡ byte_order left.now right.now }
-    {
-        left.cmp(right)
-    }
-
     ghost related_slots: { (op : RowRelation) (x y : List ℕ) → related op (Self.slot x) (Self.slot y) ≡ Boolean (holds op (byte_order x y)) };
 }
 
@@ -267,28 +242,23 @@ impl ComparedBytes for Binary {
 /// A relation of two rows of bytes.
 pub(crate) trait ByteTest: FixedRelation {
     /// Whether it holds of them.
-    ///
-    /// # Requires
-    /// Both are rows of the kind.
     fn of_rows<K: ComparedBytes>(left: &Row<'_>, right: &Row<'_>) -> bool
-        requires left { K.Allows left.now }
-        requires right { K.Allows right.now }
         ensures { Boolean result ≡ related Self.op (K.slot left.now) (K.slot right.now) }
     {
-        Self::holds(order_of_rows::<K>(left, right))
+        Self::holds(order(left, right))
     }
 }
 
 // Rows that are not as long differ without a look at their bytes.
 impl ByteTest for Equal {
     fn of_rows<K: ComparedBytes>(left: &Row<'_>, right: &Row<'_>) -> bool {
-        are_equal_rows::<K>(left, right)
+        are_equal(left, right)
     }
 }
 
 impl ByteTest for NotEqual {
     fn of_rows<K: ComparedBytes>(left: &Row<'_>, right: &Row<'_>) -> bool {
-        !are_equal_rows::<K>(left, right)
+        !are_equal(left, right)
     }
 }
 
@@ -301,12 +271,7 @@ impl ByteTest for Greater {}
 impl ByteTest for GreaterOrEqual {}
 
 /// Whether two rows have the same bytes.
-///
-/// # Requires
-/// Both are rows of the kind.
-fn are_equal_rows<K: ComparedBytes>(left: &Row<'_>, right: &Row<'_>) -> bool
-    requires left { K.Allows left.now }
-    requires right { K.Allows right.now }
+fn are_equal(left: &Row<'_>, right: &Row<'_>) -> bool
     ensures { result ≡ is_eq (byte_order left.now right.now) }
 {
     if left.len != right.len {
@@ -322,16 +287,19 @@ fn are_equal_rows<K: ComparedBytes>(left: &Row<'_>, right: &Row<'_>) -> bool
             return false;
         }
     }
-    K::are_equal(left.bytes(), right.bytes())
+    are_equal_slices(left.bytes(), right.bytes())
 }
 
-/// How two rows compare.
-///
-/// # Requires
-/// Both are rows of the kind.
-fn order_of_rows<K: ComparedBytes>(left: &Row<'_>, right: &Row<'_>) -> Ordering
-    requires left { K.Allows left.now }
-    requires right { K.Allows right.now }
+/// The same by the slices, in a call of its own.
+#[inline(never)]
+fn are_equal_slices(left: &[u8], right: &[u8]) -> bool
+    ensures { result ≡ is_eq (byte_order left.now right.now) }
+{
+    left == right
+}
+
+/// How two rows compare, by the first byte that differs, unsigned; a beginning comes before what goes on.
+fn order(left: &Row<'_>, right: &Row<'_>) -> Ordering
     ensures { result ≡ byte_order left.now right.now }
 {
     let (from, other) = (left.from, right.from);
@@ -345,7 +313,7 @@ fn order_of_rows<K: ComparedBytes>(left: &Row<'_>, right: &Row<'_>) -> Ordering
             return from[alike].cmp(&other[alike]);
         }
     }
-    K::order(left.bytes(), right.bytes())
+    left.bytes().cmp(right.bytes())
 }
 
 /// How many bytes of a block are alike, up to the first two that differ.
@@ -384,6 +352,16 @@ impl<'a> Model for Row<'a> {
 }
 
 impl<'a> Row<'a> {
+    /// Bytes with none behind them.
+    fn whole(bytes: &'a [u8]) -> Row<'a>
+        ensures { result ≡ bytes.now }
+    {
+        Row {
+            from: bytes,
+            len: bytes.len(),
+        }
+    }
+
     /// Its bytes.
     fn bytes(&self) -> &'a [u8]
         ensures { result.now ≡ self.now }
@@ -436,8 +414,7 @@ impl<'a, O: Offset, K: ByteKind> LentRows<'a, O, K> {
     /// Row `i`.
     fn row(&self, i: usize) -> Row<'a>
         requires { i < length (row_bytes self.now) }
-        ensures row { slice_get (row_bytes self.now) i ≡ Some result }
-        ensures kind { K.Allows result }
+        ensures { slice_get (row_bytes self.now) i ≡ Some result }
     {
         let bytes = self.bytes;
         let (start, end) = self.start_end(i);
@@ -479,14 +456,13 @@ fn are_related<'a, R: ByteTest, O: Offset, K: ComparedBytes>(
 /// Whether the relation holds of a row and a scalar.
 ///
 /// # Requires
-/// There is the row, and the scalar is one of the kind.
+/// There is the row.
 fn is_related<'a, R: ByteTest, O: Offset, K: ComparedBytes>(
     rows: &LentRows<'a, O, K>,
     scalar: &Row<'_>,
     row: usize,
 ) -> bool
-    requires row { row < length (row_bytes rows.now) }
-    requires scalar { K.Allows scalar.now }
+    requires { row < length (row_bytes rows.now) }
     ensures { slice_get (map (λ s. related R.op s (K.slot scalar.now)) (byte_slots K.slot rows.now)) row ≡ Some (Boolean result) }
 {
     R::of_rows::<K>(&rows.row(row), scalar)
@@ -520,10 +496,7 @@ impl<'a, O: Offset, K: ComparedBytes, R: ByteTest> RelatedToScalar<R, &'a [u8]> 
         rhs: &'a [u8],
     ) -> Result<Bitmap, Error> {
         let rows = LentRows::of(lhs);
-        let scalar = Row {
-            from: rhs,
-            len: rhs.len(),
-        };
+        let scalar = Row::whole(rhs);
         Bitmap::collect_bool(
             alloc,
             rows.len(),

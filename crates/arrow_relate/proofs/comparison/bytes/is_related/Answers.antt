@@ -5,4 +5,4 @@ use Rattle.arrow_relate.proofs.comparison.bytes.is_related.Goals as goal
 
 pub returns : goal.returns
 returns g c =
-    given_of g.K.ByteKind.slot (λ s. related g.R.FixedRelation.op s (g.K.ByteKind.slot c.args.scalar.now)) (row_bytes c.args.rows.now) c.args.row c.row.result c.of_bytes.result c.row.ensures.row c.of_bytes.ensures
+    given_of g.K.ByteKind.slot (λ s. related g.R.FixedRelation.op s (g.K.ByteKind.slot c.args.scalar.now)) (row_bytes c.args.rows.now) c.args.row c.row.result c.of_rows.result c.row.ensures c.of_rows.ensures
