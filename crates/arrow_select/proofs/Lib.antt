@@ -5,6 +5,7 @@ pub mod FilterLemmas
 pub mod IndexLemmas
 pub mod KeyLemmas
 pub mod LawLemmas
+pub mod RangeLemmas
 pub mod SetBytes
 pub mod SetLemmas
 pub mod ShiftLemmas

@@ -4,6 +4,7 @@ pub mod Examples
 pub mod Growing
 pub mod Keys
 pub mod Laws
+pub mod Ranges
 pub mod Refusals
 pub mod Selected
 pub mod Spans
