@@ -5,7 +5,9 @@ pub mod FilterLemmas
 pub mod IndexLemmas
 pub mod KeyLemmas
 pub mod LawLemmas
+pub mod PlanLemmas
 pub mod RangeLemmas
+pub mod RunBits
 pub mod SetBytes
 pub mod SetLemmas
 pub mod ShiftLemmas
