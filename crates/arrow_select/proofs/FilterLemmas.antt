@@ -79,7 +79,7 @@ nil_under : (validity : List Bool) → ◌≡◌ {A = List Slot} (mask validity 
 nil_under [] = refl
 nil_under (b ∷ validity) = refl
 
-select_is : (m : List Bool) (xs : List Slot) → select m xs ≡ at_set m xs
+pub select_is : (m : List Bool) (xs : List Slot) → select m xs ≡ at_set m xs
 select_is [] xs = refl
 select_is (b ∷ m) [] = refl
 select_is (true ∷ m) (x ∷ xs) = ap (λ ys. x ∷ ys) (select_is m xs)

@@ -2,11 +2,17 @@ pub mod ArrayLemmas
 pub mod ChoiceLemmas
 pub mod ChunkLemmas
 pub mod EdgeLemmas
+pub mod ExtendLemmas
 pub mod FilterLemmas
+pub mod GrownRanges
 pub mod IndexLemmas
 pub mod KeptLemmas
 pub mod KeyLemmas
 pub mod LawLemmas
+pub mod PlanLemmas
+pub mod RangeLemmas
+pub mod RangedLemmas
+pub mod RunBits
 pub mod SetBytes
 pub mod SetLemmas
 pub mod ShiftLemmas

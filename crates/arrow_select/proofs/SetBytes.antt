@@ -41,7 +41,7 @@ unset_places (suc n) i bits =
     let at : i + 1 + n ≡ i + suc n = omega arith in
     unset_places n (i + 1) bits ∙ ap (λ k. places_from k bits) at
 
-set_places : (n i : ℕ) (bits : List Bool) → places_from i (replicate n true ++ bits) ≡ range_with_len i n ++ places_from (i + n) bits
+pub set_places : (n i : ℕ) (bits : List Bool) → places_from i (replicate n true ++ bits) ≡ range_with_len i n ++ places_from (i + n) bits
 set_places zero i bits =
     let at : i ≡ i + 0 = omega arith in
     ap (λ k. places_from k bits) at
@@ -156,10 +156,10 @@ set_by_place g xs (b ∷ mask) i reads long =
     ap (at_set (b ∷ mask)) here ∙ by b
 
 -- the bytes of a row
-abbrev row_in : List ℕ → List ℕ → ℕ → List ℕ
+abbrev pub row_in : List ℕ → List ℕ → ℕ → List ℕ
 row_in os bytes n = sliced bytes (slice_index os n) (row_length os n)
 
-set_bytes : (os bytes : List ℕ) (mask : List Bool) (i : ℕ) → valid_values mask os bytes i ≡ concat (map (row_in os bytes) (places_from i mask))
+pub set_bytes : (os bytes : List ℕ) (mask : List Bool) (i : ℕ) → valid_values mask os bytes i ≡ concat (map (row_in os bytes) (places_from i mask))
 set_bytes os bytes [] i = refl
 set_bytes os bytes (true ∷ mask) i = ap (λ ys. row_in os bytes i ++ ys) (set_bytes os bytes mask (i + 1))
 set_bytes os bytes (false ∷ mask) i = set_bytes os bytes mask (i + 1)

@@ -104,9 +104,10 @@ above_lowest : (w i : ℕ) → (w - 1) / 2 ≡ w / 2 → 0 < i → bit_at (w - 1
 above_lowest w zero half above = absurd (omega (arith, above))
 above_lowest w (suc i) half above = bit_at-suc (w - 1) i ∙ (ap (λ n. bit_at n i) half ∙ sym (bit_at-suc w i))
 
--- one less than a number has the same bits above the lowest one that is set, and not that one
+-- one less than a number has the same bits above the lowest one that is set, not that one, and all below it
 pub record LosesLowest (w k : ℕ) : Type 0 where
   pub some : 0 < w
+  pub ones : (i : ℕ) → i < k → bit_at (w - 1) i ≡ 1
   pub unset : bit_at (w - 1) k ≡ 0
   pub above : (i : ℕ) → k < i → bit_at (w - 1) i ≡ bit_at w i
 
@@ -115,11 +116,17 @@ above_half w v k zero half whole rest from = absurd (omega (arith, from))
 above_half w v k (suc i) half whole rest from =
     bit_at-suc (w - 1) i ∙ (ap (λ n. bit_at n i) half ∙ (rest i (omega (arith, from)) ∙ (ap (λ n. bit_at n i) (sym whole) ∙ sym (bit_at-suc w i))))
 
-one_less : (w k : ℕ) → ((i : ℕ) → i < k → bit_at w i ≡ 0) → bit_at w k ≡ 1 → LosesLowest w k
+ones_half : (w v k i : ℕ) → 0 < w → w % 2 ≡ 0 → (w - 1) / 2 ≡ v → ((i : ℕ) → i < k → bit_at v i ≡ 1) → i < suc k → bit_at (w - 1) i ≡ 1
+ones_half w v k zero some even half rest to = bit_at_lowest (w - 1) ∙ omega (arith, some, even)
+ones_half w v k (suc i) some even half rest to =
+    bit_at-suc (w - 1) i ∙ (ap (λ n. bit_at n i) half ∙ rest i (omega (arith, to)))
+
+pub one_less : (w k : ℕ) → ((i : ℕ) → i < k → bit_at w i ≡ 0) → bit_at w k ≡ 1 → LosesLowest w k
 one_less w zero below one =
     let odd : w % 2 ≡ 1 = sym (bit_at_lowest w) ∙ one in
     record {
       some = omega (arith, odd);
+      ones = λ i to. absurd (omega (arith, to));
       unset = bit_at_lowest (w - 1) ∙ omega (arith, odd);
       above = λ i from. above_lowest w i (omega (arith, odd)) from;
     }
@@ -129,6 +136,7 @@ one_less w (suc k) below one =
     let half : (w - 1) / 2 ≡ w / 2 - 1 = omega (arith, even, rest.some) in
     record {
       some = omega (arith, rest.some);
+      ones = λ i to. ones_half w (w / 2 - 1) k i (omega (arith, rest.some)) even half rest.ones to;
       unset = bit_at-suc (w - 1) k ∙ (ap (λ n. bit_at n k) half ∙ rest.unset);
       above = λ i from. above_half w (w / 2) k i half refl rest.above from;
     }

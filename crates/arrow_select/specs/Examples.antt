@@ -7,12 +7,14 @@ use Rattle.std.proofs.lemmas.List.Sums.{sum_by-append}
 use Rattle.arrow_types.specs.declared.datatypes.IntegerType.TheVariants.{Int8, Int32}
 use Rattle.arrow_types.specs.ArrowType.{ArrowType, boolean, dictionary, extension, field, integer, list, mapped, more_fields, no_fields, plain, small, struct, utf8}
 use Rattle.arrow_types.specs.Fits.{Fits, byte_count}
+use Rattle.arrow_types.specs.Ranges.{named, true_rows}
 use Rattle.arrow_types.specs.Rows.{chosen, gather, joined, mask_of, select}
 use Rattle.arrow_types.specs.Slot.{Slot, Boolean, Null, Number}
 use Rattle.arrow_flat.specs.Parts.{Parts, boolean_rows}
 use Rattle.arrow_arrays.specs.Layout.{Layout, flat, keyed}
 use Rattle.arrow_select.specs.Choice.{ChosenIsCrowded}
 use Rattle.arrow_select.specs.Laws.{true_places}
+use Rattle.arrow_select.specs.Ranges.{mask_at, sides_from}
 use Rattle.arrow_select.specs.Refusals.{PassesLength}
 use Rattle.arrow_select.specs.Selected.{selected_rows}
 use Rattle.arrow_select.specs.Taken.{HasTake, IsTaken}
@@ -93,3 +95,14 @@ keys_over key =
 
 chosen_is_crowded : ChosenIsCrowded (Boolean false ∷ []) (keys_over 99) (keys_over 28)
 chosen_is_crowded = (0, refl, (28, refl, omega arith))
+
+-- of the mask [t, t, f, t] the ranges from row 0 on, two, and from row 3 on, one, name the rows, and give it back
+three_named : named ((0, 2) ∷ (3, 1) ∷ []) ≡ true_rows 0 (true ∷ true ∷ false ∷ true ∷ [])
+three_named = refl
+
+mask_again : mask_at 0 4 (named ((0, 2) ∷ (3, 1) ∷ [])) ≡ true ∷ true ∷ false ∷ true ∷ []
+mask_again = refl
+
+-- [t, null, f] names the left side, nulls and the right side
+three_sides : sides_from 0 (Boolean true ∷ Null ∷ Boolean false ∷ []) ≡ (0, 0) ∷ (2, 1) ∷ (1, 2) ∷ []
+three_sides = refl

@@ -1,10 +1,13 @@
 pub mod Arrays
 pub mod Choice
 pub mod Examples
+pub mod Extended
 pub mod Growing
 pub mod Keys
 pub mod Laws
+pub mod Ranges
 pub mod Refusals
 pub mod Selected
+pub mod Selection
 pub mod Spans
 pub mod Taken

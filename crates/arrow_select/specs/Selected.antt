@@ -36,3 +36,13 @@ pub record IsRunOf (word first count : ℕ) : Type 0 where
   pub below : (k : ℕ) → k < first → bit_at word k ≡ 0
   pub ones : (k : ℕ) → k < count → bit_at word (first + k) ≡ 1
   pub above : (k : ℕ) → first + count ≤ k → bit_at word k ≡ 0
+
+-- the lowest set bits of a word that lie one behind the other, from one place up to another, and the word without them
+pub record IsLowestRun (word start end rest : ℕ) : Type 0 where
+  pub rises : start < end
+  pub within : end ≤ 64
+  pub below : (i : ℕ) → i < start → bit_at word i ≡ 0
+  pub ones : (i : ℕ) → start ≤ i → i < end → bit_at word i ≡ 1
+  pub taken : (i : ℕ) → i < end → bit_at rest i ≡ 0
+  pub above : (i : ℕ) → end ≤ i → bit_at rest i ≡ bit_at word i
+  pub less : rest < word

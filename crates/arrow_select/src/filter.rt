@@ -11,15 +11,22 @@ ghost use Rattle.arrow_flat.specs.Parts.{boolean_rows};
 ghost use Rattle.arrow_memory.specs.Grown.{IsGrowthError};
 ghost use Rattle.arrow_select.specs.Selected.{FirstDoesNotFit, selected_rows};
 
+mod any;
 mod boolean;
 mod bytes;
 mod prepared;
 mod primitive;
+mod ranged;
+mod ranges;
+mod selection;
 mod words;
 
+use crate::filter::any::{count_set, kept, mask_of_predicate};
+use crate::filter::selection::Selection;
 use arrow_arrays::array::AnyArray;
 use arrow_arrays::chunk::Chunk;
 use arrow_flat::array::BooleanArray;
+use arrow_memory::bitmap::Bitmap;
 use arrow_types::error::Error;
 pub use prepared::{Filter, build_filter};
 use std::alloc::Global;
@@ -43,11 +50,11 @@ pub fn filter(alloc: Global, array: &AnyArray, filter: &BooleanArray) -> Result<
     ensures overflow { result ≡ Err Error.Overflow → Fits (any_array_type array.now) (select (mask_of (boolean_rows filter.now)) (any_array_rows array.now)) → ⊥ }
     ensures others { IfErr result IsGrowthError }
 {
-    let prepared = build_filter(alloc, filter)?;
-    prepared.apply(alloc, array)
+    let mask = mask_of_predicate(alloc, filter)?;
+    kept(alloc, array, Selection::Mask(&mask), count_set(&mask))
 }
 
-/// Of each column the rows at which the predicate is true, the columns in their order. The predicate is prepared once.
+/// Of each column the rows at which the predicate is true, the columns in their order. The mask of the predicate is made once.
 /// A null of it counts as false, whatever is stored beneath it, with any number of columns.
 ///
 /// # Requires
@@ -70,30 +77,31 @@ pub fn filter_chunk(
     ensures overflow { result ≡ Err Error.Overflow → FirstDoesNotFit (mask_of (boolean_rows filter_values.now)) columns.now }
     ensures others { IfErr result IsGrowthError }
 {
-    let prepared = build_filter(alloc, filter_values)?;
-    let kept = filter_columns(alloc, columns.arrays(), &prepared)?;
+    let mask = mask_of_predicate(alloc, filter_values)?;
+    let kept = filter_columns(alloc, columns.arrays(), &mask)?;
     let Ok(chunk) = Chunk::try_new(kept) else {
         unreachable!();
     };
     Ok(chunk)
 }
 
-/// The rows of each column that a prepared filter keeps.
+/// The rows of each column at which the mask is set.
 fn filter_columns(
     alloc: Global,
     columns: &[AnyArray],
-    filter: &Filter,
+    mask: &Bitmap,
 ) -> Result<Vec<AnyArray>, Error>
-    requires lengths { HaveRows (length filter.now) (map layout_of columns.now) }
+    requires lengths { HaveRows (length mask.now) (map layout_of columns.now) }
     ensures types { IfOk result (λ kept. map type_of_layout (map layout_of kept.items) ≡ map type_of_layout (map layout_of columns.now)) }
-    ensures rows { IfOk result (λ kept. map rows (map layout_of kept.items) ≡ map (selected_rows filter.now) (map layout_of columns.now)) }
+    ensures rows { IfOk result (λ kept. map rows (map layout_of kept.items) ≡ map (selected_rows mask.now) (map layout_of columns.now)) }
     ensures fits { IfOk result (λ kept. All (λ column. Fits (type_of_layout column) (rows column)) (map layout_of kept.items)) }
-    ensures overflow { result ≡ Err Error.Overflow → FirstDoesNotFit filter.now (map layout_of columns.now) }
+    ensures overflow { result ≡ Err Error.Overflow → FirstDoesNotFit mask.now (map layout_of columns.now) }
     ensures others { IfErr result IsGrowthError }
 {
-    let mut kept = Vec::with_capacity(alloc, columns.len())?;
+    let count = count_set(mask);
+    let mut all = Vec::with_capacity(alloc, columns.len())?;
     for column in columns {
-        kept.push(filter.apply(alloc, column)?)?;
+        all.push(kept(alloc, column, Selection::Mask(mask), count)?)?;
     }
-    Ok(kept)
+    Ok(all)
 }

@@ -1,4 +1,4 @@
-//! Texts and bytes at which a mask is set: where the rows end and lie first, and then the bytes, for which there is room.
+//! Texts and bytes that are kept: where the rows end and lie first, and then the bytes, for which there is room.
 
 ghost use Rattle.std.specs.Prelude.{◌≡◌, ◌+◌, ◌-◌, ◌<◌, ◌≤◌, ◌∷◌, ◌++◌, List, ℕ, count_by, length, map, slice_index, IfOk, OnOk, IsOkUnless};
 ghost use Rattle.std.specs.List.{All, range_with_len};
@@ -12,10 +12,12 @@ ghost use Rattle.arrow_flat.specs.Pieces.{pieces};
 ghost use Rattle.arrow_flat_growable.specs.GrownRows.{valid_values};
 ghost use Rattle.arrow_select.specs.Laws.{places_from};
 ghost use Rattle.arrow_select.specs.Selected.{at_set};
+ghost use Rattle.arrow_select.specs.Selection.{mask_in};
 ghost use Rattle.arrow_select.specs.Spans.{spanned, IsSpanWithin};
 ghost use Rattle.arrow_select.specs.Taken.{ends_from, row_length};
 
-use crate::filter::words::set_validity;
+use crate::filter::prepared::Filter;
+use crate::filter::selection::{Selection, kept_validity};
 use crate::spans::copy_spans;
 use arrow_flat::array::{ByteKind, ByteRows, FlatArray};
 use arrow_flat_growable::growable::GrowableKind;
@@ -26,25 +28,25 @@ use arrow_types::error::Error;
 use arrow_types::types::Offset;
 use std::alloc::Global;
 
-/// The rows at which the mask is set, in an array of the same type. What lies beneath a null comes with it, so no row is
+/// The rows that are kept, in an array of the same type. What lies beneath a null comes with it, so no row is
 /// looked at, and all have at most the bytes of the array, which fit. Where all rows are kept the array is shared, and
 /// nothing is copied.
 ///
 /// # Requires
-/// The mask has a bit for each row, and `count` of them are set.
+/// The selection is of as many rows as the array has, and `count` of them are kept.
 ///
 /// # Errors
 /// `OutOfMemory` where memory is refused.
 pub(super) fn filter_bytes<O: Offset, K: GrowableKind>(
     alloc: Global,
     array: &FlatArray<ByteRows<O, K>>,
-    mask: &Bitmap,
+    selection: Selection<'_>,
     count: usize,
 ) -> Result<FlatArray<ByteRows<O, K>>, Error>
-    requires lengths { length mask.now ≡ length (rows_by (byte_slots K.slot) array.now) }
-    requires count { count ≡ count_by (λ is_kept. is_kept) mask.now }
+    requires lengths { length (mask_in selection) ≡ length (rows_by (byte_slots K.slot) array.now) }
+    requires count { count ≡ count_by (λ is_kept. is_kept) (mask_in selection) }
     ensures array_type { IfOk result (λ kept. kept.arrow_type ≡ array.now.arrow_type) }
-    ensures rows { IfOk result (λ kept. rows_by (byte_slots K.slot) kept ≡ select mask.now (rows_by (byte_slots K.slot) array.now)) }
+    ensures rows { IfOk result (λ kept. rows_by (byte_slots K.slot) kept ≡ select (mask_in selection.entry) (rows_by (byte_slots K.slot) array.now)) }
     ensures fits { IfOk result (λ kept. Fits kept.arrow_type (rows_by (byte_slots K.slot) kept)) }
     ensures err { IsOkUnless result Error.OutOfMemory }
 {
@@ -55,33 +57,56 @@ pub(super) fn filter_bytes<O: Offset, K: GrowableKind>(
     if count == array.len() {
         return Ok(array.clone()?);
     }
-    let validity = set_validity(alloc, validity, mask, count)?;
-    let (ends, bytes) = kept_parts(alloc, array, mask, count)?;
+    let validity = kept_validity(alloc, validity, selection, count)?;
+    let (ends, bytes) = kept_parts(alloc, array, selection, count)?;
     let bytes = Buffer::from_vec(alloc, bytes)?;
     Ok(FlatArray::<ByteRows<O, K>>::new(data_type.clone()?, ends, bytes, validity))
 }
 
-/// Where the rows end at which the mask is set, of which there are so many, and their bytes.
+/// Where the rows end that are kept, of which there are so many, and their bytes.
 ///
 /// # Errors
 /// `OutOfMemory` where memory is refused.
 fn kept_parts<O: Offset, K: ByteKind>(
     alloc: Global,
     array: &FlatArray<ByteRows<O, K>>,
-    mask: &Bitmap,
+    selection: Selection<'_>,
     count: usize,
 ) -> Result<(OffsetsBuffer<O>, Vec<u8>), Error>
-    requires lengths { length mask.now ≡ length array.now.values.offsets - 1 }
-    ensures rows { IfOk result (λ parts. pieces parts.0 parts.1.items ≡ at_set mask.now (row_bytes array.now.values)) }
+    requires lengths { length (mask_in selection) ≡ length array.now.values.offsets - 1 }
+    ensures rows { IfOk result (λ parts. pieces parts.0 parts.1.items ≡ at_set (mask_in selection.entry) (row_bytes array.now.values)) }
     ensures within { IfOk result (λ parts. last_of parts.0 ≤ length parts.1.items) }
     ensures err { IsOkUnless result Error.OutOfMemory }
 {
     let (rows, values) = (array.offsets(), array.values().as_slice());
     prove!(0 < rows.len());
-    let (spans, ends) = kept_spans(alloc, rows, mask, count)?;
+    let (spans, ends) = spans_of(alloc, rows, selection, count)?;
     let total = ends.last().to_usize();
     let bytes = copy_spans(alloc, values, &spans, total)?;
     Ok((ends.into_buffer()?, bytes))
+}
+
+/// Where the bytes lie of the rows that are kept, of which there are so many, a span for each run of them, and where these
+/// rows end.
+///
+/// # Errors
+/// `OutOfMemory` where memory is refused.
+fn spans_of<O: Offset>(
+    alloc: Global,
+    rows: &OffsetsBuffer<O>,
+    selection: Selection<'_>,
+    count: usize,
+) -> Result<(Vec<(usize, usize)>, Offsets<O>), Error>
+    requires lengths { length rows.now ≡ length (mask_in selection) + 1 }
+    ensures within { IfOk result (λ kept. All (IsSpanWithin (last_of rows.now)) kept.0.items) }
+    ensures bytes { IfOk result (λ kept. (bytes : List ℕ) → last_of rows.now ≤ length bytes → spanned bytes kept.0.items ≡ valid_values (mask_in selection.entry) rows.now bytes 0) }
+    ensures ends { IfOk result (λ kept. kept.1 ≡ 0 ∷ ends_from 0 (map (row_length rows.now) (places_from 0 (mask_in selection.entry)))) }
+    ensures err { IsOkUnless result Error.OutOfMemory }
+{
+    match selection {
+        Selection::Mask(mask) => kept_spans(alloc, rows, mask, count),
+        Selection::Ranges(filter) => ranged_spans(alloc, rows, filter),
+    }
 }
 
 /// Where the bytes lie of the rows at which the mask is set, of which there are so many, a span for each run of them, and where
@@ -116,6 +141,33 @@ fn kept_spans<O: Offset>(
         spans.push(rows.range(row, count))?;
         append_ends(&mut ends, rows, row, count)?;
         row += count;
+    }
+    Ok((spans, ends))
+}
+
+/// The same of a prepared filter, by its ranges.
+///
+/// # Errors
+/// `OutOfMemory` where memory is refused.
+fn ranged_spans<O: Offset>(
+    alloc: Global,
+    rows: &OffsetsBuffer<O>,
+    filter: &Filter,
+) -> Result<(Vec<(usize, usize)>, Offsets<O>), Error>
+    requires lengths { length rows.now ≡ length filter.now + 1 }
+    ensures within { IfOk result (λ kept. All (IsSpanWithin (last_of rows.now)) kept.0.items) }
+    ensures bytes { IfOk result (λ kept. (bytes : List ℕ) → last_of rows.now ≤ length bytes → spanned bytes kept.0.items ≡ valid_values filter.now rows.now bytes 0) }
+    ensures ends { IfOk result (λ kept. kept.1 ≡ 0 ∷ ends_from 0 (map (row_length rows.now) (places_from 0 filter.now))) }
+    ensures err { IsOkUnless result Error.OutOfMemory }
+{
+    // All rows end at the greatest offset at most, and so do those that are kept.
+    let _ = rows.range(0, filter.mask_len());
+    let ranges = filter.ranges();
+    let mut ends = Offsets::with_capacity(alloc, filter.count())?;
+    let mut spans = Vec::with_capacity(alloc, ranges.len())?;
+    for &(start, len) in ranges {
+        spans.push(rows.range(start, len))?;
+        append_ends(&mut ends, rows, start, len)?;
     }
     Ok((spans, ends))
 }

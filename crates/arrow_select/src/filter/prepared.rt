@@ -1,50 +1,61 @@
 //! A predicate that is prepared once, to be applied to any number of arrays.
 
-ghost use Rattle.std.specs.Prelude.{◌≡◌, [], ◌∷◌, Err, count_by, length, IfOk, IfErr, IsOkUnless, OnOk};
+ghost use Rattle.std.specs.Prelude.{◌≡◌, ◌≤◌, ◌+◌, Err, count_by, length, All, IfOk, IfErr, IsOkUnless, OnOk};
 ghost use Rattle.arrow_types.specs.declared.error.Error.{Error};
 ghost use Rattle.arrow_types.specs.Fits.{Fits};
+ghost use Rattle.arrow_types.specs.Ranges.{IsShortest, named, true_rows};
 ghost use Rattle.arrow_types.specs.Rows.{mask_of, select};
-ghost use Rattle.arrow_arrays.specs.Any.{any_array_type, any_array_rows, layout_of};
-ghost use Rattle.arrow_flat_growable.specs.Grown.{bound_to};
-ghost use Rattle.arrow_flat.specs.Parts.{boolean_rows};
-ghost use Rattle.arrow_growable.specs.AnyGrowable.{grown_of};
-ghost use Rattle.arrow_growable.specs.Growing.{HasAppended};
 ghost use Rattle.arrow_memory.specs.Grown.{IsGrowthError};
+ghost use Rattle.arrow_arrays.specs.Any.{any_array_type, any_array_rows};
+ghost use Rattle.arrow_flat.specs.Parts.{boolean_rows};
+ghost use Rattle.arrow_flat_growable.specs.Grown.{FitsItself, IsRefusal};
+ghost use Rattle.arrow_select.specs.Extended.{BindsAt, RefusesRange, with_kept};
 
-use crate::filter::boolean::filter_boolean;
-use crate::filter::bytes::filter_bytes;
-use crate::filter::primitive::filter_primitive;
+use crate::filter::any::{count_set, kept, mask_of_predicate};
+use crate::filter::ranges::ranges_of;
+use crate::filter::selection::Selection;
 use arrow_arrays::array::AnyArray;
 use arrow_flat::array::BooleanArray;
-use arrow_growable::growable::{AnyGrowable, Growable, make_growable};
-use arrow_memory::bitmap::Bitmap;
+use arrow_growable::growable::Growable;
 use arrow_types::error::Error;
 use std::alloc::Global;
 use std::marker::Model;
 
 /// A predicate that was prepared once, to be applied to any number of arrays. A contract sees its mask: a truth value
-/// for each row, true where the row is kept.
+/// for each row, true where the row is kept. It holds the runs of these rows, and the allocator that it was made with.
 pub struct Filter {
-    mask: Bitmap,
+    alloc: Global,
+    ranges: Vec<(usize, usize)>,
+    count: usize,
+    mask_len: usize,
 }
 
 // by hand, so that a drop is a call, and is not written out wherever a value is dropped
 impl Drop for Filter {
     fn drop(self) {
-        let Filter { mask: _ } = self;
+        let Filter {
+            alloc: _,
+            ranges: _,
+            count: _,
+            mask_len: _,
+        } = self;
     }
 }
 
 impl Model for Filter {
     ghost use Rattle.std.specs.Prelude.{Bool, List};
+    ghost use Rattle.arrow_types.specs.Ranges.{named};
+    ghost use Rattle.arrow_select.specs.Ranges.{mask_at, IsPlan};
 
     ghost Value = { List Bool };
 
-    ghost view = { λ filter. filter.mask };
+    ghost view = { λ filter. mask_at 0 filter.mask_len (named filter.ranges.items) };
+
+    ghost invariant = { λ filter. IsPlan filter.ranges.items filter.count (mask_at 0 filter.mask_len (named filter.ranges.items)) };
 }
 
 /// The filter that keeps the rows at which the predicate is true. A null of the predicate counts as false, whatever is
-/// stored beneath it. The mask is found a word at a time; a predicate without a validity lends its bits.
+/// stored beneath it. The runs of these rows are found a word of the mask at a time.
 ///
 /// # Errors
 /// `OutOfMemory` where memory is refused.
@@ -54,11 +65,14 @@ pub fn build_filter(alloc: Global, filter: &BooleanArray) -> Result<Filter, Erro
     ensures ok { IfOk result (λ prepared. prepared ≡ mask_of (boolean_rows filter.now)) }
     ensures err { IsOkUnless result Error.OutOfMemory }
 {
-    let mask = match filter.validity() {
-        None => filter.values().clone()?,
-        Some(validity) => filter.values().and(alloc, validity)?,
-    };
-    Ok(Filter { mask })
+    let mask = mask_of_predicate(alloc, filter)?;
+    let ranges = ranges_of(alloc, &mask)?;
+    Ok(Filter {
+        alloc,
+        ranges,
+        count: count_set(&mask),
+        mask_len: mask.len(),
+    })
 }
 
 impl Filter {
@@ -72,7 +86,7 @@ impl Filter {
     /// `Overflow` where the rows do not fit the type, and `OutOfMemory` where memory is refused.
     ///
     /// Source: arrow2's `build_filter`, whose answer is a closure.
-    pub fn apply(&self, alloc: Global, array: &AnyArray) -> Result<AnyArray, Error>
+    pub fn apply(&self, array: &AnyArray) -> Result<AnyArray, Error>
         requires lengths { length self.now ≡ length (any_array_rows array.now) }
         ensures array_type { IfOk result (λ kept. any_array_type kept ≡ any_array_type array.now) }
         ensures rows { IfOk result (λ kept. any_array_rows kept ≡ select self.now (any_array_rows array.now)) }
@@ -80,84 +94,60 @@ impl Filter {
         ensures overflow { result ≡ Err Error.Overflow → Fits (any_array_type array.now) (select self.now (any_array_rows array.now)) → ⊥ }
         ensures others { IfErr result IsGrowthError }
     {
-        match array {
-            AnyArray::Primitive(values) => {
-                let kept = filter_primitive(alloc, values, &self.mask, self.count())?;
-                Ok(AnyArray::Primitive(kept))
-            }
-            AnyArray::Boolean(values) => {
-                let kept = filter_boolean(alloc, values, &self.mask, self.count())?;
-                Ok(AnyArray::Boolean(kept))
-            }
-            AnyArray::Utf8(values) => {
-                let kept = filter_bytes(alloc, values, &self.mask, self.count())?;
-                Ok(AnyArray::Utf8(kept))
-            }
-            AnyArray::LargeUtf8(values) => {
-                let kept = filter_bytes(alloc, values, &self.mask, self.count())?;
-                Ok(AnyArray::LargeUtf8(kept))
-            }
-            AnyArray::Binary(values) => {
-                let kept = filter_bytes(alloc, values, &self.mask, self.count())?;
-                Ok(AnyArray::Binary(kept))
-            }
-            AnyArray::LargeBinary(values) => {
-                let kept = filter_bytes(alloc, values, &self.mask, self.count())?;
-                Ok(AnyArray::LargeBinary(kept))
-            }
-            _ => {
-                let growable = make_growable(alloc, &[array], false, self.count())?;
-                selected(growable, array, &self.mask)
-            }
+        kept(self.alloc, array, Selection::Ranges(self), self.count())
+    }
+
+    /// The ranges of rows that it keeps, each its first row and its length, in order. No list of ranges names the same rows
+    /// with fewer members.
+    ///
+    /// Source: of our own; in arrow2 they are private.
+    pub fn ranges(&self) -> &[(usize, usize)]
+        ensures named { named result.now ≡ true_rows 0 self.now }
+        ensures shortest { IsShortest result.now }
+        ensures within { All (λ r. r.0 + r.1 ≤ length self.now) result.now }
+    {
+        &self.ranges
+    }
+
+    /// Appends the rows that the filter keeps of bound array `index` to a growable, a range of them by one `extend`, in
+    /// order. Where it keeps none it calls nothing, and a growable that had failed is as it was.
+    ///
+    /// # Requires
+    /// `index` is that of a bound array, which has as many rows as the mask. A growable that binds none takes any.
+    ///
+    /// # Errors
+    /// As [`Growable::extend`] of a range. The growable then has failed, and counts the rows from before and those of the
+    /// ranges before the one that was refused.
+    ///
+    /// Source: of our own.
+    pub fn extend_into<'a, G: Growable<'a>>(
+        &self,
+        growable: &mut G,
+        index: usize,
+    ) -> Result<(), Error>
+        requires { BindsAt (G.state growable.old) index self.now }
+        ensures ok { OnOk result (G.state growable.new ≡ with_kept (G.state growable.old) index self.now) }
+        ensures fits { OnOk result (FitsItself (G.state growable.old) → FitsItself (G.state growable.new)) }
+        ensures err { IfErr result (RefusesRange self.now index (G.state growable.old) (G.state growable.new)) }
+        ensures others { IfErr result IsRefusal }
+    {
+        for &(start, len) in self.ranges() {
+            growable.extend(index, start, len)?;
         }
+        Ok(())
     }
 
     /// How many rows it keeps.
     pub fn count(&self) -> usize
         ensures { result ≡ count_by (λ is_kept. is_kept) self.now }
     {
-        self.mask_len() - self.mask.unset_bits()
+        self.count
     }
 
     /// How many rows the mask has, and so each array that the filter is applied to.
     pub fn mask_len(&self) -> usize
         ensures { result ≡ length self.now }
     {
-        self.mask.len()
+        self.mask_len
     }
-}
-
-/// The rows at which the mask is set, by a growable over the array that has none yet.
-fn selected(growable: AnyGrowable, array: &AnyArray, mask: &Bitmap) -> Result<AnyArray, Error>
-    requires bound { grown_of growable ≡ bound_to (layout_of array.now ∷ []) }
-    requires lengths { length mask.now ≡ length (any_array_rows array.now) }
-    ensures array_type { IfOk result (λ kept. any_array_type kept ≡ any_array_type array.now) }
-    ensures rows { IfOk result (λ kept. any_array_rows kept ≡ select mask.now (any_array_rows array.now)) }
-    ensures fits { IfOk result (λ kept. Fits (any_array_type kept) (any_array_rows kept)) }
-    ensures overflow { result ≡ Err Error.Overflow → Fits (any_array_type array.now) (select mask.now (any_array_rows array.now)) → ⊥ }
-    ensures others { IfErr result IsGrowthError }
-{
-    let mut growable = growable;
-    append_selected(&mut growable, array, mask)?;
-    growable.as_box()
-}
-
-/// Appends the rows at which the mask is set, a run of them at a time.
-fn append_selected(growable: &mut AnyGrowable, array: &AnyArray, mask: &Bitmap) -> Result<(), Error>
-    requires bound { grown_of growable.old ≡ bound_to (layout_of array.now ∷ []) }
-    requires lengths { length mask.now ≡ length (any_array_rows array.now) }
-    ensures ok { OnOk result (HasAppended (layout_of array.now ∷ []) (grown_of growable.new) (select mask.now (any_array_rows array.now))) }
-    ensures overflow { result ≡ Err Error.Overflow → Fits (any_array_type array.now) (select mask.now (any_array_rows array.now)) → ⊥ }
-    ensures others { IfErr result IsGrowthError }
-{
-    let len = array.len();
-    let mut left = mask.runs(0, len);
-    let mut row = 0;
-    while row < len {
-        let (unset, count) = left.next_set();
-        row += unset;
-        growable.extend(0, row, count)?;
-        row += count;
-    }
-    Ok(())
 }

@@ -1,4 +1,4 @@
-//! Numbers and intervals at which a mask is set.
+//! Numbers and intervals that are kept.
 
 ghost use Rattle.std.specs.Prelude.{◌≡◌, count_by, length, map, IfOk, IsOkUnless};
 ghost use Rattle.arrow_types.specs.declared.error.Error.{Error};
@@ -6,38 +6,38 @@ ghost use Rattle.arrow_types.specs.Fits.{Fits};
 ghost use Rattle.arrow_types.specs.Rows.{select};
 ghost use Rattle.arrow_flat.specs.AnyPrimitive.{any_rows, any_type};
 ghost use Rattle.arrow_flat.specs.Parts.{rows_by};
+ghost use Rattle.arrow_select.specs.Selection.{mask_in};
 
-use crate::filter::words::set_rows;
+use crate::filter::selection::{Selection, kept_rows};
 use arrow_flat::array::{AnyPrimitive, PrimitiveArray};
-use arrow_memory::bitmap::Bitmap;
 use arrow_memory::buffer::Buffer;
 use arrow_types::error::Error;
 use arrow_types::types::NativeType;
 use std::alloc::Global;
 
-/// The rows at which the mask is set, in an array of the same type, of any element type.
+/// The rows that are kept, in an array of the same type, of any element type.
 ///
 /// # Requires
-/// The mask has a bit for each row, and `count` of them are set.
+/// The selection is of as many rows as the array has, and `count` of them are kept.
 ///
 /// # Errors
 /// `OutOfMemory` where memory is refused.
 pub(super) fn filter_primitive(
     alloc: Global,
     array: &AnyPrimitive,
-    mask: &Bitmap,
+    selection: Selection<'_>,
     count: usize,
 ) -> Result<AnyPrimitive, Error>
-    requires lengths { length mask.now ≡ length (any_rows array.now) }
-    requires count { count ≡ count_by (λ is_kept. is_kept) mask.now }
+    requires lengths { length (mask_in selection) ≡ length (any_rows array.now) }
+    requires count { count ≡ count_by (λ is_kept. is_kept) (mask_in selection) }
     ensures array_type { IfOk result (λ kept. any_type kept ≡ any_type array.now) }
-    ensures rows { IfOk result (λ kept. any_rows kept ≡ select mask.now (any_rows array.now)) }
+    ensures rows { IfOk result (λ kept. any_rows kept ≡ select (mask_in selection.entry) (any_rows array.now)) }
     ensures fits { IfOk result (λ kept. Fits (any_type kept) (any_rows kept)) }
     ensures err { IsOkUnless result Error.OutOfMemory }
 {
     macro_rules! of_element {
         ($array:ident, $element:ident) => {
-            Ok(AnyPrimitive::$element(filter_values(alloc, $array, mask, count)?))
+            Ok(AnyPrimitive::$element(filter_values(alloc, $array, selection, count)?))
         };
     }
     match array {
@@ -60,13 +60,13 @@ pub(super) fn filter_primitive(
 fn filter_values<T: NativeType>(
     alloc: Global,
     array: &PrimitiveArray<T>,
-    mask: &Bitmap,
+    selection: Selection<'_>,
     count: usize,
 ) -> Result<PrimitiveArray<T>, Error>
-    requires lengths { length mask.now ≡ length (rows_by (map T.slot) array.now) }
-    requires count { count ≡ count_by (λ is_kept. is_kept) mask.now }
+    requires lengths { length (mask_in selection) ≡ length (rows_by (map T.slot) array.now) }
+    requires count { count ≡ count_by (λ is_kept. is_kept) (mask_in selection) }
     ensures array_type { IfOk result (λ kept. kept.arrow_type ≡ array.now.arrow_type) }
-    ensures rows { IfOk result (λ kept. rows_by (map T.slot) kept ≡ select mask.now (rows_by (map T.slot) array.now)) }
+    ensures rows { IfOk result (λ kept. rows_by (map T.slot) kept ≡ select (mask_in selection.entry) (rows_by (map T.slot) array.now)) }
     ensures fits { IfOk result (λ kept. Fits kept.arrow_type (rows_by (map T.slot) kept)) }
     ensures err { IsOkUnless result Error.OutOfMemory }
 {
@@ -75,7 +75,7 @@ fn filter_values<T: NativeType>(
         return Ok(array.clone()?);
     }
     let values = array.values().as_slice();
-    let (kept, validity) = set_rows(alloc, values, array.validity(), mask, count)?;
+    let (kept, validity) = kept_rows(alloc, values, array.validity(), selection, count)?;
     let kept = Buffer::from_vec(alloc, kept)?;
     let Ok(kept) = PrimitiveArray::try_new(data_type.clone()?, kept, validity) else {
         unreachable!();

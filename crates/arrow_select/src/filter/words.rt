@@ -284,26 +284,6 @@ fn append_set<T: NativeType>(kept: &mut Vec<T>, values: &[T], mask: &Bitmap)
     }
 }
 
-/// The validity of the rows at which the mask is set, of which there are so many. There is none where theirs is none.
-///
-/// # Errors
-/// `OutOfMemory` where memory is refused.
-pub(super) fn set_validity(
-    alloc: Global,
-    validity: Option<&Bitmap>,
-    mask: &Bitmap,
-    count: usize,
-) -> Result<Option<Bitmap>, Error>
-    requires { FitsRows (option_copied validity) (length mask.now) }
-    ensures ok { IfOk result (λ kept. kept ≡ option_map (at_set mask.now) (option_copied validity.entry)) }
-    ensures err { IsOkUnless result Error.OutOfMemory }
-{
-    match validity {
-        None => Ok(None),
-        Some(bits) => Ok(Some(set_bits(alloc, bits, mask, count)?)),
-    }
-}
-
 /// The bits at which the mask is set, of which there are so many.
 ///
 /// # Errors

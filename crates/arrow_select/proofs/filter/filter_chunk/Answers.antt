@@ -9,8 +9,8 @@ use Rattle.arrow_select.proofs.filter.filter_chunk.Goals as goal
 
 pub unreachable-requires : goal.unreachable-requires
 unreachable-requires c =
-    let mask = c.in_ok-prepared.prepared in
+    let mask = c.in_ok-mask.mask in
     let columns = map layout_of c.arrays.result.now in
-    let long = ap length c.in_ok-prepared.ensures.ok ∙ length-map (boolean_rows c.args.filter_values.now) selects in
+    let long = ap length c.in_ok-mask.ensures.ok ∙ length-map (boolean_rows c.args.filter_values.now) selects in
     let each = subst (HaveRows (length mask)) (sym c.arrays.ensures.same) (subst (λ n. HaveRows n c.args.columns.now) (sym long) c.requires.lengths) in
     c.try_new.ensures.lengths.0 (c.in_default.is ∙ ap Err c.in_default.ensures.others) (selected_columns mask columns _ each c.in_ok-kept.ensures.rows)

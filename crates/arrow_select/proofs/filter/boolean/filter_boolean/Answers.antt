@@ -7,13 +7,14 @@ use Rattle.arrow_types.proofs.SelectLemmas.{length-select}
 use Rattle.arrow_flat.specs.Parts.{FitsRows, boolean_rows}
 use Rattle.arrow_flat_growable.proofs.FitsLemmas.{fits_only_counted, is_only_counted}
 use Rattle.arrow_select.specs.Selected.{at_set}
+use Rattle.arrow_select.specs.Selection.{mask_in}
 use Rattle.arrow_select.proofs.FilterLemmas.{select_all, set_fits, set_rows}
 use Rattle.arrow_select.proofs.filter.boolean.filter_boolean.Goals as goal
 
 pub returns-then-count-len-clause-rows : goal.returns-then-count-len-clause-rows
 returns-then-count-len-clause-rows c =
     let rows = boolean_rows c.args.array.now in
-    ap boolean_rows c.in_ok-clone.ensures.cases ∙ select_all c.args.mask.now rows c.requires.lengths (sym c.requires.count ∙ (c.if-count-len.true ∙ c.len.ensures.rows))
+    ap boolean_rows c.in_ok-clone.ensures.cases ∙ select_all (mask_in c.args.selection) rows c.requires.lengths (sym c.requires.count ∙ (c.if-count-len.true ∙ c.len.ensures.rows))
 
 pub returns-then-count-len-clause-fits : goal.returns-then-count-len-clause-fits
 returns-then-count-len-clause-fits c =
@@ -24,7 +25,7 @@ returns-then-count-len-clause-fits c =
 pub unreachable-requires : goal.unreachable-requires
 unreachable-requires c =
     let p = c.args.array.now in
-    let mask = c.args.mask.now in
+    let mask = mask_in c.args.selection in
     let is = c.in_ok-validity.ensures.ok ∙ ap (option_map (at_set mask)) c.validity.ensures.same in
     let are = c.in_ok-kept.ensures.ok ∙ ap (at_set mask) c.values.ensures in
     let long : length mask ≡ length p.values = omega (arith, c.requires.lengths, c.len.ensures.rows, c.len.ensures.values, length-map p.values Boolean) in
@@ -35,7 +36,7 @@ unreachable-requires c =
 pub returns-clause-rows : goal.returns-clause-rows
 returns-clause-rows c =
     let p = c.args.array.now in
-    let mask = c.args.mask.now in
+    let mask = mask_in c.args.selection in
     let is = c.in_ok-validity.ensures.ok ∙ ap (option_map (at_set mask)) c.validity.ensures.same in
     let are = c.in_ok-kept.ensures.ok ∙ ap (at_set mask) c.values.ensures in
     ap boolean_rows c.in-Ok.ensures.ok ∙ set_rows Boolean mask p.validity c.in_ok-validity.validity p.values c.in_ok-kept.kept is are
@@ -45,5 +46,5 @@ returns-clause-fits c =
     let p = c.args.array.now in
     let kept = c.in-Ok.kept in
     let same : kept.arrow_type ≡ p.arrow_type = search rules in
-    let many = ap length (returns-clause-rows c) ∙ (length-select c.args.mask.now (boolean_rows p) c.requires.lengths ∙ sym c.requires.count) in
+    let many = ap length (returns-clause-rows c) ∙ (length-select (mask_in c.args.selection) (boolean_rows p) c.requires.lengths ∙ sym c.requires.count) in
     subst (λ t. Fits t (boolean_rows kept)) (sym same) (fits_only_counted p.arrow_type (boolean_rows kept) (ap is_only_counted c.data_type-data_type.ensures.kind) (omega (arith, many, c.ranges.count.fits)))

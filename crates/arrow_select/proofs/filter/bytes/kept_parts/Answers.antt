@@ -3,6 +3,7 @@ use Rattle.std.specs.List.{All}
 use Rattle.arrow_memory.specs.Offsets.{IsOffsets, last_of}
 use Rattle.arrow_flat_growable.specs.GrownRows.{valid_values}
 use Rattle.arrow_select.specs.Laws.{places_from}
+use Rattle.arrow_select.specs.Selection.{mask_in}
 use Rattle.arrow_select.specs.Spans.{IsSpanWithin, spanned}
 use Rattle.arrow_select.specs.Taken.{ends_from, row_length}
 use Rattle.arrow_select.proofs.SetBytes.{kept_end, kept_pieces}
@@ -18,7 +19,7 @@ copy_spans-requires g c =
 pub returns-clause-rows : goal.returns-clause-rows
 returns-clause-rows g c =
     let p = c.args.array.now.values in
-    let mask = c.args.mask.now in
+    let mask = mask_in c.args.selection in
     let sound = subst IsOffsets c.offsets-rows.ensures c.len.ensures.sound in
     let lent = c.as_slice-values.ensures ∙ c.values.ensures.same in
     let within : last_of c.offsets-rows.result.now ≤ length c.as_slice-values.result.now = omega (arith, c.values.ensures.within, ap last_of c.offsets-rows.ensures, ap length lent) in
@@ -29,7 +30,7 @@ returns-clause-rows g c =
 pub returns-clause-within : goal.returns-clause-within
 returns-clause-within g c =
     let p = c.args.array.now.values in
-    let mask = c.args.mask.now in
+    let mask = mask_in c.args.selection in
     let sound = subst IsOffsets c.offsets-rows.ensures c.len.ensures.sound in
     let lent = c.as_slice-values.ensures ∙ c.values.ensures.same in
     let within : last_of c.offsets-rows.result.now ≤ length c.as_slice-values.result.now = omega (arith, c.values.ensures.within, ap last_of c.offsets-rows.ensures, ap length lent) in

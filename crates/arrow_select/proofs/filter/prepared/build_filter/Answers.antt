@@ -1,16 +1,11 @@
-use Rattle.std.proofs.Common.{sym, ◌∙◌, ap}
-use Rattle.std.specs.Prelude.{option_copied}
-use Rattle.arrow_memory.specs.Bits.{both_bits}
-use Rattle.arrow_select.proofs.FilterLemmas.{mask_under, mask_without}
+use Rattle.std.proofs.Common.{◌∙◌}
+use Rattle.arrow_select.proofs.PlanLemmas.{plan_mask, plan_of}
 use Rattle.arrow_select.proofs.filter.prepared.build_filter.Goals as goal
-use Rattle.arrow_select.proofs.filter.prepared.build_filter.Goals.{in-None+in_ok-mask-in-None, in-Some+in_ok-mask-in-Some}
+
+pub invariant_of-result : goal.invariant_of-result
+invariant_of-result c =
+    plan_of c.in_ok-ranges.ranges.items _ c.len.result c.in_ok-mask.mask c.len.ensures c.in_ok-ranges.ensures.ok c.count_set.ensures
 
 pub returns-clause-ok : goal.returns-clause-ok
 returns-clause-ok c =
-    let p = c.args.filter.now in
-    elim c.match-validity.branch [
-      | in-None+in_ok-mask-in-None w ↦
-          mask_without p.validity p.values _ (sym (ap option_copied w.in-None.is) ∙ c.validity.ensures.same) (w.mask-is ∙ (w.in_ok-mask-in-None.ensures.cases ∙ w.values.ensures))
-      | in-Some+in_ok-mask-in-Some w ↦
-          mask_under p.validity p.values _ _ (sym (ap option_copied w.in-Some.is) ∙ c.validity.ensures.same) (w.mask-is ∙ (w.in_ok-mask-in-Some.ensures.ok ∙ ap (λ bits. both_bits bits w.in-Some.validity.now) w.values-in-Some.ensures))
-    ]
+    plan_mask c.in_ok-ranges.ranges.items c.len.result c.in_ok-mask.mask c.len.ensures c.in_ok-ranges.ensures.ok ∙ c.in_ok-mask.ensures.ok

@@ -9,7 +9,7 @@ use Rattle.arrow_growable.specs.AnyGrowable.{grown_of}
 use Rattle.arrow_growable.specs.Growing.{HasAppended}
 use Rattle.arrow_growable.proofs.GrowLemmas.{holds_none, holds_more, refuses_whole, too_many_first, named}
 use Rattle.arrow_select.proofs.FilterLemmas.{keeps_all, keeps_run}
-use Rattle.arrow_select.proofs.filter.prepared.append_selected.Goals as goal
+use Rattle.arrow_select.proofs.filter.any.append_selected.Goals as goal
 
 pub loop-row-init : goal.loop-row-init
 loop-row-init c =

@@ -4,7 +4,7 @@ use Rattle.arrow_arrays.specs.Any.{any_array_rows, layout_of}
 use Rattle.arrow_growable.specs.AnyGrowable.{grown_of}
 use Rattle.arrow_growable.specs.Growing.{HasAppended}
 use Rattle.arrow_select.proofs.FilterLemmas.{KeepsUpTo}
-use Rattle.arrow_select.proofs.filter.prepared.append_selected.Given as goal
+use Rattle.arrow_select.proofs.filter.any.append_selected.Given as goal
 
 -- the rows so far are held, and those that the bits that are left select are all others
 abbrev pub invariant-loop-row : goal.invariant-loop-row

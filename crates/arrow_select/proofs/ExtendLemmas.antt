@@ -1,0 +1,88 @@
+-- Rows of a bound array by ranges, which are those by the mask, and a growable that is extended by them, range after range.
+use Rattle.std.proofs.Common.{arith, ◌≡◌, ◌+◌, ◌<◌, ◌≤◌, ℕ, zero, suc, Bool, true, false, Option, Some, None, List, [], ◌∷◌, ◌++◌, length, map, replicate, take, drop, drop-cons, get_or, Result, Err, if◌then◌else◌, refl, ap, sym, subst, ◌∙◌, append_assoc}
+use Rattle.std.specs.Prelude.{count_by, flat_map}
+use Rattle.std.proofs.lemmas.Grind.{flat_map-append}
+use Rattle.std.proofs.lemmas.List.{append-nil, length-append, replicate-append-replicate, take-append-drop}
+use Rattle.arrow_types.specs.declared.error.Error.{Error}
+use Rattle.arrow_types.specs.declared.error.Error.TheVariants.{Failed, Overflow}
+use Rattle.arrow_types.specs.Ranges.{named, rows_from, true_rows}
+use Rattle.arrow_types.specs.Rows.{select}
+use Rattle.arrow_types.specs.Slot.{Slot, Null}
+use Rattle.arrow_memory.specs.Sliced.{sliced}
+use Rattle.arrow_arrays.specs.Layout.{Layout, rows}
+use Rattle.arrow_flat_growable.specs.Grown.{CannotHold, Grown, HasFailed, appended, named_rows, rows_among, source_at}
+use Rattle.arrow_select.specs.Extended.{HasRowsAt, RefusesRange, extended, kept_among, ranged_among, with_kept, with_ranges}
+use Rattle.arrow_select.specs.Ranges.{IsRangesOf}
+use Rattle.arrow_select.proofs.FilterLemmas.{select_is}
+use Rattle.arrow_select.proofs.PlanLemmas.{length-true_rows}
+use Rattle.arrow_select.proofs.RangedLemmas.{length-rows_from, ranged_set}
+
+-- ---- rows by ranges
+
+-- of a bound array they are those by the mask
+pub ranged_select : (ranges : List (ℕ × ℕ)) (mask : List Bool) (xs : List Slot) → named ranges ≡ true_rows 0 mask → length mask ≡ length xs → flat_map (λ (r : ℕ × ℕ). sliced xs r.0 r.1) ranges ≡ select mask xs
+ranged_select ranges mask xs names same =
+    ranged_set ranges mask xs names same ∙ sym (select_is mask xs)
+
+-- and where no array is bound they are as many nulls
+null_ranges : (ranges : List (ℕ × ℕ)) → flat_map (λ (r : ℕ × ℕ). replicate r.1 Null) ranges ≡ replicate (length (named ranges)) Null
+null_ranges [] = refl
+null_ranges (r ∷ ranges) =
+    let long : r.1 + length (named ranges) ≡ length (named (r ∷ ranges)) = omega (arith, length-append (rows_from r.0 r.1) (named ranges), length-rows_from r.0 r.1) in
+    ap (λ ys. replicate r.1 Null ++ ys) (null_ranges ranges) ∙ (replicate-append-replicate r.1 (length (named ranges)) Null ∙ ap (λ n. replicate n Null) long)
+
+pub ranged_is_kept : (sources : Option (List Layout)) (i : ℕ) (ranges : List (ℕ × ℕ)) (mask : List Bool) → named ranges ≡ true_rows 0 mask → HasRowsAt sources i (length mask) → ranged_among sources i ranges ≡ kept_among sources i mask
+ranged_is_kept None i ranges mask names bound =
+    null_ranges ranges ∙ ap (λ n. replicate n Null) (ap length names ∙ length-true_rows 0 mask)
+ranged_is_kept (Some layouts) i ranges mask names bound =
+    ranged_select ranges mask (rows (source_at layouts i)) names (sym bound.1)
+
+-- ---- a growable that is extended
+
+-- by no range it is as it was
+pub extended_none : (g : Grown) (i : ℕ) → g ≡ with_ranges g i []
+extended_none g i =
+    let count : g.count ≡ g.count + 0 = omega arith in
+    λ k. record { arrow_type = g.arrow_type; sources = g.sources; rows = sym (append-nil g.rows) k; count = count k; failed = g.failed }
+
+-- rows that are appended to one that has not failed
+is_extended : (g : Grown) (more : List Slot) → g.failed ≡ false → appended g more ≡ extended g more
+is_extended g more well =
+    λ k. record { arrow_type = g.arrow_type; sources = g.sources; rows = g.rows ++ more; count = g.count + length more; failed = sym well k }
+
+extended_twice : (g : Grown) (xs more : List Slot) → extended (extended g xs) more ≡ extended g (xs ++ more)
+extended_twice g xs more =
+    let count : g.count + length xs + length more ≡ g.count + length (xs ++ more) = omega (arith, length-append xs more) in
+    λ k. record { arrow_type = g.arrow_type; sources = g.sources; rows = append_assoc g.rows xs more k; count = count k; failed = g.failed }
+
+-- by a range more
+pub extended_more : (old now new : Grown) (i : ℕ) (ranges : List (ℕ × ℕ)) (r : ℕ × ℕ) → now ≡ with_ranges old i ranges → now.failed ≡ false → new ≡ appended now (named_rows now i r.0 r.1) → new ≡ with_ranges old i (ranges ++ r ∷ [])
+extended_more old now new i ranges r so_far well is =
+    let xs = ranged_among old.sources i ranges in
+    let more = rows_among old.sources i r.0 r.1 in
+    let all : ranged_among old.sources i (ranges ++ r ∷ []) ≡ xs ++ more = flat_map-append (λ r. rows_among old.sources i r.0 r.1) ranges (r ∷ []) ∙ ap (λ ys. xs ++ ys) (append-nil more) in
+    is ∙ (is_extended now (named_rows now i r.0 r.1) well ∙ (ap (λ g. extended g (named_rows g i r.0 r.1)) so_far ∙ (extended_twice old xs more ∙ ap (extended old) (sym all))))
+
+-- by all ranges of a mask
+pub extended_all : (old now : Grown) (i : ℕ) (ranges : List (ℕ × ℕ)) (mask : List Bool) → HasRowsAt old.sources i (length mask) → IsRangesOf ranges mask → now ≡ with_ranges old i ranges → now ≡ with_kept old i mask
+extended_all old now i ranges mask bound are is =
+    is ∙ ap (extended old) (ranged_is_kept old.sources i ranges mask are.names bound)
+
+pub same_error : (e f : Error) → ◌≡◌ {A = Result (Unit {0}) Error} (Err e) (Err f) → e ≡ f
+same_error e f same = cc
+
+-- where a range is refused, it and those before and behind it are the ranges of the mask
+pub refuses_range : (mask : List Bool) (i : ℕ) (old now new : Grown) (ranges : List (ℕ × ℕ)) (k : ℕ) (e : Error) → IsRangesOf ranges mask → k < length ranges → now ≡ with_ranges old i (take k ranges) → HasFailed now new → (e ≡ Overflow → CannotHold now i (get_or ranges k (0, 0)).0 (get_or ranges k (0, 0)).1) → (e ≡ Failed → now.failed ≡ true) → (now.failed ≡ true → e ≡ Failed) → RefusesRange mask i old new e
+refuses_range mask i old now new ranges k e are within so_far fails overflows failed_to failed_from =
+    let refused = get_or ranges k (0, 0) in
+    let whole : ranges ≡ take k ranges ++ refused ∷ drop (suc k) ranges = sym (take-append-drop k ranges) ∙ ap (λ rs. take k ranges ++ rs) (drop-cons ranges k (0, 0) within) in
+    let same = ap (λ g. g.failed) so_far in
+    record {
+      before = take k ranges;
+      refused = refused;
+      behind = drop (suc k) ranges;
+      ranges = subst (λ rs. IsRangesOf rs mask) whole are;
+      fails = subst (λ g. HasFailed g new) so_far fails;
+      overflows = λ is. subst (λ g. CannotHold g i refused.0 refused.1) so_far (overflows is);
+      had_failed = (λ is. sym same ∙ failed_to is, λ had. failed_from (same ∙ had));
+    }

@@ -1,0 +1,59 @@
+use Rattle.std.proofs.Common.{arith, [], ◌∷◌, ◌+◌, ap, drop, get_or, length, map, slice_index, subst, sym, ◌∙◌}
+use Rattle.std.specs.List.{All, concat, range_with_len}
+use Rattle.std.proofs.lemmas.List.{length-append, take_all}
+use Rattle.std.proofs.lemmas.List.Elements.{All-append, All-cons, All-nil}
+use Rattle.arrow_types.specs.Ranges.{named}
+use Rattle.arrow_memory.specs.Offsets.{last_of}
+use Rattle.arrow_select.specs.Laws.{places_from}
+use Rattle.arrow_select.specs.Spans.{IsSpanWithin, spanned}
+use Rattle.arrow_select.proofs.RangedLemmas.{bytes_of_ranges, ends_first, range_first, ranged_bytes}
+use Rattle.arrow_select.proofs.SetBytes.{counted_sum, ends_below, ends_more, row_in, set_sum}
+use Rattle.arrow_select.proofs.filter.bytes.ranged_spans.Goals as goal
+
+pub loop-start-init : goal.loop-start-init
+loop-start-init g c = record {
+  within = λ k d has. absurd (omega (arith, has, ap length c.in_ok-spans.ensures.items));
+  bytes = λ bytes inside. ap (spanned bytes) c.in_ok-spans.ensures.items;
+  some = omega (arith, ap length c.in_ok-ends.ensures.ok);
+  ends = ends_first c.args.rows.now c.in_ok-ends.ends c.ranges-ranges.result.now c.args.filter.now c.in_ok-ends.ensures.ok c.ranges-ranges.ensures.named;
+}
+
+pub append_ends-requires-clause-fits : goal.append_ends-requires-clause-fits
+append_ends-requires-clause-fits g c =
+    let os = c.args.rows.now in
+    let mask = c.args.filter.now in
+    let items = c.ranges-ranges.result.now in
+    let k = c.loop-start.start-index in
+    let r = get_or items k (0, 0) in
+    let before = c.loop-start.invariant in
+    let below = ends_below os c.loop-start.ends (named (drop k items)) (range_with_len r.0 r.1) (named (drop (k + 1) items)) (places_from 0 mask) before.some (range_first items k c.loop-start-test.true) before.ends in
+    let within = c.ranges-ranges.ensures.within k (0, 0) c.loop-start-test.true in
+    let run = counted_sum os r.0 r.1 c.range.ensures.sound (omega (arith, within, c.requires.lengths)) in
+    let all = set_sum os mask 0 c.range.ensures.sound (omega (arith, c.requires.lengths)) in
+    omega (arith, below, run, all, c.range.ensures.end, c.range.ensures.fits, ap (λ n. slice_index os (0 + n)) c.mask_len.ensures)
+
+pub loop-start-preserved : goal.loop-start-preserved
+loop-start-preserved g c =
+    let os = c.args.rows.now in
+    let mask = c.args.filter.now in
+    let items = c.ranges-ranges.result.now in
+    let k = c.loop-start.start-index in
+    let r = get_or items k (0, 0) in
+    let before = c.loop-start.invariant in
+    let span = c.range-in-loop-start.result in
+    let spans = c.loop-start.spans.items in
+    let more = c.in_ok-push.ensures.items in
+    let pushed = c.in_ok-append_ends.ensures.ok in
+    let within = c.ranges-ranges.ensures.within k (0, 0) c.loop-start-test.true in
+    record {
+      within = subst (All (IsSpanWithin (last_of os))) (sym more) (All-append (IsSpanWithin (last_of os)) spans (span ∷ []) before.within (All-cons (IsSpanWithin (last_of os)) span [] (c.range-in-loop-start.ensures.rises, c.range-in-loop-start.ensures.within) (All-nil (IsSpanWithin (last_of os)))));
+      bytes = λ bytes inside. ranged_bytes os bytes c.range.ensures.sound inside items spans c.push.new.self.items span k c.loop-start-test.true (omega (arith, within, c.requires.lengths)) c.range-in-loop-start.ensures.start c.range-in-loop-start.ensures.end more (before.bytes bytes inside);
+      some = omega (arith, before.some, ap length pushed ∙ length-append c.loop-start.ends _);
+      ends = ends_more os c.loop-start.ends (named (drop k items)) (range_with_len r.0 r.1) (named (drop (k + 1) items)) (places_from 0 mask) before.some (range_first items k c.loop-start-test.true) before.ends c.append_ends.new.ends pushed;
+    }
+
+pub returns-clause-bytes : goal.returns-clause-bytes
+returns-clause-bytes g c = λ bytes inside.
+    let items = c.ranges-ranges.result.now in
+    let all = take_all c.loop-start.start-index items c.loop-start-test.false in
+    c.loop-start.invariant.bytes bytes inside ∙ (ap (λ rs. concat (map (row_in c.args.rows.now bytes) (named rs))) all ∙ bytes_of_ranges c.args.rows.now bytes c.range.ensures.sound inside items c.args.filter.now c.ranges-ranges.ensures.named)
