@@ -1,5 +1,6 @@
 pub mod ArrayLemmas
 pub mod ChoiceLemmas
+pub mod ChosenLemmas
 pub mod ChunkLemmas
 pub mod FilterLemmas
 pub mod IndexLemmas
@@ -9,6 +10,7 @@ pub mod RangeLemmas
 pub mod SetBytes
 pub mod SetLemmas
 pub mod ShiftLemmas
+pub mod SideLemmas
 pub mod SpanLemmas
 pub mod TakenBytes
 pub mod TakenFields
