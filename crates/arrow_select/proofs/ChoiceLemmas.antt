@@ -1,53 +1,22 @@
 -- Rows that a predicate chooses from two lists, a run of equal rows of the predicate at a time.
-use Rattle.std.proofs.Common.{arith, ◌≡◌, ◌+◌, ◌-◌, ◌≤◌, ◌<◌, ℕ, zero, suc, Bool, true, false, Option, Some, None, List, [], ◌∷◌, ◌++◌, length, map, replicate, take, drop, get_or, refl, ap, sym, subst, inl, inr, ◌∙◌, append_assoc, length-drop}
+use Rattle.std.proofs.Common.{arith, ◌≡◌, ◌+◌, ◌-◌, ◌≤◌, ◌<◌, ℕ, zero, suc, Bool, true, false, Option, Some, None, List, [], ◌∷◌, ◌++◌, length, replicate, take, drop, get_or, refl, ap, sym, subst, inl, inr, ◌∙◌, append_assoc, length-drop}
 use Rattle.std.specs.Prelude.{slice_get}
-use Rattle.std.proofs.lemmas.List.{append-nil, drop-drop, get_or-drop, get_or-replicate, get_or-take, length-map, take-replicate, take-take}
+use Rattle.std.proofs.Math.Seq.{drop-append_seam, take-append_seam}
+use Rattle.std.proofs.lemmas.List.{append-nil, drop-drop, get_or-drop, get_or-replicate, get_or-take, length-append, length-replicate}
 use Rattle.std.proofs.lemmas.Option.{slice_get-get_or}
 use Rattle.arrow_types.specs.ArrowType.{ArrowType}
-use Rattle.arrow_types.specs.Rows.{chosen, choice, mask, masked}
+use Rattle.arrow_types.specs.Rows.{chosen, choice}
 use Rattle.arrow_types.specs.Slot.{Slot, Null, Boolean, null_slot}
 use Rattle.arrow_memory.specs.Sliced.{sliced}
-use Rattle.arrow_memory.proofs.OffsetLemmas.{map_sliced}
 use Rattle.arrow_memory.proofs.SlicedLemmas.{length-sliced}
-use Rattle.arrow_flat.specs.Parts.{bits_of_slice}
-use Rattle.arrow_flat.proofs.PartsLemmas.{masked-sliced}
-use Rattle.arrow_flat.proofs.RunLemmas.{mask_of_nulls, mask_of_values}
 use Rattle.arrow_arrays.specs.Layout.{Layout, rows, type_of_layout}
-use Rattle.arrow_arrays.proofs.NullLemmas.{map_constant}
 use Rattle.arrow_flat_growable.specs.Grown.{Grown, CannotHold, FitsWith, NamesRows, named_rows}
 use Rattle.arrow_growable.specs.Growing.{HasAppended}
 use Rattle.arrow_growable.proofs.GrowLemmas.{named, nulls, refuses_whole, too_many_first}
+use Rattle.arrow_select.specs.Runs.{TakesRun}
 use Rattle.arrow_select.specs.Choice.{AreOneLength, CannotAppendChosen, CannotChoose, CannotHoldRun, ChosenDoNotFit, run_rows, truth_slot}
 
--- runs of a predicate
-
--- a part of the rows under a validity
-rows_part : (v : Option (List Bool)) (xs : List Slot) (row n : ℕ) → row + n ≤ length xs → sliced (masked v xs) row n ≡ mask (bits_of_slice v row n) (sliced xs row n)
-rows_part None xs row n within = sym (mask_of_values (sliced xs row n) n (omega (arith, length-sliced xs row n within)))
-rows_part (Some bits) xs row n within = sym (masked-sliced (Some bits) xs row n)
-
--- a beginning of bits that are all set
-fewer_set : (v : Option (List Bool)) (row n m : ℕ) → m ≤ n → bits_of_slice v row n ≡ replicate n true → bits_of_slice v row m ≡ replicate m true
-fewer_set None row n m less set = refl
-fewer_set (Some bits) row n m less set =
-    sym (take-take m n (drop row bits) less) ∙ (ap (take m) set ∙ take-replicate m n true less)
-
-module _ (v : Option (List Bool)) (bits : List Bool) (row n : ℕ) where
-  -- nulls
-  pub null_run : row + n ≤ length bits → bits_of_slice v row n ≡ replicate n false → sliced (masked v (map Boolean bits)) row n ≡ replicate n (truth_slot None)
-  null_run within unset =
-      let long : row + n ≤ length (map Boolean bits) = omega (arith, within, length-map bits Boolean) in
-      rows_part v (map Boolean bits) row n long ∙ (ap (λ bs. mask bs (sliced (map Boolean bits) row n)) unset ∙ mask_of_nulls (sliced (map Boolean bits) row n) n (omega (arith, length-sliced (map Boolean bits) row n long)))
-
-  -- equal truth values, of so many that are valid
-  pub truth_run : (m : ℕ) (b : Bool) → row + n ≤ length bits → m ≤ n → bits_of_slice v row n ≡ replicate n true → sliced bits row m ≡ replicate m b → sliced (masked v (map Boolean bits)) row m ≡ replicate m (truth_slot (Some b))
-  truth_run m b within less set run =
-      let long : row + m ≤ length (map Boolean bits) = omega (arith, within, less, length-map bits Boolean) in
-      let xs = sliced (map Boolean bits) row m in
-      let valid = ap (λ bs. mask bs xs) (fewer_set v row n m less set) ∙ mask_of_values xs m (omega (arith, length-sliced (map Boolean bits) row m long)) in
-      rows_part v (map Boolean bits) row m long ∙ (valid ∙ (sym (map_sliced Boolean bits row m) ∙ (ap (map Boolean) run ∙ map_constant Boolean m b)))
-
--- what such a run chooses
+-- what a run of equal rows of the predicate chooses
 
 none_left : (ps rs : List Slot) (t : ArrowType) → chosen ps [] rs t ≡ []
 none_left [] rs t = refl
@@ -122,6 +91,25 @@ module _ (ps ls rs : List Slot) (t : ArrowType) (row count : ℕ) (lengths : (le
       let here : chosen (drop row ps) (drop row ls) (drop row rs) t ≡ side_rows side ls rs t row count ++ rest =
       chosen_cut count (drop row ps) (drop row ls) (drop row rs) t ∙ (λ i. run_chooses side run i ++ chosen (drop-drop count row ps i) (drop-drop count row ls i) (drop-drop count row rs i) t) in
       append_assoc kept (side_rows side ls rs t row count) rest ∙ (ap (λ ys. kept ++ ys) (sym here) ∙ so_far)
+
+-- a run that is taken of the rows of a predicate, of which those that are left are all from a row on
+pub record IsTaken (ps : List Slot) (truth : Option Bool) (row count : ℕ) (new : ℕ × List Slot) : Type 0 where
+  pub within : row + count ≤ length ps
+  pub run : sliced ps row count ≡ replicate count (truth_slot truth)
+  pub next : new.0 ≡ row + count
+  pub left : new.1 ≡ drop new.0 ps
+
+pub run_taken : (ps : List Slot) (old new : ℕ × List Slot) (truth : Option Bool) (row count : ℕ) → old.1 ≡ drop old.0 ps → TakesRun old new truth row count → IsTaken ps truth row count new
+run_taken ps old new truth row count is taken =
+    let xs : List Slot = replicate count (truth_slot truth) in
+    let long : length xs ≡ count = length-replicate count (truth_slot truth) in
+    let cut : drop row ps ≡ xs ++ new.1 = ap (λ k. drop k ps) taken.first ∙ (sym is ∙ taken.rows) in
+    record {
+      within = omega (arith, ap length cut, length-drop row ps, length-append xs new.1, long, taken.some);
+      run = ap (take count) cut ∙ (ap (λ k. take k (xs ++ new.1)) (sym long) ∙ take-append_seam xs new.1);
+      next = taken.next;
+      left = sym (ap (λ k. drop k ps) taken.next ∙ (sym (drop-drop count row ps) ∙ (ap (drop count) cut ∙ (ap (λ k. drop k (xs ++ new.1)) (sym long) ∙ drop-append_seam xs new.1))));
+    }
 
 -- a row of a run
 read_run : (xs : List Slot) (row n j : ℕ) (x : Slot) → row ≤ j → j < row + n → row + n ≤ length xs → sliced xs row n ≡ replicate n x → slice_get xs j ≡ Some x

@@ -1,5 +1,6 @@
 pub mod ArrayLemmas
 pub mod ChoiceLemmas
+pub mod ChosenLemmas
 pub mod ChunkLemmas
 pub mod EdgeLemmas
 pub mod ExtendLemmas
@@ -16,6 +17,7 @@ pub mod RunBits
 pub mod SetBytes
 pub mod SetLemmas
 pub mod ShiftLemmas
+pub mod SideLemmas
 pub mod SpanLemmas
 pub mod TakenBytes
 pub mod TakenFields

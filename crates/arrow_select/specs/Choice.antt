@@ -1,8 +1,9 @@
 -- Rows of two arrays as a predicate chooses: in runs of rows of one of them, or of nulls, and why they are refused.
-use Rattle.std.specs.Prelude.{◌≡◌, ◌⊎◌, ℕ, Bool, true, false, Option, Some, None, List, [], ◌∷◌, length, slice_get}
+use Rattle.std.specs.Prelude.{◌≡◌, ◌<◌, ◌⊎◌, ◌&&◌, ℕ, Bool, true, false, Option, Some, None, List, [], ◌∷◌, length, slice_get, slice_index_or, if◌then◌else◌}
 use Rattle.arrow_types.specs.Fits.{Fits}
-use Rattle.arrow_types.specs.Rows.{chosen}
+use Rattle.arrow_types.specs.Rows.{chosen, valid_at}
 use Rattle.arrow_types.specs.Slot.{Slot, Null, Boolean}
+use Rattle.arrow_flat.specs.Parts.{Parts, FitsRows}
 use Rattle.arrow_arrays.specs.Crowded.{CrowdedRow, Unjoined}
 use Rattle.arrow_arrays.specs.Layout.{Layout, rows, type_of_layout}
 use Rattle.arrow_flat_growable.specs.Grown.{Grown, CannotHold, FitsWith, named_rows, null_rows_of}
@@ -42,3 +43,18 @@ abbrev pub CannotHoldRun : Grown → Option Bool → ℕ → ℕ → Type 0
 CannotHoldRun g None row count = FitsWith g (null_rows_of g count) → ⊥
 CannotHoldRun g (Some true) row count = CannotHold g 0 row count
 CannotHoldRun g (Some false) row count = CannotHold g 1 row count
+
+-- the members of two lists that bits choose: those of the left one where a bit is set, and of the right one where it is not
+abbrev pub chosen_by : {A : Type 0} → List Bool → List A → List A → List A
+chosen_by (bit ∷ bits) (x ∷ xs) (y ∷ ys) = (if bit then x else y) ∷ chosen_by bits xs ys
+chosen_by _ _ _ = []
+
+-- whether the row that a predicate chooses at a place is valid, of arrays of these validities: it is where the predicate's row is, and the row of the side
+abbrev pub valid_chosen : Parts (List Bool) → Option (List Bool) → Option (List Bool) → ℕ → Bool
+valid_chosen p left right i =
+    valid_at p.validity i && (if slice_index_or p.values i false then valid_at left i else valid_at right i)
+
+-- a validity of all rows that are chosen
+pub record MarksChosen (p : Parts (List Bool)) (left right validity : Option (List Bool)) : Type 0 where
+  pub fits : FitsRows validity (length p.values)
+  pub each : (i : ℕ) → i < length p.values → valid_at validity i ≡ valid_chosen p left right i

@@ -7,6 +7,7 @@ pub mod Keys
 pub mod Laws
 pub mod Ranges
 pub mod Refusals
+pub mod Runs
 pub mod Selected
 pub mod Selection
 pub mod Spans

@@ -1,28 +1,36 @@
 //! Rows of two arrays, as a predicate chooses.
 
-ghost use Rattle.std.specs.Prelude.{◌≡◌, ◌≢◌, ◌↔◌, ◌+◌, ◌<◌, ◌≤◌, [], ◌∷◌, false, Err, length, replicate, option_copied, IfOk, IfErr, OnOk};
+ghost use Rattle.std.specs.Prelude.{◌≡◌, ◌≢◌, ◌↔◌, [], ◌∷◌, false, Err, IfOk, IfErr, IsOkUnless, OnOk};
 ghost use Rattle.arrow_types.specs.declared.error.Error.{Error};
 ghost use Rattle.arrow_types.specs.declared.error.ArgumentFault.{ArgumentFault};
 ghost use Rattle.arrow_types.specs.Fits.{Fits};
+ghost use Rattle.arrow_types.specs.Ranges.{IsShortestOfSides, named_sides};
 ghost use Rattle.arrow_types.specs.Rows.{chosen};
 ghost use Rattle.arrow_memory.specs.Grown.{IsGrowthError};
-ghost use Rattle.arrow_memory.specs.Sliced.{sliced};
-ghost use Rattle.arrow_flat.specs.Parts.{FitsRows, bits_of_slice, boolean_rows};
+ghost use Rattle.arrow_flat.specs.Parts.{boolean_rows};
 ghost use Rattle.arrow_arrays.specs.Any.{any_array_type, any_array_rows, layout_of};
 ghost use Rattle.arrow_flat_growable.specs.Grown.{FitsItself, NamesRows, appended, bound_to};
 ghost use Rattle.arrow_growable.specs.AnyGrowable.{grown_of};
 ghost use Rattle.arrow_growable.specs.Growing.{HasAppended};
 ghost use Rattle.arrow_select.specs.Choice.{AreOneLength, CannotAppendChosen, CannotChoose, CannotHoldRun, run_rows, truth_slot};
 ghost use Rattle.arrow_select.specs.Keys.{HasNoDictionary};
+ghost use Rattle.arrow_select.specs.Ranges.{side_of, sides_from};
 ghost use Rattle.arrow_select.specs.Refusals.{IsIfThenElseRefusal};
+
+mod boolean;
+mod primitive;
+mod runs;
+mod words;
 
 use crate::concatenate::is_of_type;
 use crate::keys::show_all_no_keys;
 use arrow_arrays::array::AnyArray;
 use arrow_flat::array::BooleanArray;
 use arrow_growable::growable::{AnyGrowable, Growable, make_growable};
-use arrow_memory::bitmap::Bitmap;
 use arrow_types::error::{ArgumentFault, Error};
+use boolean::chosen_booleans;
+use primitive::chosen_primitives;
+use runs::Runs;
 use std::alloc::Global;
 
 /// The rows of the left array where the predicate is true, those of the right one where it is false, and the type's
@@ -59,12 +67,44 @@ pub fn if_then_else(
     }
     // An array of a type without dictionaries holds none.
     show_all_no_keys(&[lhs, rhs]);
-    let growable = make_growable(alloc, &[lhs, rhs], false, len)?;
-    chosen_rows(growable, predicate, lhs, rhs)
+    chosen_rows(alloc, predicate, lhs, rhs)
 }
 
-/// The rows that the predicate chooses, by a growable over both arrays that has none yet.
+/// The rows that the predicate chooses of two arrays of one data type: of numbers, intervals and truth values by words,
+/// and of others by runs.
 fn chosen_rows(
+    alloc: Global,
+    predicate: &BooleanArray,
+    lhs: &AnyArray,
+    rhs: &AnyArray,
+) -> Result<AnyArray, Error>
+    requires one_type { any_array_type lhs.now ≡ any_array_type rhs.now }
+    requires lengths { AreOneLength (boolean_rows predicate.now) (any_array_rows lhs.now) (any_array_rows rhs.now) }
+    ensures array_type { IfOk result (λ all. any_array_type all ≡ any_array_type lhs.now) }
+    ensures rows { IfOk result (λ all. any_array_rows all ≡ chosen (boolean_rows predicate.now) (any_array_rows lhs.now) (any_array_rows rhs.now) (any_array_type lhs.now)) }
+    ensures fits { IfOk result (λ all. Fits (any_array_type all) (any_array_rows all)) }
+    ensures overflow { result ≡ Err Error.Overflow → CannotChoose (boolean_rows predicate.now) (layout_of lhs.now) (layout_of rhs.now) }
+    ensures others { IfErr result IsGrowthError }
+{
+    match (lhs, rhs) {
+        (AnyArray::Boolean(left), AnyArray::Boolean(right)) => {
+            Ok(AnyArray::Boolean(chosen_booleans(alloc, predicate, left, right)?))
+        }
+        (AnyArray::Primitive(left), AnyArray::Primitive(right)) => {
+            // Arrays of one data type have one element type.
+            let _ = left.data_type();
+            let _ = right.data_type();
+            Ok(AnyArray::Primitive(chosen_primitives(alloc, predicate, left, right)?))
+        }
+        _ => {
+            let growable = make_growable(alloc, &[lhs, rhs], false, predicate.len())?;
+            chosen_by_runs(growable, predicate, lhs, rhs)
+        }
+    }
+}
+
+/// The same by a growable over both arrays that has no row yet.
+fn chosen_by_runs(
     growable: AnyGrowable,
     predicate: &BooleanArray,
     lhs: &AnyArray,
@@ -79,12 +119,12 @@ fn chosen_rows(
     ensures others { IfErr result IsGrowthError }
 {
     let mut growable = growable;
-    append_chosen(&mut growable, predicate, lhs, rhs)?;
+    append_by_kind(&mut growable, predicate, lhs, rhs)?;
     growable.as_box()
 }
 
-/// Appends the rows that the predicate chooses, a run of rows of one array or of nulls at a time.
-fn append_chosen(
+/// Appends the rows that the predicate chooses, by the growable of the arrays' kind, which is found once.
+fn append_by_kind(
     growable: &mut AnyGrowable,
     predicate: &BooleanArray,
     lhs: &AnyArray,
@@ -96,67 +136,96 @@ fn append_chosen(
     ensures overflow { result ≡ Err Error.Overflow → CannotAppendChosen (boolean_rows predicate.now) (layout_of lhs.now) (layout_of rhs.now) }
     ensures others { IfErr result IsGrowthError }
 {
+    match growable {
+        AnyGrowable::Null(nulls) => append_chosen(nulls, predicate, lhs, rhs),
+        AnyGrowable::Boolean(values) => append_chosen(values, predicate, lhs, rhs),
+        AnyGrowable::Primitive(values) => append_chosen(values, predicate, lhs, rhs),
+        AnyGrowable::Utf8(texts) => append_chosen(texts, predicate, lhs, rhs),
+        AnyGrowable::LargeUtf8(texts) => append_chosen(texts, predicate, lhs, rhs),
+        AnyGrowable::Binary(bytes) => append_chosen(bytes, predicate, lhs, rhs),
+        AnyGrowable::LargeBinary(bytes) => append_chosen(bytes, predicate, lhs, rhs),
+        AnyGrowable::FixedSizeBinary(bytes) => append_chosen(bytes, predicate, lhs, rhs),
+        AnyGrowable::Nested(nested) => append_chosen(nested, predicate, lhs, rhs),
+        AnyGrowable::Dictionary(keys) => append_chosen(keys, predicate, lhs, rhs),
+        AnyGrowable::Union(variants) => append_chosen(variants, predicate, lhs, rhs),
+    }
+}
+
+/// Appends the rows that the predicate chooses, a run of rows of one array or of nulls at a time.
+fn append_chosen<'a, G: Growable<'a>>(
+    growable: &mut G,
+    predicate: &BooleanArray,
+    lhs: &AnyArray,
+    rhs: &AnyArray,
+) -> Result<(), Error>
+    requires bound { G.state growable.old ≡ bound_to (layout_of lhs.now ∷ layout_of rhs.now ∷ []) }
+    requires lengths { AreOneLength (boolean_rows predicate.now) (any_array_rows lhs.now) (any_array_rows rhs.now) }
+    ensures ok { OnOk result (HasAppended (layout_of lhs.now ∷ layout_of rhs.now ∷ []) (G.state growable.new) (chosen (boolean_rows predicate.now) (any_array_rows lhs.now) (any_array_rows rhs.now) (any_array_type lhs.now))) }
+    ensures overflow { result ≡ Err Error.Overflow → CannotAppendChosen (boolean_rows predicate.now) (layout_of lhs.now) (layout_of rhs.now) }
+    ensures others { IfErr result IsGrowthError }
+{
     prove!(lhs.len() == rhs.len());
-    let len = predicate.len();
-    let mut row = 0;
-    while row < len {
-        let (side, count) = run_at(predicate, row);
-        append_run(growable, side, row, count)?;
-        row += count;
+    let mut runs = Runs::new(predicate);
+    while let Some((truth, start, count)) = runs.next() {
+        append_run(growable, truth, start, count)?;
     }
     Ok(())
 }
 
 /// Appends rows of the first array that is bound, of the second one, or nulls.
-fn append_run(
-    growable: &mut AnyGrowable,
-    side: Option<bool>,
-    row: usize,
+#[inline(always)]
+fn append_run<'a, G: Growable<'a>>(
+    growable: &mut G,
+    truth: Option<bool>,
+    start: usize,
     count: usize,
 ) -> Result<(), Error>
-    requires left { NamesRows (grown_of growable.old) 0 row count }
-    requires right { NamesRows (grown_of growable.old) 1 row count }
-    requires well { (grown_of growable.old).failed ≡ false }
-    ensures ok { OnOk result (grown_of growable.new ≡ appended (grown_of growable.old) (run_rows (grown_of growable.old) side row count)) }
-    ensures fits { OnOk result (FitsItself (grown_of growable.new)) }
-    ensures overflow { result ≡ Err Error.Overflow → CannotHoldRun (grown_of growable.old) side row count }
+    requires left { NamesRows (G.state growable.old) 0 start count }
+    requires right { NamesRows (G.state growable.old) 1 start count }
+    requires well { (G.state growable.old).failed ≡ false }
+    ensures ok { OnOk result (G.state growable.new ≡ appended (G.state growable.old) (run_rows (G.state growable.old) truth start count)) }
+    ensures fits { OnOk result (FitsItself (G.state growable.new)) }
+    ensures overflow { result ≡ Err Error.Overflow → CannotHoldRun (G.state growable.old) truth start count }
     ensures others { IfErr result IsGrowthError }
 {
-    match side {
-        Some(true) => growable.extend(0, row, count),
-        Some(false) => growable.extend(1, row, count),
+    match truth {
+        Some(true) => growable.extend(0, start, count),
+        Some(false) => growable.extend(1, start, count),
         None => growable.extend_validity(count),
     }
 }
 
-/// A row of a predicate, null or not, and how many rows from there on are as it is.
-fn run_at(predicate: &BooleanArray, row: usize) -> (Option<bool>, usize)
-    requires { row < length (boolean_rows predicate.now) }
-    ensures some { 0 < result.1 }
-    ensures within { row + result.1 ≤ length (boolean_rows predicate.now) }
-    ensures run { sliced (boolean_rows predicate.now) row result.1 ≡ replicate result.1 (truth_slot result.0) }
+/// The rows that `if_then_else` copies by a predicate, as ranges in order: the side, the first row, and how many rows.
+/// Side 0 is the left array, where the predicate is true, and side 1 the right one, where it is false; side 2 names
+/// places at which it is null. No list of ranges that names the same is shorter.
+///
+/// # Errors
+/// `OutOfMemory` where memory is refused.
+///
+/// Source: of our own.
+pub fn if_then_else_ranges(
+    alloc: Global,
+    predicate: &BooleanArray,
+) -> Result<Vec<(usize, usize, usize)>, Error>
+    ensures named { IfOk result (λ ranges. named_sides ranges.items ≡ sides_from 0 (boolean_rows predicate.now)) }
+    ensures shortest { IfOk result (λ ranges. IsShortestOfSides ranges.items) }
+    ensures err { IsOkUnless result Error.OutOfMemory }
 {
-    let (is_valid, count) = valid_run_at(predicate.validity(), row, predicate.len());
-    if !is_valid {
-        return (None, count);
+    let mut runs = Runs::new(predicate);
+    let mut ranges = Vec::new(alloc);
+    while let Some((truth, start, count)) = runs.next() {
+        ranges.push((side_number(truth), start, count))?;
     }
-    let (value, end) = predicate.values().run_at(row, row + count);
-    (Some(value), end - row)
+    Ok(ranges)
 }
 
-/// Whether a row is valid, and how many from there on are as it is, of `len` rows.
-fn valid_run_at(validity: Option<&Bitmap>, row: usize, len: usize) -> (bool, usize)
-    requires within { row < len }
-    requires fits { FitsRows (option_copied validity) len }
-    ensures some { 0 < result.1 }
-    ensures within { row + result.1 ≤ len }
-    ensures run { bits_of_slice (option_copied validity.entry) row result.1 ≡ replicate result.1 result.0 }
+/// The side of a row of a predicate, null or not.
+fn side_number(truth: Option<bool>) -> usize
+    ensures { result ≡ side_of (truth_slot truth) }
 {
-    match validity {
-        None => (true, len - row),
-        Some(validity) => {
-            let (is_valid, end) = validity.run_at(row, len);
-            (is_valid, end - row)
-        }
+    match truth {
+        Some(true) => 0,
+        Some(false) => 1,
+        None => 2,
     }
 }

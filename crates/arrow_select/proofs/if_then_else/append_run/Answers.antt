@@ -1,4 +1,5 @@
 use Rattle.arrow_select.proofs.if_then_else.append_run.Goals as goal
 
 pub returns-in-None-clause-overflow : goal.returns-in-None-clause-overflow
-returns-in-None-clause-overflow c overflows = rw c.in-None.is (c.extend_validity.ensures.overflow overflows)
+returns-in-None-clause-overflow g c overflows =
+    rw c.in-None.is (c.extend_validity.ensures.overflow overflows)

@@ -1,8 +1,9 @@
-use Rattle.std.proofs.Common.{Err, ap}
-use Rattle.arrow_flat_growable.proofs.ResultLemmas.{passed_on}
+use Rattle.arrow_flat.specs.Parts.{boolean_rows}
+use Rattle.arrow_arrays.specs.Any.{layout_of}
+use Rattle.arrow_select.proofs.ChoiceLemmas.{cannot_choose}
 use Rattle.arrow_select.proofs.if_then_else.chosen_rows.Goals as goal
 
-pub returns-in_err-append_chosen-clause-overflow :
-    goal.returns-in_err-append_chosen-clause-overflow
-returns-in_err-append_chosen-clause-overflow c overflows =
-    c.in_err-append_chosen.ensures.overflow (ap Err (passed_on c.from_residual.result _ _ c.from_residual.ensures.1 overflows))
+pub returns-in_ok-growable-in_default-clause-overflow :
+    goal.returns-in_ok-growable-in_default-clause-overflow
+returns-in_ok-growable-in_default-clause-overflow c overflows =
+    cannot_choose (boolean_rows c.args.predicate.now) (layout_of c.args.lhs.now) (layout_of c.args.rhs.now) (c.chosen_by_runs.ensures.overflow overflows)

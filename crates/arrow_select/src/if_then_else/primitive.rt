@@ -1,0 +1,107 @@
+//! Numbers and intervals of two arrays, as a predicate chooses.
+
+ghost use Rattle.std.specs.Prelude.{◌≡◌, map, IfOk, IsOkUnless};
+ghost use Rattle.arrow_types.specs.declared.error.Error.{Error};
+ghost use Rattle.arrow_types.specs.Fits.{Fits};
+ghost use Rattle.arrow_types.specs.Rows.{chosen};
+ghost use Rattle.arrow_flat.specs.AnyPrimitive.{any_rows, any_type, element_of};
+ghost use Rattle.arrow_flat.specs.Parts.{boolean_rows, rows_by};
+ghost use Rattle.arrow_select.specs.Choice.{AreOneLength};
+
+use crate::if_then_else::words::{chosen_validity, chosen_values};
+use arrow_flat::array::{AnyPrimitive, BooleanArray, PrimitiveArray};
+use arrow_memory::buffer::Buffer;
+use arrow_types::error::Error;
+use arrow_types::types::NativeType;
+use std::alloc::Global;
+
+/// The rows that the predicate chooses, in an array of the left one's type, of any element type.
+///
+/// # Requires
+/// Both arrays have one element type, and as many rows as the predicate.
+///
+/// # Errors
+/// `OutOfMemory` where memory is refused.
+pub(super) fn chosen_primitives(
+    alloc: Global,
+    predicate: &BooleanArray,
+    lhs: &AnyPrimitive,
+    rhs: &AnyPrimitive,
+) -> Result<AnyPrimitive, Error>
+    requires one_type { element_of lhs.now ≡ element_of rhs.now }
+    requires lengths { AreOneLength (boolean_rows predicate.now) (any_rows lhs.now) (any_rows rhs.now) }
+    ensures array_type { IfOk result (λ all. any_type all ≡ any_type lhs.now) }
+    ensures rows { IfOk result (λ all. any_rows all ≡ chosen (boolean_rows predicate.now) (any_rows lhs.now) (any_rows rhs.now) (any_type lhs.now)) }
+    ensures fits { IfOk result (λ all. Fits (any_type all) (any_rows all)) }
+    ensures err { IsOkUnless result Error.OutOfMemory }
+{
+    macro_rules! of_element {
+        ($left:ident, $right:ident, $element:ident) => {
+            Ok(AnyPrimitive::$element(chosen_numbers(alloc, predicate, $left, $right)?))
+        };
+    }
+    match (lhs, rhs) {
+        (AnyPrimitive::Int8(left), AnyPrimitive::Int8(right)) => of_element!(left, right, Int8),
+        (AnyPrimitive::Int16(left), AnyPrimitive::Int16(right)) => of_element!(left, right, Int16),
+        (AnyPrimitive::Int32(left), AnyPrimitive::Int32(right)) => of_element!(left, right, Int32),
+        (AnyPrimitive::Int64(left), AnyPrimitive::Int64(right)) => of_element!(left, right, Int64),
+        (AnyPrimitive::Int128(left), AnyPrimitive::Int128(right)) => of_element!(
+            left, right, Int128
+        ),
+        (AnyPrimitive::Int256(left), AnyPrimitive::Int256(right)) => of_element!(
+            left, right, Int256
+        ),
+        (AnyPrimitive::UInt8(left), AnyPrimitive::UInt8(right)) => of_element!(left, right, UInt8),
+        (AnyPrimitive::UInt16(left), AnyPrimitive::UInt16(right)) => of_element!(
+            left, right, UInt16
+        ),
+        (AnyPrimitive::UInt32(left), AnyPrimitive::UInt32(right)) => of_element!(
+            left, right, UInt32
+        ),
+        (AnyPrimitive::UInt64(left), AnyPrimitive::UInt64(right)) => of_element!(
+            left, right, UInt64
+        ),
+        (AnyPrimitive::DaysMs(left), AnyPrimitive::DaysMs(right)) => of_element!(
+            left, right, DaysMs
+        ),
+        (AnyPrimitive::MonthDayNano(left), AnyPrimitive::MonthDayNano(right)) => of_element!(
+            left,
+            right,
+            MonthDayNano
+        ),
+        _ => unreachable!(),
+    }
+}
+
+/// The same of one element type.
+///
+/// # Requires
+/// Both arrays have as many rows as the predicate.
+///
+/// # Errors
+/// `OutOfMemory` where memory is refused.
+fn chosen_numbers<T: NativeType>(
+    alloc: Global,
+    predicate: &BooleanArray,
+    lhs: &PrimitiveArray<T>,
+    rhs: &PrimitiveArray<T>,
+) -> Result<PrimitiveArray<T>, Error>
+    requires lengths { AreOneLength (boolean_rows predicate.now) (rows_by (map T.slot) lhs.now) (rows_by (map T.slot) rhs.now) }
+    ensures array_type { IfOk result (λ all. all.arrow_type ≡ lhs.now.arrow_type) }
+    ensures rows { IfOk result (λ all. rows_by (map T.slot) all ≡ chosen (boolean_rows predicate.now) (rows_by (map T.slot) lhs.now) (rows_by (map T.slot) rhs.now) lhs.now.arrow_type) }
+    ensures fits { IfOk result (λ all. Fits all.arrow_type (rows_by (map T.slot) all)) }
+    ensures err { IsOkUnless result Error.OutOfMemory }
+{
+    // Each array has as many rows as it has values.
+    prove!(lhs.len() == predicate.len());
+    prove!(rhs.len() == predicate.len());
+    let data_type = lhs.data_type();
+    let (left, right) = (lhs.values().as_slice(), rhs.values().as_slice());
+    let values = chosen_values(alloc, predicate.values(), left, right)?;
+    let validity = chosen_validity(alloc, predicate, lhs.validity(), rhs.validity())?;
+    let values = Buffer::from_vec(alloc, values)?;
+    let Ok(all) = PrimitiveArray::try_new(data_type.clone()?, values, validity) else {
+        unreachable!();
+    };
+    Ok(all)
+}
