@@ -1,4 +1,4 @@
-//! Rows that are kept, joined, chosen, moved, and named by their numbers.
+//! Rows that are kept, joined, chosen, moved, and named by their numbers or by ranges.
 
 ghost use Rattle.std.specs.Prelude.{◌≡◌, length, IfOk};
 ghost use Rattle.arrow_flat.specs.Parts.{boolean_rows};
@@ -77,7 +77,20 @@ fn build_and_apply(
     ensures { IfOk result (λ kept. any_array_type kept ≡ any_array_type array.now) }
 {
     let built = filter::build_filter(alloc, predicate)?;
-    built.apply(alloc, array)
+    built.apply(array)
+}
+
+pub(super) fn ranges(alloc: Global, arguments: &[Literal<'_>]) -> Answer {
+    let [predicate] = arguments else {
+        return Answer::Refused(Refusal::Usage);
+    };
+    let Some(predicate) = as_boolean(predicate) else {
+        return Answer::Refused(Refusal::Usage);
+    };
+    match filter::build_filter(alloc, predicate) {
+        Ok(built) => Answer::Ranges(built),
+        Err(error) => Answer::Refused(Refusal::Kernel(error)),
+    }
 }
 
 pub(super) fn if_then_else(alloc: Global, arguments: &[Literal<'_>]) -> Answer {
@@ -94,6 +107,19 @@ pub(super) fn if_then_else(alloc: Global, arguments: &[Literal<'_>]) -> Answer {
         return Answer::Refused(beside_too_long(arguments));
     };
     Answer::of_kernel(if_then_else::if_then_else(alloc, predicate, lhs.as_array(), rhs.as_array()))
+}
+
+pub(super) fn if_then_else_ranges(alloc: Global, arguments: &[Literal<'_>]) -> Answer {
+    let [predicate] = arguments else {
+        return Answer::Refused(Refusal::Usage);
+    };
+    let Some(predicate) = as_boolean(predicate) else {
+        return Answer::Refused(Refusal::Usage);
+    };
+    match if_then_else::if_then_else_ranges(alloc, predicate) {
+        Ok(ranges) => Answer::SideRanges(ranges),
+        Err(error) => Answer::Refused(Refusal::Kernel(error)),
+    }
 }
 
 pub(super) fn shift(alloc: Global, arguments: &[Literal<'_>]) -> Answer {
