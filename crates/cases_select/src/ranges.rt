@@ -6,7 +6,6 @@ use arrow_select::if_then_else::if_then_else_ranges;
 use arrow_text::call::Call;
 use arrow_text::fault::Fault;
 use std::alloc::Global;
-use std::fmt::Write;
 
 /// The ranges of the rows that a prepared filter keeps, with a space between two, and `none` of no row.
 pub(crate) fn answer_kept(alloc: Global, call: &Call<'_>, out: &mut String) -> Result<(), Fault> {
