@@ -210,9 +210,17 @@ def filter_chunk(p, *columns):
 
 @call("filter::build_filter", "P A*")
 def build_filter(p, *arrays):
-    """How many rows the filter keeps, of how many, and what it keeps of each array."""
+    """How many rows the filter keeps, of how many, and what it keeps of each array, or why it refuses."""
     head = f"{sum(row is True for row in p)} {len(p)}"
-    return " ".join([head] + [write_rows(*kernels.filtered(array, p)) for array in arrays])
+    return " ".join([head] + [applied(p, array) for array in arrays])
+
+
+def applied(p, array):
+    """The rows of an array that a filter keeps, or the name of its refusal."""
+    try:
+        return write_rows(*kernels.filtered(array, p))
+    except Refused as refused:
+        return str(refused)
 
 
 @call("filter::extend_from_word", "primitive primitive n")

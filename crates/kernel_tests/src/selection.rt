@@ -53,7 +53,7 @@ fn extends(alloc: Global, _name: &str, arrays: &[AnyArray]) -> Result<bool, Faul
         return Err(Fault::Usage);
     }
     let mut counting = Counting {
-        growable: GrowablePrimitive::new(alloc, Vec::from_slice(alloc, &[rows])?, false, 0)?,
+        growable: GrowablePrimitive::new(alloc, vec![in alloc; rows]?, false, 0)?,
         calls: 0,
     };
     filter.extend_into(&mut counting, 0)?;
