@@ -23,8 +23,7 @@ pub(crate) enum Command {
     Filter,
     IfThenElse,
     IfThenElseRanges,
-    IsNotNull,
-    IsNull,
+    IsNull(bool),
     Length,
     Not,
     Nullif,
@@ -51,8 +50,8 @@ impl Command {
             "gt_eq" => Some(Command::Relate(Relation::GtEq)),
             "if_then_else" => Some(Command::IfThenElse),
             "if_then_else_ranges" => Some(Command::IfThenElseRanges),
-            "is_not_null" => Some(Command::IsNotNull),
-            "is_null" => Some(Command::IsNull),
+            "is_not_null" => Some(Command::IsNull(false)),
+            "is_null" => Some(Command::IsNull(true)),
             "kleene_and" => Some(Command::Connect(Connective::KleeneAnd)),
             "kleene_or" => Some(Command::Connect(Connective::KleeneOr)),
             "length" => Some(Command::Length),
@@ -84,8 +83,7 @@ impl Command {
             Command::Filter => Ok(selection::filter(alloc, arguments)),
             Command::IfThenElse => Ok(selection::if_then_else(alloc, arguments)),
             Command::IfThenElseRanges => Ok(selection::if_then_else_ranges(alloc, arguments)),
-            Command::IsNotNull => Ok(logic::is_not_null(alloc, arguments)),
-            Command::IsNull => Ok(logic::is_null(alloc, arguments)),
+            Command::IsNull(is_null) => Ok(logic::is_null(alloc, is_null, arguments)),
             Command::Length => Ok(text::length(alloc, arguments)),
             Command::Not => Ok(logic::not(alloc, arguments)),
             Command::Nullif => Ok(pairs::nullif(alloc, arguments)),
@@ -101,6 +99,14 @@ impl Command {
 
 /// The answer where a text is too long for an array of its type.
 const TOO_LONG: Refusal = Refusal::Kernel(Error::Overflow);
+
+/// The array of truth values that is the only argument, if it is one.
+fn only_boolean<'a>(arguments: &'a [Literal<'_>]) -> Option<&'a BooleanArray> {
+    let [argument] = arguments else {
+        return None;
+    };
+    as_boolean(argument)
+}
 
 /// The array of truth values that an argument is, if it is one.
 fn as_boolean<'a>(argument: &'a Literal<'_>) -> Option<&'a BooleanArray> {

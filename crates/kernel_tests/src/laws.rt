@@ -179,9 +179,9 @@ fn filtered(alloc: Global, _name: &str, arrays: &[AnyArray]) -> Result<bool, Fau
     Ok(true)
 }
 
-/// They are taken to the same rows.
+/// They are taken to the same rows, those that are wanted.
 fn taken(alloc: Global, _name: &str, arrays: &[AnyArray]) -> Result<bool, Fault> {
-    let [array, other, indices] = arrays else {
+    let [array, other, indices, wanted] = arrays else {
         return Err(Fault::Usage);
     };
     let places = numbers(indices)?;
@@ -198,7 +198,7 @@ fn taken(alloc: Global, _name: &str, arrays: &[AnyArray]) -> Result<bool, Fault>
         places,
         &other_taken.array,
     );
-    Ok(true)
+    Ok(*taken.array == *wanted)
 }
 
 /// Whether two arrays are equal, as the name says, by the laws of equality: each is equal to itself, the left one to the right
@@ -216,8 +216,8 @@ fn equality(_alloc: Global, name: &str, arrays: &[AnyArray]) -> Result<bool, Fau
     }
 }
 
-/// An array, one of the same rows, and one of others; predicates and indices.
-const LINES: [Line; 11] = [
+/// An array, one of the same rows, and one of others; predicates and indices; rows that are wanted.
+const LINES: [Line; 12] = [
     ["equal i32[1,_2,3] i32[9,1,_,3]@1+3", ""],
     ["different i32[1,_2,3] i32[3,2,_1]", ""],
     ["logic bool[t,_,f]", ""],
@@ -228,7 +228,14 @@ const LINES: [Line; 11] = [
     ["concatenate i32[1,_2,3] i32[9,1,_,3]@1+3", ""],
     ["shift i32[1,_2,3] i32[9,1,_,3]@1+3", ""],
     ["filter i32[1,_2,3] i32[9,1,_,3]@1+3 bool[t,_,f]", ""],
-    ["take i32[1,_2,3] i32[9,1,_,3]@1+3 i32[2,_9,0]", ""],
+    [
+        "take i32[1,_2,3] i32[9,1,_,3]@1+3 i32[2,_9,0] i32[3,_,1]",
+        "",
+    ],
+    [
+        r#"take map<struct<utf8,i8>>[[("a",1)],_,[("b",2),("c",_)]] map<struct<utf8,i8>>[[],[("a",1)],_[("z",9)],[("b",2),("c",_3)]]@1+3 i32[1,2,_9,0,0] map<struct<utf8,i8>>[_,[("b",2),("c",_)],_,[("a",1)],[("a",1)]]"#,
+        "",
+    ],
 ];
 
 #[test]

@@ -1,18 +1,17 @@
-//! Rows that are copied into a growable of the caller's own, and rows by index.
+//! Rows that a prepared filter copies into a growable of the caller's own.
 
 use crate::arrays::{numbers, truths};
 use crate::lines::{Answer, Line, PLAIN, check_lines};
-use arrow_arrays::array::{AnyArray, are_within};
+use arrow_arrays::array::AnyArray;
 use arrow_growable::growable::{Growable, GrowablePrimitive};
 use arrow_select::filter::build_filter;
-use arrow_select::take::take;
 use arrow_text::fault::Fault;
 use arrow_text::given::Array;
 use arrow_types::error::Error;
 use std::alloc::Global;
 
 /// What is tested, by name.
-const ANSWERS: [(&str, Answer); 2] = [("extend_into", extends), ("take", takes)];
+const ANSWERS: [(&str, Answer); 1] = [("extend_into", extends)];
 
 /// A growable of numbers that counts how often rows are appended.
 #[derive(Drop)]
@@ -57,26 +56,13 @@ fn extends(alloc: Global, _name: &str, arrays: &[AnyArray]) -> Result<bool, Faul
         calls: 0,
     };
     filter.extend_into(&mut counting, 0)?;
-    let made = Array::new(alloc, counting.as_box())?;
+    let made = Array::new(alloc, counting.as_box()?)?;
     let are_so_many = numbers(calls)?.values().as_slice() == [counting.calls].as_slice();
     Ok(are_so_many & (*made.array == *wanted))
 }
 
-/// Whether these are the rows of an array by index.
-fn takes(alloc: Global, _name: &str, arrays: &[AnyArray]) -> Result<bool, Fault> {
-    let [array, indices, wanted] = arrays else {
-        return Err(Fault::Usage);
-    };
-    let places = numbers(indices)?;
-    if !are_within(places, array.len()) {
-        return Err(Fault::Usage);
-    }
-    let made = Array::new(alloc, take(alloc, array, places)?)?;
-    Ok(*made.array == *wanted)
-}
-
-/// A call for each range; a map by a run of indices, a null and one twice.
-const LINES: [Line; 7] = [
+/// Numbers, a predicate, the rows and the count of calls that are wanted.
+const LINES: [Line; 6] = [
     [
         "extend_into i32[1,2,3,4,5,6,7,8,9] bool[t,t,f,t,f,f,t,t,t] i32[1,2,4,7,8,9] i32[3]",
         "",
@@ -93,10 +79,6 @@ const LINES: [Line; 7] = [
     ],
     ["extend_into i32[1,2,3] bool[f,_t,f] i32[] i32[0]", ""],
     ["extend_into i32[] bool[] i32[] i32[0]", ""],
-    [
-        r#"take map<struct<utf8,i32>>[[("a",1)],_,[],[("b",2),("c",_)]] i32[2,3,_9,0,0] map<struct<utf8,i32>>[[],[("b",2),("c",_)],_,[("a",1)],[("a",1)]]"#,
-        "",
-    ],
 ];
 
 #[test]

@@ -4,7 +4,7 @@ ghost use Rattle.std.specs.Prelude.{◌≡◌, length, IfOk};
 ghost use Rattle.arrow_flat.specs.Parts.{boolean_rows};
 ghost use Rattle.arrow_arrays.specs.Any.{any_array_rows, any_array_type};
 
-use super::{TOO_LONG, as_boolean};
+use super::{TOO_LONG, as_boolean, only_boolean};
 use crate::answer::{Answer, Refusal};
 use crate::literals::Literal;
 use arrow_arrays::array::{AnyArray, are_within};
@@ -81,10 +81,7 @@ fn build_and_apply(
 }
 
 pub(super) fn ranges(alloc: Global, arguments: &[Literal<'_>]) -> Answer {
-    let [predicate] = arguments else {
-        return Answer::Refused(Refusal::Usage);
-    };
-    let Some(predicate) = as_boolean(predicate) else {
+    let Some(predicate) = only_boolean(arguments) else {
         return Answer::Refused(Refusal::Usage);
     };
     match filter::build_filter(alloc, predicate) {
@@ -110,10 +107,7 @@ pub(super) fn if_then_else(alloc: Global, arguments: &[Literal<'_>]) -> Answer {
 }
 
 pub(super) fn if_then_else_ranges(alloc: Global, arguments: &[Literal<'_>]) -> Answer {
-    let [predicate] = arguments else {
-        return Answer::Refused(Refusal::Usage);
-    };
-    let Some(predicate) = as_boolean(predicate) else {
+    let Some(predicate) = only_boolean(arguments) else {
         return Answer::Refused(Refusal::Usage);
     };
     match if_then_else::if_then_else_ranges(alloc, predicate) {
