@@ -14,12 +14,13 @@ use arrow_relate::relation::Relation;
 use arrow_select::concatenate::concatenate;
 use arrow_select::filter::filter;
 use arrow_select::laws as selected;
-use arrow_select::take::{can_take, take};
+use arrow_select::take::take;
 use arrow_select::window::shift;
 use arrow_text::fault::Fault;
 use arrow_text::given::{Array, Scalar};
 use arrow_text::piece::Piece;
 use arrow_text::scalar::read_scalar;
+use arrow_types::datatypes::DataType;
 use arrow_types::laws::{equals_both_ways, equals_itself, equals_through};
 use std::alloc::Global;
 
@@ -75,6 +76,9 @@ fn types(_alloc: Global, _name: &str, arrays: &[AnyArray]) -> Result<bool, Fault
     compared::can_lt_has_order(data_type);
     compared::can_eq_scalar_has_equality(data_type);
     compared::can_lt_scalar_has_order(data_type);
+    if matches!(data_type, DataType::Struct(_) | DataType::Union(_, _, _)) {
+        selected::can_take_goes_by_fields(data_type);
+    }
     Ok(true)
 }
 
@@ -118,15 +122,14 @@ fn selection(_alloc: Global, _name: &str, arrays: &[AnyArray]) -> Result<bool, F
         return Err(Fault::Usage);
     };
     let (filter, places) = (truths(predicate)?, numbers(indices)?);
-    let (len, data_type) = (array.len(), array.data_type());
-    if filter.len() != len || len < 1 || !are_within(places, places.len()) || !can_take(data_type) {
+    let len = array.len();
+    if filter.len() != len || len < 1 || !are_within(places, places.len()) {
         return Err(Fault::Usage);
     }
     selected::select_is_gather(array, filter);
     selected::joined_is_associative(array, array, array);
     selected::joined_of_cut(array, 1);
     selected::gather_of_gather(array, places, places);
-    selected::can_take_is_implemented(data_type, places);
     Ok(true)
 }
 
@@ -217,11 +220,12 @@ fn equality(_alloc: Global, name: &str, arrays: &[AnyArray]) -> Result<bool, Fau
 }
 
 /// An array, one of the same rows, and one of others; predicates and indices; rows that are wanted.
-const LINES: [Line; 12] = [
+const LINES: [Line; 13] = [
     ["equal i32[1,_2,3] i32[9,1,_,3]@1+3", ""],
     ["different i32[1,_2,3] i32[3,2,_1]", ""],
     ["logic bool[t,_,f]", ""],
     ["types i32[1,_2,3]", ""],
+    ["types union_sparse<i8,struct<fsb<1>>>[0:1,1:(x00)]", ""],
     ["comparisons i32[1,_2,3] i32[3,2,_1] bool[t,_,f]", ""],
     ["scalar i32[1,_2,3]", ""],
     ["selection i32[1,_2,3] bool[t,_,f] i32[2,_9,0]", ""],
