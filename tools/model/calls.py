@@ -180,16 +180,25 @@ def equal_range(a, start, b, other_start, length):
 
 # Selection.
 
+
+def listed_ranges(ranges):
+    """The texts of ranges, or `none`."""
+    return " ".join(f"({','.join(map(str, one))})" for one in ranges) or "none"
+
+
+
 call("concatenate::concatenate", "A*")(lambda *arrays: kernels.concatenate(arrays))
 call("join_arrays", "A*")(lambda *arrays: kernels.join(arrays))
 call("window::shift", "A i")(kernels.shift)
 call("filter::filter", "A P")(kernels.filtered)
 call("if_then_else::if_then_else", "P A A")(kernels.if_then_else)
+call("if_then_else::if_then_else_ranges", "P")(lambda p: listed_ranges(kernels.sides(p)))
+call("Filter::ranges", "P")(lambda p: listed_ranges(kernels.ranges(p)))
 call("take::take", "A I")(kernels.take)
 call("take::can_take", "T")(can_take)
-for module, kind in {"dict": "dict", "list": "list", "fixed_size_list": "fsl", "structure": "struct"}.items():
+for module, kind in {"fixed_size_binary": "fsb", "fixed_size_list": "fsl", "structure": "struct"}.items():
     call(f"take::{module}::take", f"{kind} I")(kernels.take)
-for module in ("primitive", "boolean", "utf8", "binary"):
+for module in ("primitive", "boolean", "utf8", "binary", "list", "map", "union", "dict"):
     call(f"take::{module}::take", f"{module} I")(kernels.take)
 
 
@@ -201,9 +210,17 @@ def filter_chunk(p, *columns):
 
 @call("filter::build_filter", "P A*")
 def build_filter(p, *arrays):
-    """How many rows the filter keeps, of how many, and what it keeps of each array."""
+    """How many rows the filter keeps, of how many, and what it keeps of each array, or why it refuses."""
     head = f"{sum(row is True for row in p)} {len(p)}"
-    return " ".join([head] + [write_rows(*kernels.filtered(array, p)) for array in arrays])
+    return " ".join([head] + [applied(p, array) for array in arrays])
+
+
+def applied(p, array):
+    """The rows of an array that a filter keeps, or the name of its refusal."""
+    try:
+        return write_rows(*kernels.filtered(array, p))
+    except Refused as refused:
+        return str(refused)
 
 
 @call("filter::extend_from_word", "primitive primitive n")

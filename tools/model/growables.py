@@ -1,8 +1,10 @@
 """Growables: rows of bound arrays and null slots, appended until one is refused."""
 
 from .arrays import are_crowded, are_unjoined, fits
+from .kernels import ranges
 from .read import write_rows
-from .text import COUNTS, Refused, Run, Unjudged, Usage, count, joined, size, split, within
+from .registry import needs, read_arguments, step_of
+from .text import COUNTS, Refused, Run, Unjudged, Usage, joined, size
 from .types import ELEMENTS, null_slot, physical
 
 TYPED = {"GrowableNull": ("null",), "GrowableBoolean": ("bool",), "GrowablePrimitive": ELEMENTS}
@@ -10,6 +12,8 @@ TYPED |= {"GrowableUtf8": ("utf8", "large_utf8"), "GrowableBinary": ("binary", "
 TYPED |= {"GrowableFixedSizeBinary": ("fsb",), "GrowableList": ("list", "large_list")}
 TYPED |= {"GrowableFixedSizeList": ("fsl",), "GrowableStruct": ("struct",), "GrowableMap": ("map",)}
 TYPED |= {"GrowableUnion": ("union",), "GrowableDictionary": ("dict",)}
+STEPS = {"extend": ["n", "n", "n"], "extend_into": ["n", "P"], "extend_validity": ["n"]}
+STEPS |= {"len": [], "as_box": [], "into_array": []}  # kinds of arguments
 NESTED = ("fsb", "fsl", "struct", "union", "dict")  # of these the model knows no memory
 ROOM = 2**44  # a capacity that no memory has
 
@@ -37,6 +41,14 @@ class Growable:
         rows = self.arrays[index].rows[start : start + length]
         return self.append(rows, are_crowded(self.arrays, index, range(start, start + length)))
 
+    def extend_into(self, index, predicate):
+        """Appends the rows of a bound array at which a predicate is true, by a call for each run of them."""
+        if index >= len(self.arrays) or len(predicate) != len_of(self.arrays[index]):
+            raise Usage("rows of a filter")
+        answers = [self.extend(index, start, length) for start, length in ranges(predicate)]
+        refused = [answer for answer in answers if not answer.isdigit()]
+        return refused[0] if refused else self.len()
+
     def extend_validity(self, additional):
         """Appends null slots."""
         return self.append(Run(null_slot(self.type), additional), False)
@@ -58,9 +70,13 @@ class Growable:
             self.failed = True
             return "OutOfMemory"
         self.rows = grown
+        return self.len()
+
+    def len(self):
+        """How many rows there are."""
         return str(size(self.rows))
 
-    def hand_out(self):
+    def as_box(self):
         """An array of the rows so far; the growable is then empty."""
         if self.failed:
             return "Failed"
@@ -73,37 +89,21 @@ def len_of(array):
     return size(array.rows)
 
 
-def run_steps(grown, steps, is_typed):
-    """The answers of the steps of a line."""
-    answers = []
-    for i, step in enumerate(steps):
-        name, numbers = step_of(step)
-        numbers = [count(one) for one in numbers]
-        if name == "extend" and len(numbers) == 3:
-            answers.append(grown.extend(*numbers))
-        elif name == "extend_validity" and len(numbers) == 1:
-            answers.append(grown.extend_validity(*numbers))
-        elif name == "len" and not numbers:
-            answers.append(str(size(grown.rows)))
-        elif name == "as_box" and not numbers:
-            answers.append(grown.hand_out())
-        elif name == "into_array" and not numbers and is_typed and i == len(steps) - 1:
-            answers.append(grown.hand_out())
-        else:
-            raise Usage("step")
+def read_step(text):
+    """The name of a step, and its arguments."""
+    name, arguments = step_of(text)
+    needs(name in STEPS)
+    return name, read_arguments(STEPS[name], arguments)
+
+
+def grow(arrays, capacity, name, texts):
+    """What the steps of a line with a growable of this name answer."""
+    steps, is_typed = [read_step(text) for text in texts], name != "make_growable"
+    needs(not is_typed or all(array.kind in TYPED[name] for array in arrays))
+    grown, answers = Growable(arrays, capacity), []
+    for i, (step, arguments) in enumerate(steps):
+        if step == "into_array":
+            needs(is_typed and i == len(steps) - 1)
+            step = "as_box"
+        answers.append(getattr(grown, step)(*arguments))
     return " ".join(answers) or "none"
-
-
-def step_of(text):
-    """The name of a step and the texts of its arguments."""
-    name, bracket, _ = text.partition("(")
-    if not bracket:
-        raise Unjudged("no step")
-    return name, split(within(text[len(name) :], "(", ")"), ",")
-
-
-def grow(arrays, capacity, name, steps):
-    """What a line with a growable of this name answers."""
-    if name != "make_growable" and any(array.kind not in TYPED[name] for array in arrays):
-        raise Usage("kind of a growable")
-    return run_steps(Growable(arrays, capacity), steps, name != "make_growable")

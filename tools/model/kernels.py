@@ -2,7 +2,7 @@
 
 from .arrays import are_crowded, are_unjoined, fits
 from .text import COUNTS, Refused, Run, Unjudged, Usage, joined, listed, size
-from .types import is_taken, logical, null_slot, physical
+from .types import logical, null_slot, physical
 
 
 def fitting(t, rows):
@@ -71,12 +71,31 @@ def filtered(array, predicate):
     return fitting(array.type, [row for row, keep in zip(array.rows, predicate) if keep is True])
 
 
+def runs(keys):
+    """Each run of equal keys: the key, where it begins and how long it is."""
+    found = []
+    for i, key in enumerate(keys):
+        if found and found[-1][0] == key:
+            found[-1][2] += 1
+        else:
+            found.append([key, i, 1])
+    return found
+
+
+def ranges(predicate):
+    """The ranges of the rows at which the predicate is true: where each begins and how long it is."""
+    return [(start, length) for is_true, start, length in runs(row is True for row in predicate) if is_true]
+
+
+def sides(predicate):
+    """The ranges of the rows of each side, in their order: 0 where the predicate is true, 1 where false, 2 where null."""
+    return [tuple(run) for run in runs({True: 0, False: 1, None: 2}[row] for row in predicate)]
+
+
 def take(array, indices):
     """The rows that the indices name, and null slots where an index is null."""
     if not are_within(indices, size(array.rows)):
         raise Usage("index")
-    if indices and not is_taken(array.type):
-        raise Refused("NotYetImplemented")
     empty = null_slot(array.type)
     return fitting(array.type, [empty if i is None else array.rows[i] for i in indices])
 

@@ -13,8 +13,9 @@ KINDS = {"primitive": (*INTEGERS, "date32", "date64", "time32", "timestamp", "in
 GROWN = {"GrowableBoolean": "boolean", "GrowablePrimitive": "primitive", "GrowableUtf8": "utf8",
          "GrowableBinary": "binary", "GrowableList": "list", "GrowableFixedSizeList": "fixed_size_list",
          "GrowableStruct": "structure", "GrowableDictionary": "dict"}
-KINDS |= {"null": ("null",), "map": ("map", "sorted_map"), "fsb": ("fsb",), "union": UNIONS}
-GROWN |= {"GrowableNull": "null", "GrowableMap": "map", "GrowableFixedSizeBinary": "fsb", "GrowableUnion": "union"}
+KINDS |= {"null": ("null",), "map": ("map", "sorted_map"), "fixed_size_binary": ("fsb",), "union": UNIONS}
+GROWN |= {"GrowableNull": "null", "GrowableMap": "map", "GrowableUnion": "union",
+          "GrowableFixedSizeBinary": "fixed_size_binary"}
 
 
 def random_lines(seed, count):
@@ -174,7 +175,7 @@ def layout_line(m):
     name, words = m.choice((("AnyKeys::key", "dict"), ("AnyKeys::len", "dict"), ("AnyOffsetsBuffer::start_end", "list"),
                             ("AnyOffsetsBuffer::len", "list"), ("UnionArray::index", "union"), ("are_within", "dict"),
                             ("UnionArray::start", "union"), ("FixedSizeListArray::size", "fixed_size_list"),
-                            ("FixedSizeBinaryArray::size", "fsb"), ("FlatArray::equal_range", "list")))
+                            ("FixedSizeBinaryArray::size", "fixed_size_binary"), ("FlatArray::equal_range", "list")))
     if name == "are_within":
         return f"{name} {m.indices(m.choice(tuple(INTEGERS)), n, 5)} {m.randint(3, 6)}"
     if name == "FlatArray::equal_range":
@@ -217,8 +218,9 @@ def grown_line(m):
     for _ in range(m.randint(1, 7)):
         i = m.randrange(len(counts))
         start, count = inside(m, counts[i])
-        step = m.choices((f"extend({m.other(i) if m.chance(0.2) else i},{start},{count})",
-                          f"extend_validity({m.randint(0, 3)})", "len()", "as_box()"), (6, 2, 1, 2))[0]
+        predicate = m.array(Type("bool"), m.other(counts[i]) if m.chance(0.2) else counts[i])
+        step = m.choices((f"extend({m.other(i) if m.chance(0.2) else i},{start},{count})", f"extend_into({i},{predicate})",
+                          f"extend_validity({m.randint(0, 3)})", "len()", "as_box()"), (6, 3, 2, 1, 2))[0]
         steps.append(step)
     steps.append(m.choice(("as_box()", "into_array()")) if name != "make_growable" else "as_box()")
     return " ".join([name, m.choice("tf"), str(m.choice((0, 1, 10))), *arrays, ":", *steps])
@@ -251,6 +253,12 @@ def select_line(m):
     return " ".join([name, predicate, *columns])
 
 
+def ranges_line(m):
+    """The runs of a predicate."""
+    name = m.choice(("Filter::ranges", "if_then_else::if_then_else_ranges"))
+    return f"{name} {m.array(Type('bool'), m.choice((m.length(), m.length(), 63, 64, 65, 128, 130)))}"
+
+
 def crowded_line(m):
     """Dictionaries with narrow keys and many values, joined."""
     m.crowds, n = True, m.randint(0, 4)
@@ -269,7 +277,8 @@ def crowded_line(m):
 
 def take_line(m):
     """Rows by index, of any array or of a kind."""
-    name, n = m.choice(("take", "take", "take", *MODULES, "list", "fixed_size_list", "structure", "dict")), m.length(4)
+    modules = (*MODULES, "list", "fixed_size_list", "structure", "dict", "map", "union", "fixed_size_binary")
+    name, n = m.choice(("take",) * 4 + modules), m.length(4)
     t = m.type(3) if name == "take" else m.type(2, KINDS[name])
     values = m.array(t, n) if not m.chance(0.1) else m.array(m.flat(), n)
     name = "take::take" if name == "take" else f"take::{name}::take"
@@ -323,5 +332,5 @@ def compared_line(m):
 
 
 GROUPS, SHARES = zip((types_line, 5), (memory_line, 12), (array_line, 14), (odd_line, 1), (layout_line, 5), (new_line, 4),
-                     (scalar_line, 2), (grown_line, 16), (select_line, 18), (crowded_line, 6), (take_line, 8),
+                     (scalar_line, 2), (grown_line, 16), (select_line, 18), (ranges_line, 4), (crowded_line, 6), (take_line, 10),
                      (logic_line, 9), (nullif_line, 4), (compared_line, 16))

@@ -1,7 +1,6 @@
 """The calls on bits, buffers and offsets."""
 
-from .growables import step_of
-from .registry import STEPS, call, needs, offsets_of
+from .registry import STEPS, call, needs, offsets_of, step_of
 from .text import COUNTS, Refused, Unjudged, Usage, count, read_bits, write_bits
 from .types import NUMBERS
 

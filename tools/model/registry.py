@@ -1,7 +1,7 @@
 """The names of calls, the kinds of their arguments, and how these are read."""
 
 from .read import read_array, read_offsets, read_scalar
-from .text import Unjudged, Usage, count, number, read_bits, read_bytes, within
+from .text import Unjudged, Usage, count, number, read_bits, read_bytes, split, within
 from .types import BYTES, ELEMENTS, INTEGERS, TEXTS, read_type
 
 CALLS = {}  # name: (kinds of arguments, function)
@@ -50,7 +50,7 @@ READERS = {"A": read_array, "B": read_bits, "T": read_type, "S": read_scalar, "W
            "P": lambda text: array_of("bool")(text).rows, "I": lambda text: array_of(*INTEGERS)(text).rows,
            "L": lambda text: list(array_of("i32")(text).stored), "list": array_of("list", "large_list"),
            "primitive": array_of(*ELEMENTS), "boolean": array_of("bool"), "utf8": array_of(*TEXTS),
-           "binary": array_of(*BYTES)} | {kind: array_of(kind) for kind in ("fsl", "fsb", "struct", "union", "dict")}
+           "binary": array_of(*BYTES)} | {kind: array_of(kind) for kind in ("fsl", "fsb", "map", "struct", "union", "dict")}
 
 
 def read_arguments(kinds, texts):
@@ -59,3 +59,11 @@ def read_arguments(kinds, texts):
         kinds = kinds[:-1] + [kinds[-1][:-1]] * (len(texts) - len(kinds) + 1)
     needs(len(kinds) == len(texts))
     return [READERS[kind](text) for kind, text in zip(kinds, texts)]
+
+
+def step_of(text):
+    """The name of a step and the texts of its arguments."""
+    name, bracket, _ = text.partition("(")
+    if not bracket:
+        raise Unjudged("no step")
+    return name, split(within(text[len(name) :], "(", ")"), ",")

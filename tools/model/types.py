@@ -222,18 +222,10 @@ def is_unordered_interval(t):
 
 def can_take(t):
     """Whether `take` is offered for the type."""
-    if t.word == "struct":
+    if t.word in ("struct", *UNIONS):
         return is_carried(t) and all(can_take(f.type) for f in t.fields)
-    taken = is_ordered(t) or t.word in ("null", "interval", "list", "large_list", "fsl", *DICTIONARIES)
+    taken = is_ordered(t) or t.word in ("null", "interval", "fsb", "fsl", *LISTS, *DICTIONARIES)
     return taken and is_carried(t)
-
-
-def is_taken(t):
-    """Whether `take` knows the layout of the type."""
-    t = logical(t)
-    if t.word == "struct":
-        return all(is_taken(f.type) for f in t.fields)
-    return t.word not in ("map", "sorted_map", "fsb", *UNIONS)
 
 
 def can_nullif(left, right):

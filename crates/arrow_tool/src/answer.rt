@@ -8,6 +8,7 @@ ghost use Rattle.arrow_tool.specs.Written.{IsWritten};
 use crate::literals::WrittenArray;
 use arrow_arrays::array::AnyArray;
 use arrow_flat::array::BooleanArray;
+use arrow_select::filter::Filter;
 use arrow_types::error::Error;
 use std::fmt;
 
@@ -29,6 +30,10 @@ pub(crate) enum Refusal {
 pub(crate) enum Answer {
     Array(WrittenArray),
     Truth(bool),
+    /// The ranges of the rows that a filter keeps.
+    Ranges(Filter),
+    /// A side, and a range of its rows: where it begins and how long it is.
+    SideRanges(Vec<(usize, usize, usize)>),
     Refused(Refusal),
 }
 
@@ -63,9 +68,38 @@ impl fmt::Display for Answer {
         match self {
             Answer::Array(array) => write!(f, "{array}"),
             Answer::Truth(truth) => write!(f, "{truth}"),
+            Answer::Ranges(filter) => write_ranges(f, filter.ranges()),
+            Answer::SideRanges(ranges) => write_side_ranges(f, ranges),
             Answer::Refused(refusal) => write!(f, "error {refusal}"),
         }
     }
+}
+
+/// Prints ranges, with a space between two.
+fn write_ranges<W: fmt::Write>(
+    f: &mut fmt::Formatter<W>,
+    ranges: &[(usize, usize)],
+) -> fmt::Result {
+    for (i, (start, len)) in ranges.iter().enumerate() {
+        write!(f, "{}({start},{len})", space_before(i))?;
+    }
+    Ok(())
+}
+
+/// Prints ranges and their sides, with a space between two.
+fn write_side_ranges<W: fmt::Write>(
+    f: &mut fmt::Formatter<W>,
+    ranges: &[(usize, usize, usize)],
+) -> fmt::Result {
+    for (i, (side, start, len)) in ranges.iter().enumerate() {
+        write!(f, "{}({side},{start},{len})", space_before(i))?;
+    }
+    Ok(())
+}
+
+/// What stands before a range.
+fn space_before(i: usize) -> &'static str {
+    if i == 0 { "" } else { " " }
 }
 
 impl fmt::Display for Refusal {

@@ -22,12 +22,13 @@ pub(crate) enum Command {
     Connect(Connective),
     Filter,
     IfThenElse,
-    IsNotNull,
-    IsNull,
+    IfThenElseRanges,
+    IsNull(bool),
     Length,
     Not,
     Nullif,
     Quantify(Quantifier),
+    Ranges,
     Relate(Relation),
     Shift,
     Substring,
@@ -48,8 +49,9 @@ impl Command {
             "gt" => Some(Command::Relate(Relation::Gt)),
             "gt_eq" => Some(Command::Relate(Relation::GtEq)),
             "if_then_else" => Some(Command::IfThenElse),
-            "is_not_null" => Some(Command::IsNotNull),
-            "is_null" => Some(Command::IsNull),
+            "if_then_else_ranges" => Some(Command::IfThenElseRanges),
+            "is_not_null" => Some(Command::IsNull(false)),
+            "is_null" => Some(Command::IsNull(true)),
             "kleene_and" => Some(Command::Connect(Connective::KleeneAnd)),
             "kleene_or" => Some(Command::Connect(Connective::KleeneOr)),
             "length" => Some(Command::Length),
@@ -60,6 +62,7 @@ impl Command {
             "not" => Some(Command::Not),
             "nullif" => Some(Command::Nullif),
             "or" => Some(Command::Connect(Connective::Or)),
+            "ranges" => Some(Command::Ranges),
             "shift" => Some(Command::Shift),
             "substring" => Some(Command::Substring),
             "take" => Some(Command::Take),
@@ -79,12 +82,13 @@ impl Command {
             Command::Connect(connective) => Ok(logic::connect(alloc, connective, arguments)),
             Command::Filter => Ok(selection::filter(alloc, arguments)),
             Command::IfThenElse => Ok(selection::if_then_else(alloc, arguments)),
-            Command::IsNotNull => Ok(logic::is_not_null(alloc, arguments)),
-            Command::IsNull => Ok(logic::is_null(alloc, arguments)),
+            Command::IfThenElseRanges => Ok(selection::if_then_else_ranges(alloc, arguments)),
+            Command::IsNull(is_null) => Ok(logic::is_null(alloc, is_null, arguments)),
             Command::Length => Ok(text::length(alloc, arguments)),
             Command::Not => Ok(logic::not(alloc, arguments)),
             Command::Nullif => Ok(pairs::nullif(alloc, arguments)),
             Command::Quantify(quantifier) => Ok(logic::quantify(quantifier, arguments)),
+            Command::Ranges => Ok(selection::ranges(alloc, arguments)),
             Command::Relate(relation) => Ok(pairs::relate(alloc, relation, arguments)),
             Command::Shift => Ok(selection::shift(alloc, arguments)),
             Command::Substring => Ok(text::substring(alloc, arguments)),
@@ -95,6 +99,14 @@ impl Command {
 
 /// The answer where a text is too long for an array of its type.
 const TOO_LONG: Refusal = Refusal::Kernel(Error::Overflow);
+
+/// The array of truth values that is the only argument, if it is one.
+fn only_boolean<'a>(arguments: &'a [Literal<'_>]) -> Option<&'a BooleanArray> {
+    let [argument] = arguments else {
+        return None;
+    };
+    as_boolean(argument)
+}
 
 /// The array of truth values that an argument is, if it is one.
 fn as_boolean<'a>(argument: &'a Literal<'_>) -> Option<&'a BooleanArray> {

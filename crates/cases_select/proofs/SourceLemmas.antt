@@ -10,6 +10,7 @@ use Rattle.arrow_arrays.specs.Layout.{Layout, rows, type_of_layout}
 use Rattle.arrow_flat_growable.specs.Grown.{Grown, AreOfOneType, AreThere, bound_to, source_at}
 use Rattle.arrow_flat_growable.proofs.FlatLemmas.{source_is}
 use Rattle.arrow_growable.proofs.MakeLemmas.{bind_all}
+use Rattle.arrow_select.specs.Extended.{HasRowsAt}
 use Rattle.cases_select.specs.Sources.{TakesRowsOf}
 
 -- rows of the arrays are there
@@ -53,3 +54,9 @@ all_of_one_type f h bound arrays i whole done = subst AreOfOneType (sym (bind_al
 pub takes_all : {A B : Type 0} (f : A → Layout) (h : B → Layout) (bound : List A) (arrays : List B) (i : ℕ) → length arrays ≤ i → map f bound ≡ take i (map h arrays) → (g : Grown) → g ≡ bound_to (map f bound) → TakesRowsOf (map h arrays) g.sources
 takes_all f h bound arrays i whole done g is =
     takes_bound g (map f bound) (map h arrays) is (bind_all f h bound arrays i whole done)
+
+-- an array that was read at the index has so many rows
+pub has_rows : {B : Type 0} (h : B → Layout) (arrays : List B) (b : B) (sources : Option (List Layout)) (i n : ℕ) → TakesRowsOf (map h arrays) sources → i < length arrays → b ≡ get_or arrays i b → length (rows (h b)) ≡ n → HasRowsAt sources i n
+has_rows h arrays b None i n from bound read same = tt
+has_rows h arrays b (Some sources) i n from bound read same =
+    subst (λ ls. HasRowsAt (Some ls) i n) (sym from) (omega (arith, bound, length-map arrays h), subst (λ l. length (rows l) ≡ n) (sym (source_is h arrays i b bound read)) same)

@@ -11,7 +11,10 @@ use arrow_memory::buffer::Buffer;
 use arrow_select::filter::{Filter, build_filter, extend_from_word, filter, filter_chunk};
 use arrow_text::call::Call;
 use arrow_text::fault::Fault;
-use arrow_text::write::{show, write_array, write_made};
+use arrow_text::given::Array;
+use arrow_text::piece::Piece;
+use arrow_text::read::read_array;
+use arrow_text::write::{show, write_array, write_made, write_made_or_name};
 use std::alloc::Global;
 
 /// The rows of an array at which a predicate is true.
@@ -57,13 +60,13 @@ fn write_arrays(out: &mut String, arrays: &[AnyArray]) -> Result<(), Fault> {
     Ok(())
 }
 
-/// A prepared filter: how many rows it keeps and of how many, and the rows that it keeps of each array.
+/// A prepared filter: how many rows it keeps and of how many, and of each array the rows that it keeps, or why it refuses.
 pub(crate) fn answer_prepared(
     alloc: Global,
     call: &Call<'_>,
     out: &mut String,
 ) -> Result<(), Fault> {
-    let prepared = read_filter(alloc, call)?;
+    let prepared = read_filter(alloc, call.argument(0)?)?;
     let given = call.arrays(alloc, 1)?;
     show(out, prepared.count())?;
     out.push(' ')?;
@@ -73,15 +76,17 @@ pub(crate) fn answer_prepared(
             return Err(Fault::Usage);
         }
         out.push(' ')?;
-        write_made(out, prepared.apply(alloc, array))?;
+        write_made_or_name(out, prepared.apply(array))?;
     }
     Ok(())
 }
 
-/// The filter of the first argument.
-fn read_filter(alloc: Global, call: &Call<'_>) -> Result<Filter, Fault> {
-    let given = call.array(alloc, 0)?;
-    Ok(build_filter(alloc, as_boolean(&given.array)?)?)
+/// The filter of the predicate that a piece of a line says.
+pub(crate) fn read_filter(alloc: Global, piece: Piece<'_>) -> Result<Filter, Fault> {
+    let predicate = Array {
+        array: read_array(alloc, piece)?,
+    };
+    Ok(build_filter(alloc, as_boolean(&predicate.array)?)?)
 }
 
 /// The values of an array behind which those of another stand whose bit in a word is set.

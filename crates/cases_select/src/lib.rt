@@ -6,6 +6,7 @@ mod filter;
 mod growable;
 mod kernels;
 mod lists;
+mod ranges;
 mod take;
 
 use arrow_text::call::{Answer, Call, answer_by};
@@ -13,7 +14,7 @@ use arrow_text::fault::Fault;
 use std::alloc::Global;
 
 /// What answers the calls, by their names.
-const CALLS: [(&str, Answer); 31] = [
+const CALLS: [(&str, Answer); 36] = [
     ("make_growable", growable::answer),
     ("GrowableNull", growable::answer),
     ("GrowableBoolean", growable::answer),
@@ -31,9 +32,11 @@ const CALLS: [(&str, Answer); 31] = [
     ("concatenate::concatenate", kernels::answer_join),
     ("window::shift", kernels::answer_shift),
     ("if_then_else::if_then_else", kernels::answer_choice),
+    ("if_then_else::if_then_else_ranges", ranges::answer_sides),
     ("filter::filter", filter::answer_filter),
     ("filter::filter_chunk", filter::answer_chunk),
     ("filter::build_filter", filter::answer_prepared),
+    ("Filter::ranges", ranges::answer_kept),
     ("filter::extend_from_word", filter::answer_word),
     ("take::can_take", take::answer_can_take),
     ("take::take", take::answer),
@@ -45,6 +48,9 @@ const CALLS: [(&str, Answer); 31] = [
     ("take::list::take", take::answer),
     ("take::fixed_size_list::take", take::answer),
     ("take::structure::take", take::answer),
+    ("take::map::take", take::answer),
+    ("take::union::take", take::answer),
+    ("take::fixed_size_binary::take", take::answer),
 ];
 
 /// Appends the answer to a call. `false` where its name is none of those that are answered here.

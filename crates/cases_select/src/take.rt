@@ -10,7 +10,8 @@ use crate::lists::{as_any, as_primitive};
 use arrow_arrays::array::{AnyArray, are_within};
 use arrow_flat::array::{AnyElement, AnyPrimitive, PrimitiveArray};
 use arrow_select::take::{
-    binary, boolean, can_take, dict, fixed_size_list, list, primitive, structure, take, utf8,
+    binary, boolean, can_take, dict, fixed_size_binary, fixed_size_list, list, map, primitive,
+    structure, take, union, utf8,
 };
 use arrow_text::call::Call;
 use arrow_text::fault::Fault;
@@ -19,7 +20,7 @@ use arrow_types::error::Error;
 use arrow_types::types::Index;
 use std::alloc::Global;
 
-/// Whether a type has rows by index.
+/// Whether a type is listed as one of which rows are taken.
 pub(crate) fn answer_can_take(
     alloc: Global,
     call: &Call<'_>,
@@ -68,7 +69,7 @@ fn take_rows<I: Index>(
     write_made(out, take_typed(alloc, array, indices))
 }
 
-/// The name of the call for arrays of this one's kind: that for arrays of any kind where it has none of its own.
+/// The name of the call for arrays of this one's kind. Nulls have none of their own.
 fn name_for(array: &AnyArray) -> &'static str {
     match array {
         AnyArray::Primitive(_) => "take::primitive::take",
@@ -79,7 +80,10 @@ fn name_for(array: &AnyArray) -> &'static str {
         AnyArray::List(_) => "take::list::take",
         AnyArray::FixedSizeList(_) => "take::fixed_size_list::take",
         AnyArray::Struct(_) => "take::structure::take",
-        _ => "take::take",
+        AnyArray::Map(_) => "take::map::take",
+        AnyArray::Union(_) => "take::union::take",
+        AnyArray::FixedSizeBinary(_) => "take::fixed_size_binary::take",
+        AnyArray::Null(_) => "take::take",
     }
 }
 
@@ -105,6 +109,11 @@ fn take_typed<I: Index>(
             Ok(AnyArray::FixedSizeList(fixed_size_list::take(alloc, array, indices)?))
         }
         AnyArray::Struct(array) => Ok(AnyArray::Struct(structure::take(alloc, array, indices)?)),
+        AnyArray::Map(array) => Ok(AnyArray::Map(map::take(alloc, array, indices)?)),
+        AnyArray::Union(array) => Ok(AnyArray::Union(union::take(alloc, array, indices)?)),
+        AnyArray::FixedSizeBinary(array) => {
+            Ok(AnyArray::FixedSizeBinary(fixed_size_binary::take(alloc, array, indices)?))
+        }
         AnyArray::Dictionary(array) => Ok(AnyArray::Dictionary(dict::take(alloc, array, indices)?)),
         array => take(alloc, array, indices),
     }

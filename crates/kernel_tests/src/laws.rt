@@ -17,7 +17,7 @@ use arrow_select::concatenate::concatenate;
 use arrow_select::filter::{build_filter, filter, filter_chunk};
 use arrow_select::if_then_else::if_then_else;
 use arrow_select::laws as selected;
-use arrow_select::take::{can_take, take};
+use arrow_select::take::take;
 use arrow_select::window::shift;
 use arrow_text::fault::Fault;
 use arrow_text::given::{Array, Scalar};
@@ -85,6 +85,9 @@ fn types(_alloc: Global, _name: &str, arrays: &[AnyArray]) -> Result<bool, Fault
     compared::can_lt_scalar_has_order(data_type);
     selected::dense_union_holds(5);
     selected::dense_union_edge();
+    if matches!(data_type, DataType::Struct(_) | DataType::Union(_, _, _)) {
+        selected::can_take_goes_by_fields(data_type);
+    }
     Ok(true)
 }
 
@@ -128,15 +131,14 @@ fn selection(_alloc: Global, _name: &str, arrays: &[AnyArray]) -> Result<bool, F
         return Err(Fault::Usage);
     };
     let (filter, places) = (truths(predicate)?, numbers(indices)?);
-    let (len, data_type) = (array.len(), array.data_type());
-    if filter.len() != len || len < 1 || !are_within(places, places.len()) || !can_take(data_type) {
+    let len = array.len();
+    if filter.len() != len || len < 1 || !are_within(places, places.len()) {
         return Err(Fault::Usage);
     }
     selected::select_is_gather(array, filter);
     selected::joined_is_associative(array, array, array);
     selected::joined_of_cut(array, 1);
     selected::gather_of_gather(array, places, places);
-    selected::can_take_is_implemented(data_type, places);
     Ok(true)
 }
 
@@ -216,9 +218,9 @@ fn filtered(alloc: Global, _name: &str, arrays: &[AnyArray]) -> Result<bool, Fau
     Ok(true)
 }
 
-/// They are taken to the same rows, and refused alike.
+/// They are taken to the same rows, those that are wanted, and refused alike.
 fn taken(alloc: Global, _name: &str, arrays: &[AnyArray]) -> Result<bool, Fault> {
-    let [array, other, indices] = arrays else {
+    let [array, other, indices, wanted] = arrays else {
         return Err(Fault::Usage);
     };
     let places = numbers(indices)?;
@@ -236,7 +238,7 @@ fn taken(alloc: Global, _name: &str, arrays: &[AnyArray]) -> Result<bool, Fault>
         places,
         &other_taken.array,
     );
-    Ok(true)
+    Ok(*taken.array == *wanted)
 }
 
 /// The same rows are chosen of them, and they are refused alike where they hold no dictionary.
@@ -295,19 +297,27 @@ fn equality(_alloc: Global, name: &str, arrays: &[AnyArray]) -> Result<bool, Fau
     }
 }
 
-/// An array, one of the same rows, and one of others; predicates and indices.
-const LINES: [Line; 13] = [
+/// An array, one of the same rows, and one of others; predicates and indices; rows that are wanted.
+const LINES: [Line; 15] = [
     ["equal i32[1,_2,3] i32[9,1,_,3]@1+3", ""],
     ["different i32[1,_2,3] i32[3,2,_1]", ""],
     ["logic bool[t,_,f]", ""],
     ["types i32[1,_2,3]", ""],
+    ["types union_sparse<i8,struct<fsb<1>>>[0:1,1:(x00)]", ""],
     ["comparisons i32[1,_2,3] i32[3,2,_1] bool[t,_,f]", ""],
     ["scalar i32[1,_2,3]", ""],
     ["selection i32[1,_2,3] bool[t,_,f] i32[2,_9,0]", ""],
     ["concatenate i32[1,_2,3] i32[9,1,_,3]@1+3", ""],
     ["shift i32[1,_2,3] i32[9,1,_,3]@1+3", ""],
     ["filter i32[1,_2,3] i32[9,1,_,3]@1+3 bool[t,_,f]", ""],
-    ["take i32[1,_2,3] i32[9,1,_,3]@1+3 i32[2,_9,0]", ""],
+    [
+        "take i32[1,_2,3] i32[9,1,_,3]@1+3 i32[2,_9,0] i32[3,_,1]",
+        "",
+    ],
+    [
+        r#"take map<struct<utf8,i8>>[[("a",1)],_,[("b",2),("c",_)]] map<struct<utf8,i8>>[[],[("a",1)],_[("z",9)],[("b",2),("c",_3)]]@1+3 i32[1,2,_9,0,0] map<struct<utf8,i8>>[_,[("b",2),("c",_)],_,[("a",1)],[("a",1)]]"#,
+        "",
+    ],
     ["choice i32[1,_2,3] i32[9,1,_,3]@1+3 bool[t,_,f]", ""],
     ["chunk i32[1,_2,3] bool[t,_,f]", ""],
 ];

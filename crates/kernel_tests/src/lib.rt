@@ -1,5 +1,5 @@
 //! Tests of what lines of the program `cases` can't show: kernels that call closures, generic functions and laws at a concrete
-//! type, texts of errors, what is stored beneath nulls, and the example of the front page. Where they take arrays they answer
+//! type, a growable of the caller's own, texts of errors, what is stored beneath nulls, and the example of the front page. Where they take arrays they answer
 //! lines of their own.
 #![tactic(auto)]
 
@@ -19,6 +19,8 @@ mod example;
 mod laws;
 #[cfg(test)]
 mod lines;
+#[cfg(test)]
+mod selection;
 #[cfg(test)]
 mod stored;
 #[cfg(test)]

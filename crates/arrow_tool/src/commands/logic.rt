@@ -1,6 +1,6 @@
 //! Truth values that are connected, turned and counted, and rows that are null.
 
-use super::{TOO_LONG, as_boolean};
+use super::{TOO_LONG, as_boolean, only_boolean};
 use crate::answer::{Answer, Refusal};
 use crate::literals::Literal;
 use arrow_flat::array::BooleanArray;
@@ -43,20 +43,14 @@ pub(super) fn connect(alloc: Global, connective: Connective, arguments: &[Litera
 }
 
 pub(super) fn not(alloc: Global, arguments: &[Literal<'_>]) -> Answer {
-    let [array] = arguments else {
-        return Answer::Refused(Refusal::Usage);
-    };
-    let Some(array) = as_boolean(array) else {
+    let Some(array) = only_boolean(arguments) else {
         return Answer::Refused(Refusal::Usage);
     };
     Answer::of_predicate(boolean::not(alloc, array))
 }
 
 pub(super) fn quantify(quantifier: Quantifier, arguments: &[Literal<'_>]) -> Answer {
-    let [array] = arguments else {
-        return Answer::Refused(Refusal::Usage);
-    };
-    let Some(array) = as_boolean(array) else {
+    let Some(array) = only_boolean(arguments) else {
         return Answer::Refused(Refusal::Usage);
     };
     Answer::Truth(match quantifier {
@@ -65,22 +59,15 @@ pub(super) fn quantify(quantifier: Quantifier, arguments: &[Literal<'_>]) -> Ans
     })
 }
 
-pub(super) fn is_null(alloc: Global, arguments: &[Literal<'_>]) -> Answer {
+/// Which rows are null, or which are not.
+pub(super) fn is_null(alloc: Global, is_null: bool, arguments: &[Literal<'_>]) -> Answer {
     let [array] = arguments else {
         return Answer::Refused(Refusal::Usage);
     };
     match array {
-        Literal::Array(array) => Answer::of_predicate(boolean::is_null(alloc, array.as_array())),
-        Literal::TooLong(_) => Answer::Refused(TOO_LONG),
-        Literal::Number(_) => Answer::Refused(Refusal::Usage),
-    }
-}
-
-pub(super) fn is_not_null(alloc: Global, arguments: &[Literal<'_>]) -> Answer {
-    let [array] = arguments else {
-        return Answer::Refused(Refusal::Usage);
-    };
-    match array {
+        Literal::Array(array) if is_null => {
+            Answer::of_predicate(boolean::is_null(alloc, array.as_array()))
+        }
         Literal::Array(array) => {
             Answer::of_predicate(boolean::is_not_null(alloc, array.as_array()))
         }

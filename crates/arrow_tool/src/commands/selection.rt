@@ -1,10 +1,10 @@
-//! Rows that are kept, joined, chosen, moved, and named by their numbers.
+//! Rows that are kept, joined, chosen, moved, and named by their numbers or by ranges.
 
 ghost use Rattle.std.specs.Prelude.{◌≡◌, length, IfOk};
 ghost use Rattle.arrow_flat.specs.Parts.{boolean_rows};
 ghost use Rattle.arrow_arrays.specs.Any.{any_array_rows, any_array_type};
 
-use super::{TOO_LONG, as_boolean};
+use super::{TOO_LONG, as_boolean, only_boolean};
 use crate::answer::{Answer, Refusal};
 use crate::literals::Literal;
 use arrow_arrays::array::{AnyArray, are_within};
@@ -77,7 +77,17 @@ fn build_and_apply(
     ensures { IfOk result (λ kept. any_array_type kept ≡ any_array_type array.now) }
 {
     let built = filter::build_filter(alloc, predicate)?;
-    built.apply(alloc, array)
+    built.apply(array)
+}
+
+pub(super) fn ranges(alloc: Global, arguments: &[Literal<'_>]) -> Answer {
+    let Some(predicate) = only_boolean(arguments) else {
+        return Answer::Refused(Refusal::Usage);
+    };
+    match filter::build_filter(alloc, predicate) {
+        Ok(built) => Answer::Ranges(built),
+        Err(error) => Answer::Refused(Refusal::Kernel(error)),
+    }
 }
 
 pub(super) fn if_then_else(alloc: Global, arguments: &[Literal<'_>]) -> Answer {
@@ -94,6 +104,16 @@ pub(super) fn if_then_else(alloc: Global, arguments: &[Literal<'_>]) -> Answer {
         return Answer::Refused(beside_too_long(arguments));
     };
     Answer::of_kernel(if_then_else::if_then_else(alloc, predicate, lhs.as_array(), rhs.as_array()))
+}
+
+pub(super) fn if_then_else_ranges(alloc: Global, arguments: &[Literal<'_>]) -> Answer {
+    let Some(predicate) = only_boolean(arguments) else {
+        return Answer::Refused(Refusal::Usage);
+    };
+    match if_then_else::if_then_else_ranges(alloc, predicate) {
+        Ok(ranges) => Answer::SideRanges(ranges),
+        Err(error) => Answer::Refused(Refusal::Kernel(error)),
+    }
 }
 
 pub(super) fn shift(alloc: Global, arguments: &[Literal<'_>]) -> Answer {

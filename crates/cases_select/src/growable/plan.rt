@@ -1,15 +1,19 @@
 //! What a line asks of a growable: how it is made, and the steps.
 
+use crate::filter::read_filter;
+use arrow_select::filter::Filter;
 use arrow_text::call::Call;
 use arrow_text::fault::Fault;
 use arrow_text::piece::Piece;
 use std::alloc::Global;
 
 /// What is asked of a growable.
-#[derive(Clone, Copy)]
+#[derive(Drop)]
 pub(super) enum Action {
     /// Rows of the array at an index: a first row, and how many.
     Extend(usize, usize, usize),
+    /// The rows of the array at an index that a prepared filter keeps.
+    ExtendInto(usize, Filter),
     ExtendValidity(usize),
     Len,
     AsBox,
@@ -54,6 +58,10 @@ fn read_action(alloc: Global, piece: Piece<'_>) -> Result<Action, Fault> {
     match (step.name, step.arguments.as_slice()) {
         ("extend", [index, start, len]) => {
             Ok(Action::Extend(index.integer()?, start.integer()?, len.integer()?))
+        }
+        ("extend_into", [index, predicate]) => {
+            let index = index.integer()?;
+            Ok(Action::ExtendInto(index, read_filter(alloc, *predicate)?))
         }
         ("extend_validity", [additional]) => Ok(Action::ExtendValidity(additional.integer()?)),
         ("len", []) => Ok(Action::Len),

@@ -7,6 +7,7 @@ ghost use Rattle.cases_select.specs.Sources.{TakesRowsOf};
 use crate::growable::plan::{Action, Plan};
 use arrow_arrays::array::AnyArray;
 use arrow_growable::growable::Growable;
+use arrow_select::filter::Filter;
 use arrow_text::fault::Fault;
 use arrow_text::write::{show, write_made_or_name, write_name};
 use arrow_types::error::Error;
@@ -22,7 +23,7 @@ pub(super) fn run_actions<'a, G: Growable<'a>>(
 {
     for action in &plan.actions {
         out.push(' ')?;
-        run_action(growable, arrays, *action, out)?;
+        run_action(growable, arrays, action, out)?;
     }
     Ok(())
 }
@@ -31,15 +32,16 @@ pub(super) fn run_actions<'a, G: Growable<'a>>(
 fn run_action<'a, G: Growable<'a>>(
     growable: &mut G,
     arrays: &[&AnyArray],
-    action: Action,
+    action: &Action,
     out: &mut String,
 ) -> Result<(), Fault>
     requires { TakesRowsOf (layouts_in arrays.now) (G.state growable.old).sources }
     ensures { (G.state growable.new).sources ≡ (G.state growable.old).sources }
 {
     let outcome = match action {
-        Action::Extend(index, start, len) => extend(growable, arrays, index, start, len)?,
-        Action::ExtendValidity(additional) => growable.extend_validity(additional),
+        Action::Extend(index, start, len) => extend(growable, arrays, *index, *start, *len)?,
+        Action::ExtendInto(index, filter) => extend_into(growable, arrays, *index, filter)?,
+        Action::ExtendValidity(additional) => growable.extend_validity(*additional),
         Action::Len => Ok(()),
         Action::AsBox => return write_made_or_name(out, growable.as_box()),
         Action::IntoArray => return Err(Fault::Usage),
@@ -70,4 +72,24 @@ fn extend<'a, G: Growable<'a>>(
         return Err(Fault::Usage);
     }
     Ok(growable.extend(index, start, len))
+}
+
+/// Appends the rows of one of the arrays that are there which a filter of its length keeps.
+fn extend_into<'a, G: Growable<'a>>(
+    growable: &mut G,
+    arrays: &[&AnyArray],
+    index: usize,
+    filter: &Filter,
+) -> Result<Result<(), Error>, Fault>
+    requires { TakesRowsOf (layouts_in arrays.now) (G.state growable.old).sources }
+    ensures { (G.state growable.new).sources ≡ (G.state growable.old).sources }
+{
+    if index >= arrays.len() {
+        return Err(Fault::Usage);
+    }
+    let array = arrays[index];
+    if array.len() != filter.mask_len() {
+        return Err(Fault::Usage);
+    }
+    Ok(filter.extend_into(growable, index))
 }
