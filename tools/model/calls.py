@@ -1,7 +1,7 @@
 """The calls of the cases by their names, each with the kinds of its arguments."""
 
 from . import kernels, memory  # noqa: F401 (memory names its calls)
-from .growables import TYPED, grow
+from .growables import TYPED, Growable, grow
 from .read import read_array, write_rows, write_scalar
 from .registry import CALLS, STEPS, call, needs, read_arguments
 from .text import Refused, Run, Unjudged, Usage, count, listed, same, size, words, write_bits
@@ -56,14 +56,14 @@ def answer(line):
         return "?"
 
 
-def growable_line(name, arguments):
+def growable_line(name, arguments, kind=Growable):
     """A line of a growable: `USE_VALIDITY CAPACITY ARRAY .. : STEP ..`."""
     needs(len(arguments) >= 3 and ":" in arguments[2:])
     colon = arguments.index(":", 2)
     if arguments[0] not in ("t", "f"):
         raise Unjudged("no truth value")
     arrays = [read_array(text) for text in arguments[2:colon]]
-    return grow(arrays, count(arguments[1]), name, arguments[colon + 1 :])
+    return grow(arrays, count(arguments[1]), name, arguments[colon + 1 :], kind)
 
 
 # Types and arrays.

@@ -96,11 +96,11 @@ def read_step(text):
     return name, read_arguments(STEPS[name], arguments)
 
 
-def grow(arrays, capacity, name, texts):
+def grow(arrays, capacity, name, texts, kind=Growable):
     """What the steps of a line with a growable of this name answer."""
     steps, is_typed = [read_step(text) for text in texts], name != "make_growable"
     needs(not is_typed or all(array.kind in TYPED[name] for array in arrays))
-    grown, answers = Growable(arrays, capacity), []
+    grown, answers = kind(arrays, capacity), []
     for i, (step, arguments) in enumerate(steps):
         if step == "into_array":
             needs(is_typed and i == len(steps) - 1)

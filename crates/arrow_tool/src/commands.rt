@@ -5,11 +5,10 @@ mod pairs;
 mod selection;
 mod text;
 
-use crate::answer::{Answer, Refusal};
+use crate::answer::Answer;
 use crate::literals::Literal;
 use arrow_arrays::array::AnyArray;
 use arrow_flat::array::BooleanArray;
-use arrow_types::error::Error;
 use logic::{Connective, Quantifier};
 use pairs::Relation;
 use std::alloc::{AllocError, Global};
@@ -96,9 +95,6 @@ impl Command {
         }
     }
 }
-
-/// The answer where a text is too long for an array of its type.
-const TOO_LONG: Refusal = Refusal::Kernel(Error::Overflow);
 
 /// The array of truth values that is the only argument, if it is one.
 fn only_boolean<'a>(arguments: &'a [Literal<'_>]) -> Option<&'a BooleanArray> {

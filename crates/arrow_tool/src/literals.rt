@@ -88,8 +88,6 @@ impl From<Error> for ReadError {
 #[derive(Drop)]
 pub(crate) enum Literal<'a> {
     Array(WrittenArray),
-    /// So many texts that no array holds, since their bytes pass the greatest offset.
-    TooLong(usize),
     /// A number, of any size: the command that takes it knows its range.
     Number(&'a str),
 }
@@ -104,7 +102,7 @@ impl Literal<'_> {
             return Ok(Literal::Array(read_truths(alloc, elements)?));
         }
         if let Some(elements) = elements_of(word, "utf8[") {
-            return read_texts(alloc, elements);
+            return Ok(Literal::Array(read_texts(alloc, elements)?));
         }
         if is_number(word) {
             return Ok(Literal::Number(word));
@@ -201,41 +199,34 @@ fn validity_of(alloc: Global, bits: &[bool]) -> Result<Option<Bitmap>, ReadError
 }
 
 /// An array of Utf8: its texts stand in quotes, and a null names none beneath it.
-fn read_texts<'a>(alloc: Global, elements: &str) -> Result<Literal<'a>, ReadError> {
+fn read_texts(alloc: Global, elements: &str) -> Result<WrittenArray, ReadError> {
     let mut offsets = Offsets::<i32>::with_capacity(alloc, 0)?;
     let mut texts = String::new(alloc);
     let mut validity = Vec::new(alloc);
-    let fits = push_texts(alloc, elements, &mut offsets, &mut texts, &mut validity)?;
-    if !fits {
-        return Ok(Literal::TooLong(validity.len()));
-    }
-    Ok(Literal::Array(written_texts(alloc, offsets, texts, &validity)?))
+    push_texts(alloc, elements, &mut offsets, &mut texts, &mut validity)?;
+    written_texts(alloc, offsets, texts, &validity)
 }
 
-/// Appends texts, as offsets, bytes and bits of a validity, and answers whether the bytes of all fit the offsets.
+/// Appends texts, as offsets, bytes and bits of a validity.
 fn push_texts(
     alloc: Global,
     elements: &str,
     offsets: &mut Offsets<i32>,
     texts: &mut String,
     validity: &mut Vec<bool>,
-) -> Result<bool, ReadError> {
+) -> Result<(), ReadError> {
     if elements.is_empty() {
-        return Ok(true);
+        return Ok(());
     }
-    let mut fits = true;
     for element in &split_outside_quotes(alloc, elements, ',')? {
         let start = texts.len();
         if *element != "_" {
             push_text(texts, element)?;
         }
-        match offsets.try_push_usize(texts.len().saturating_sub(start)) {
-            Err(Error::Overflow) => fits = false,
-            outcome => outcome?,
-        }
+        offsets.try_push_usize(texts.len().saturating_sub(start))?;
         validity.push(*element != "_")?;
     }
-    Ok(fits)
+    Ok(())
 }
 
 /// An array of texts.

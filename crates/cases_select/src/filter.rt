@@ -14,7 +14,7 @@ use arrow_text::fault::Fault;
 use arrow_text::given::Array;
 use arrow_text::piece::Piece;
 use arrow_text::read::read_array;
-use arrow_text::write::{show, write_array, write_made, write_made_or_name};
+use arrow_text::write::{show, write_array, write_made, write_made_or_name, write_name};
 use std::alloc::Global;
 
 /// The rows of an array at which a predicate is true.
@@ -89,7 +89,8 @@ pub(crate) fn read_filter(alloc: Global, piece: Piece<'_>) -> Result<Filter, Fau
     Ok(build_filter(alloc, as_boolean(&predicate.array)?)?)
 }
 
-/// The values of an array behind which those of another stand whose bit in a word is set.
+/// The values of an array behind which those of another stand whose bit in a word is set; where that is refused, its name, and the
+/// values that are there then.
 pub(crate) fn answer_word(alloc: Global, call: &Call<'_>, out: &mut String) -> Result<(), Fault> {
     call.takes(3)?;
     let word = call.integer(2)?;
@@ -129,7 +130,10 @@ fn extend<T: AnyElement>(
         return Err(Fault::Usage);
     }
     let mut items = Vec::from_slice(alloc, grown.values().as_slice())?;
-    extend_from_word(&mut items, values.values().as_slice(), word)?;
+    if let Err(error) = extend_from_word(&mut items, values.values().as_slice(), word) {
+        write_name(out, error)?;
+        out.push(' ')?;
+    }
     let items = Buffer::from_vec(alloc, items)?;
     let array = PrimitiveArray::<T>::try_new(grown.data_type().clone()?, items, None)?;
     write_made(out, as_any(&array))

@@ -162,10 +162,12 @@ fn is_of_numbers(array: &AnyArray) -> bool
 /// Arrays of the same rows are concatenated to the same rows, and where they hold no dictionary refused alike.
 fn concatenated(alloc: Global, _name: &str, arrays: &[AnyArray]) -> Result<bool, Fault> {
     match arrays {
-        [array, other] if are_equal(array, other) && is_of_numbers(array) => {
+        [array, other] if are_equal(array, other) => {
             let (left, right) = ([array, other], [other, array]);
             let all = Array::new(alloc, concatenate(alloc, &left)?)?;
-            selected::concatenate_fits_alike(&left, &all.array, &right);
+            if is_of_numbers(array) {
+                selected::concatenate_fits_alike(&left, &all.array, &right);
+            }
             let other_all = Array::new(alloc, concatenate(alloc, &right)?)?;
             selected::concatenate_goes_by_rows(&left, &all.array, &right, &other_all.array);
             Ok(true)
@@ -298,7 +300,7 @@ fn equality(_alloc: Global, name: &str, arrays: &[AnyArray]) -> Result<bool, Fau
 }
 
 /// An array, one of the same rows, and one of others; predicates and indices; rows that are wanted.
-const LINES: [Line; 15] = [
+const LINES: [Line; 19] = [
     ["equal i32[1,_2,3] i32[9,1,_,3]@1+3", ""],
     ["different i32[1,_2,3] i32[3,2,_1]", ""],
     ["logic bool[t,_,f]", ""],
@@ -316,6 +318,22 @@ const LINES: [Line; 15] = [
     ],
     [
         r#"take map<struct<utf8,i8>>[[("a",1)],_,[("b",2),("c",_)]] map<struct<utf8,i8>>[[],[("a",1)],_[("z",9)],[("b",2),("c",_3)]]@1+3 i32[1,2,_9,0,0] map<struct<utf8,i8>>[_,[("b",2),("c",_)],_,[("a",1)],[("a",1)]]"#,
+        "",
+    ],
+    [
+        r#"concatenate struct<list<utf8>,dict<i8,utf8>>[(["a",_,"bc"],"x"),_,([],_),(_,&_)] struct<list<utf8>,dict<i8,utf8>>{validity=ttftt;values=list<utf8>{validity=ttttf;offsets=0,1,4,5,5,7;values=utf8["q","a",_"b","bc","d","e","f"]}|dict<i8,utf8>{keys=i8[0,2,1,_77,3];values=utf8["y","y","x",_"v"]}}@1+4"#,
+        "",
+    ],
+    [
+        r#"shift struct<list<utf8>,dict<i8,utf8>>[(["a",_,"bc"],"x"),_,([],_),(_,&_)] struct<list<utf8>,dict<i8,utf8>>{validity=ttftt;values=list<utf8>{validity=ttttf;offsets=0,1,4,5,5,7;values=utf8["q","a",_"b","bc","d","e","f"]}|dict<i8,utf8>{keys=i8[0,2,1,_77,3];values=utf8["y","y","x",_"v"]}}@1+4"#,
+        "",
+    ],
+    [
+        r#"filter struct<list<utf8>,dict<i8,utf8>>[(["a",_,"bc"],"x"),_,([],_),(_,&_)] struct<list<utf8>,dict<i8,utf8>>{validity=ttftt;values=list<utf8>{validity=ttttf;offsets=0,1,4,5,5,7;values=utf8["q","a",_"b","bc","d","e","f"]}|dict<i8,utf8>{keys=i8[0,2,1,_77,3];values=utf8["y","y","x",_"v"]}}@1+4 bool[t,_t,f,t]"#,
+        "",
+    ],
+    [
+        r#"take struct<list<utf8>,dict<i8,utf8>>[(["a",_,"bc"],"x"),_,([],_),(_,&_)] struct<list<utf8>,dict<i8,utf8>>{validity=ttftt;values=list<utf8>{validity=ttttf;offsets=0,1,4,5,5,7;values=utf8["q","a",_"b","bc","d","e","f"]}|dict<i8,utf8>{keys=i8[0,2,1,_77,3];values=utf8["y","y","x",_"v"]}}@1+4 i32[3,_9,0,1] struct<list<utf8>,dict<i8,utf8>>[(_,&_),_,(["a",_,"bc"],"x"),_]"#,
         "",
     ],
     ["choice i32[1,_2,3] i32[9,1,_,3]@1+3 bool[t,_,f]", ""],

@@ -22,7 +22,8 @@ pub const PLAIN: [Form; 1] = [[",", "]"]];
 /// What answers the lines of a name: whether what a call says of the arrays is wanted.
 pub type Answer = fn(Global, &str, &[AnyArray]) -> Result<bool, Fault>;
 
-/// The answer to a line; `Usage` where none has its name.
+/// The answer to a line; `Usage` where none has its name. Where memory is refused the arrays are to be those of the line as before, and
+/// to be answered.
 ///
 /// # Requires
 /// Each function of the table may be called on all arguments.
@@ -32,7 +33,14 @@ fn answer(alloc: Global, answers: &[(&str, Answer)], line: &str) -> Result<bool,
     let call = Call::read(alloc, line)?;
     let answer = find(answers, call.name).ok_or(Fault::Usage)?;
     let arrays = call.arrays(alloc, 0)?;
-    answer(alloc, call.name, &arrays.arrays)
+    match answer(alloc, call.name, &arrays.arrays) {
+        Err(Fault::Refused(Error::OutOfMemory)) => {
+            let others = call.arrays(alloc, 0)?;
+            let are_kept = *arrays.arrays == *others.arrays;
+            Ok(answer(alloc, call.name, &arrays.arrays)? & are_kept)
+        }
+        outcome => outcome,
+    }
 }
 
 /// Whether a line in a form is answered or refused as it is wanted.

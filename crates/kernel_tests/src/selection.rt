@@ -1,9 +1,10 @@
-//! Rows that a prepared filter copies into a growable of the caller's own.
+//! Rows that a prepared filter copies into a growable of the caller's own, and more rows than can be printed.
 
 use crate::arrays::{numbers, truths};
 use crate::lines::{Answer, Line, PLAIN, check_lines};
 use arrow_arrays::array::AnyArray;
 use arrow_growable::growable::{Growable, GrowablePrimitive};
+use arrow_select::concatenate::concatenate;
 use arrow_select::filter::build_filter;
 use arrow_text::fault::Fault;
 use arrow_text::given::Array;
@@ -11,7 +12,7 @@ use arrow_types::error::Error;
 use std::alloc::Global;
 
 /// What is tested, by name.
-const ANSWERS: [(&str, Answer); 1] = [("extend_into", extends)];
+const ANSWERS: [(&str, Answer); 2] = [("extend_into", extends), ("concatenate", joins)];
 
 /// A growable of numbers that counts how often rows are appended.
 #[derive(Drop)]
@@ -61,8 +62,27 @@ fn extends(alloc: Global, _name: &str, arrays: &[AnyArray]) -> Result<bool, Faul
     Ok(are_so_many & (*made.array == *wanted))
 }
 
-/// Numbers, a predicate, the rows and the count of calls that are wanted.
-const LINES: [Line; 6] = [
+/// Whether the last array has all rows of the one or two before it.
+fn joins(alloc: Global, _name: &str, arrays: &[AnyArray]) -> Result<bool, Fault> {
+    match arrays {
+        [array, wanted] => is_made(alloc, concatenate(alloc, &[array]), wanted),
+        [lhs, rhs, wanted] => is_made(alloc, concatenate(alloc, &[lhs, rhs]), wanted),
+        _ => Err(Fault::Usage),
+    }
+}
+
+/// Whether a call made an array that is equal to another one.
+fn is_made(
+    alloc: Global,
+    outcome: Result<AnyArray, Error>,
+    wanted: &AnyArray,
+) -> Result<bool, Fault> {
+    let made = Array::new(alloc, outcome?)?;
+    Ok(*made.array == *wanted)
+}
+
+/// Numbers, a predicate, the rows and the count of calls that are wanted; arrays that are joined, and all rows of them.
+const LINES: [Line; 10] = [
     [
         "extend_into i32[1,2,3,4,5,6,7,8,9] bool[t,t,f,t,f,f,t,t,t] i32[1,2,4,7,8,9] i32[3]",
         "",
@@ -79,6 +99,24 @@ const LINES: [Line; 6] = [
     ],
     ["extend_into i32[1,2,3] bool[f,_t,f] i32[] i32[0]", ""],
     ["extend_into i32[] bool[] i32[] i32[0]", ""],
+    [
+        "concatenate null{len=18446744073709551615} null[] null{len=18446744073709551615}",
+        "",
+    ],
+    [
+        "concatenate null{len=18446744073709551615} null[_] null[]",
+        "error Overflow",
+    ],
+    [
+        "concatenate fsl<9223372036854775808,null>{values=null{len=9223372036854775808}} \
+         fsl<9223372036854775808,null>{values=null{len=9223372036854775808}}",
+        "",
+    ],
+    [
+        "concatenate fsl<9223372036854775808,null>[] fsl<9223372036854775808,null>{values=null{len=9223372036854775808}} \
+         fsl<9223372036854775808,null>{values=null{len=9223372036854775808}}",
+        "",
+    ],
 ];
 
 #[test]

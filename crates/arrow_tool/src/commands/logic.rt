@@ -1,11 +1,9 @@
 //! Truth values that are connected, turned and counted, and rows that are null.
 
-use super::{TOO_LONG, as_boolean, only_boolean};
+use super::{as_boolean, only_boolean};
 use crate::answer::{Answer, Refusal};
 use crate::literals::Literal;
-use arrow_flat::array::BooleanArray;
 use arrow_logic::{boolean, boolean_kleene};
-use arrow_types::error::Error;
 use std::alloc::Global;
 
 /// What joins the truth values of two arrays.
@@ -71,7 +69,6 @@ pub(super) fn is_null(alloc: Global, is_null: bool, arguments: &[Literal<'_>]) -
         Literal::Array(array) => {
             Answer::of_predicate(boolean::is_not_null(alloc, array.as_array()))
         }
-        Literal::TooLong(_) => Answer::Refused(TOO_LONG),
         Literal::Number(_) => Answer::Refused(Refusal::Usage),
     }
 }

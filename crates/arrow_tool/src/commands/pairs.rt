@@ -5,13 +5,11 @@ ghost use Rattle.arrow_types.specs.Physical.{physical_type_of};
 ghost use Rattle.arrow_arrays.specs.Any.{any_array_rows, any_array_type};
 ghost use Rattle.arrow_compare.specs.Compared.{HasEquality, HasOrder};
 
-use super::TOO_LONG;
 use crate::answer::{Answer, Refusal};
 use crate::literals::{Literal, WrittenArray};
 use arrow_arrays::array::AnyArray;
 use arrow_compare::comparison;
 use arrow_logic::nullif;
-use arrow_types::datatypes::DataType;
 use std::alloc::Global;
 
 /// What is asked of each row of an array and the row of another.
@@ -32,10 +30,10 @@ pub(super) fn relate(alloc: Global, relation: Relation, arguments: &[Literal<'_>
         return Answer::Refused(Refusal::Usage);
     };
     let Literal::Array(left) = lhs else {
-        return Answer::Refused(without_arrays(lhs, rhs));
+        return Answer::Refused(Refusal::Usage);
     };
     let Literal::Array(right) = rhs else {
-        return Answer::Refused(without_arrays(lhs, rhs));
+        return Answer::Refused(Refusal::Usage);
     };
     relate_arrays(alloc, relation, left, right)
 }
@@ -77,26 +75,6 @@ fn relate_arrays(
         Relation::Gt => comparison::gt(alloc, lhs, rhs),
         Relation::GtEq => comparison::gt_eq(alloc, lhs, rhs),
     })
-}
-
-/// The refusal where one of the two is no array.
-fn without_arrays(lhs: &Literal<'_>, rhs: &Literal<'_>) -> Refusal {
-    match (text_count(lhs), text_count(rhs)) {
-        (Some(left), Some(right)) if left == right => TOO_LONG,
-        _ => Refusal::Usage,
-    }
-}
-
-/// How many texts there are, where an argument is texts.
-fn text_count(argument: &Literal<'_>) -> Option<usize> {
-    match argument {
-        Literal::Array(array) => {
-            let array = array.as_array();
-            matches!(array.data_type(), DataType::Utf8).then_some(array.len())
-        }
-        Literal::TooLong(count) => Some(*count),
-        Literal::Number(_) => None,
-    }
 }
 
 pub(super) fn nullif(alloc: Global, arguments: &[Literal<'_>]) -> Answer {

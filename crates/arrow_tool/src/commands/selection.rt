@@ -4,7 +4,7 @@ ghost use Rattle.std.specs.Prelude.{◌≡◌, length, IfOk};
 ghost use Rattle.arrow_flat.specs.Parts.{boolean_rows};
 ghost use Rattle.arrow_arrays.specs.Any.{any_array_rows, any_array_type};
 
-use super::{TOO_LONG, as_boolean, only_boolean};
+use super::{as_boolean, only_boolean};
 use crate::answer::{Answer, Refusal};
 use crate::literals::Literal;
 use arrow_arrays::array::{AnyArray, are_within};
@@ -18,21 +18,10 @@ pub(super) fn concatenate(alloc: Global, arguments: &[Literal<'_>]) -> Result<An
     for argument in arguments {
         match argument {
             Literal::Array(array) => arrays.push(array.as_array())?,
-            Literal::TooLong(_) => return Ok(Answer::Refused(beside_too_long(arguments))),
             Literal::Number(_) => return Ok(Answer::Refused(Refusal::Usage)),
         }
     }
     Ok(Answer::of_kernel(concatenate::concatenate(alloc, &arrays)))
-}
-
-/// The refusal of arguments one of which is too long, where all are to be arrays.
-fn beside_too_long(arguments: &[Literal<'_>]) -> Refusal {
-    for argument in arguments {
-        if matches!(argument, Literal::Number(_)) {
-            return Refusal::Usage;
-        }
-    }
-    TOO_LONG
 }
 
 pub(super) fn filter(alloc: Global, arguments: &[Literal<'_>]) -> Answer {
@@ -46,7 +35,6 @@ pub(super) fn filter(alloc: Global, arguments: &[Literal<'_>]) -> Answer {
         Literal::Array(array) if array.as_array().len() == predicate.len() => {
             Answer::of_kernel(filter::filter(alloc, array.as_array(), predicate))
         }
-        Literal::TooLong(len) if *len == predicate.len() => Answer::Refused(TOO_LONG),
         _ => Answer::Refused(Refusal::Usage),
     }
 }
@@ -62,7 +50,6 @@ pub(super) fn build_filter(alloc: Global, arguments: &[Literal<'_>]) -> Answer {
         Literal::Array(array) if array.as_array().len() == predicate.len() => {
             Answer::of_kernel(build_and_apply(alloc, predicate, array.as_array()))
         }
-        Literal::TooLong(len) if *len == predicate.len() => Answer::Refused(TOO_LONG),
         _ => Answer::Refused(Refusal::Usage),
     }
 }
@@ -98,10 +85,10 @@ pub(super) fn if_then_else(alloc: Global, arguments: &[Literal<'_>]) -> Answer {
         return Answer::Refused(Refusal::Usage);
     };
     let Literal::Array(lhs) = lhs else {
-        return Answer::Refused(beside_too_long(arguments));
+        return Answer::Refused(Refusal::Usage);
     };
     let Literal::Array(rhs) = rhs else {
-        return Answer::Refused(beside_too_long(arguments));
+        return Answer::Refused(Refusal::Usage);
     };
     Answer::of_kernel(if_then_else::if_then_else(alloc, predicate, lhs.as_array(), rhs.as_array()))
 }
@@ -130,7 +117,6 @@ pub(super) fn shift(alloc: Global, arguments: &[Literal<'_>]) -> Answer {
         Literal::Array(array) => {
             Answer::of_kernel(window::shift(alloc, array.as_array(), offset))
         }
-        Literal::TooLong(_) => Answer::Refused(TOO_LONG),
         Literal::Number(_) => Answer::Refused(Refusal::Usage),
     }
 }
@@ -149,7 +135,6 @@ pub(super) fn take(alloc: Global, arguments: &[Literal<'_>]) -> Answer {
         Literal::Array(array) if are_within(indices, array.as_array().len()) => {
             Answer::of_kernel(take::take(alloc, array.as_array(), indices))
         }
-        Literal::TooLong(len) if are_within(indices, *len) => Answer::Refused(TOO_LONG),
         _ => Answer::Refused(Refusal::Usage),
     }
 }

@@ -1,6 +1,5 @@
 //! Lengths and parts of texts.
 
-use super::TOO_LONG;
 use crate::answer::{Answer, Refusal};
 use crate::literals::Literal;
 use arrow_logic::{length, substring};
@@ -12,7 +11,6 @@ pub(super) fn length(alloc: Global, arguments: &[Literal<'_>]) -> Answer {
     };
     match array {
         Literal::Array(array) => Answer::of_kernel(length::length(alloc, array.as_array())),
-        Literal::TooLong(_) => Answer::Refused(TOO_LONG),
         Literal::Number(_) => Answer::Refused(Refusal::Usage),
     }
 }
@@ -52,7 +50,6 @@ fn part(alloc: Global, array: &Literal<'_>, start: &Literal<'_>, length: &Option
         Literal::Array(array) => {
             Answer::of_kernel(substring::substring(alloc, array.as_array(), start, length))
         }
-        Literal::TooLong(_) => Answer::Refused(TOO_LONG),
         Literal::Number(_) => Answer::Refused(Refusal::Usage),
     }
 }
