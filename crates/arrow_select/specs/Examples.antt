@@ -7,7 +7,7 @@ use Rattle.std.proofs.lemmas.List.Sums.{sum_by-append}
 use Rattle.arrow_types.specs.declared.datatypes.IntegerType.TheVariants.{Int8, Int32}
 use Rattle.arrow_types.specs.ArrowType.{ArrowType, boolean, dictionary, extension, field, integer, list, mapped, more_fields, no_fields, plain, small, struct, utf8}
 use Rattle.arrow_types.specs.Fits.{Fits, byte_count}
-use Rattle.arrow_types.specs.Ranges.{named, true_rows}
+use Rattle.arrow_types.specs.Ranges.{named, named_sides, true_rows}
 use Rattle.arrow_types.specs.Rows.{chosen, gather, joined, mask_of, select}
 use Rattle.arrow_types.specs.Slot.{Slot, Boolean, Null, Number}
 use Rattle.arrow_flat.specs.Parts.{Parts, boolean_rows}
@@ -87,6 +87,17 @@ three_chosen = refl
 -- of [1, null, null] and [null, 5, 6], [t, f, t] chooses [1, 5, null]
 nulls_chosen : chosen (Boolean true ∷ Boolean false ∷ Boolean true ∷ []) (Number (pos 1) ∷ Null ∷ Null ∷ []) (Null ∷ Number (pos 5) ∷ Number (pos 6) ∷ []) (plain (integer Int32)) ≡ Number (pos 1) ∷ Number (pos 5) ∷ Null ∷ []
 nulls_chosen = refl
+
+-- [t, f, f, t] names row 0 of the left array, rows 1 and 2 of the right one, and row 3 of the left one
+sides_named : named_sides ((0, (0, 1)) ∷ (1, (1, 2)) ∷ (0, (3, 1)) ∷ []) ≡ sides_from 0 (Boolean true ∷ Boolean false ∷ Boolean false ∷ Boolean true ∷ [])
+sides_named = refl
+
+-- [t, null over true, f] names its null row on a side of its own, by its place
+null_is_named : named_sides ((0, (0, 1)) ∷ (2, (1, 1)) ∷ (1, (2, 1)) ∷ []) ≡ sides_from 0 (boolean_rows nulls_over_trues)
+null_is_named = refl
+
+nulls_are_named : named_sides ((2, (0, 3)) ∷ (0, (3, 2)) ∷ (1, (5, 1)) ∷ []) ≡ sides_from 0 (Null ∷ Null ∷ Null ∷ Boolean true ∷ Boolean true ∷ Boolean false ∷ [])
+nulls_are_named = refl
 
 -- keys of 8 bits over a hundred values, and behind these key 28 of others: it is crowded where it is chosen
 abbrev keys_over : ℕ → Layout

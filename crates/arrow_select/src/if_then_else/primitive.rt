@@ -35,42 +35,30 @@ pub(super) fn chosen_primitives(
     ensures fits { IfOk result (λ all. Fits (any_type all) (any_rows all)) }
     ensures err { IsOkUnless result Error.OutOfMemory }
 {
-    macro_rules! of_element {
-        ($left:ident, $right:ident, $element:ident) => {
-            Ok(AnyPrimitive::$element(chosen_numbers(alloc, predicate, $left, $right)?))
+    macro_rules! of_elements {
+        ($($element:ident),*) => {
+            match (lhs, rhs) {
+                $((AnyPrimitive::$element(left), AnyPrimitive::$element(right)) => {
+                    Ok(AnyPrimitive::$element(chosen_numbers(alloc, predicate, left, right)?))
+                })*
+                _ => unreachable!(),
+            }
         };
     }
-    match (lhs, rhs) {
-        (AnyPrimitive::Int8(left), AnyPrimitive::Int8(right)) => of_element!(left, right, Int8),
-        (AnyPrimitive::Int16(left), AnyPrimitive::Int16(right)) => of_element!(left, right, Int16),
-        (AnyPrimitive::Int32(left), AnyPrimitive::Int32(right)) => of_element!(left, right, Int32),
-        (AnyPrimitive::Int64(left), AnyPrimitive::Int64(right)) => of_element!(left, right, Int64),
-        (AnyPrimitive::Int128(left), AnyPrimitive::Int128(right)) => of_element!(
-            left, right, Int128
-        ),
-        (AnyPrimitive::Int256(left), AnyPrimitive::Int256(right)) => of_element!(
-            left, right, Int256
-        ),
-        (AnyPrimitive::UInt8(left), AnyPrimitive::UInt8(right)) => of_element!(left, right, UInt8),
-        (AnyPrimitive::UInt16(left), AnyPrimitive::UInt16(right)) => of_element!(
-            left, right, UInt16
-        ),
-        (AnyPrimitive::UInt32(left), AnyPrimitive::UInt32(right)) => of_element!(
-            left, right, UInt32
-        ),
-        (AnyPrimitive::UInt64(left), AnyPrimitive::UInt64(right)) => of_element!(
-            left, right, UInt64
-        ),
-        (AnyPrimitive::DaysMs(left), AnyPrimitive::DaysMs(right)) => of_element!(
-            left, right, DaysMs
-        ),
-        (AnyPrimitive::MonthDayNano(left), AnyPrimitive::MonthDayNano(right)) => of_element!(
-            left,
-            right,
-            MonthDayNano
-        ),
-        _ => unreachable!(),
-    }
+    of_elements!(
+        Int8,
+        Int16,
+        Int32,
+        Int64,
+        Int128,
+        Int256,
+        UInt8,
+        UInt16,
+        UInt32,
+        UInt64,
+        DaysMs,
+        MonthDayNano
+    )
 }
 
 /// The same of one element type.

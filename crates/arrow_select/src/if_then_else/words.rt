@@ -39,12 +39,8 @@ pub(super) fn chosen_values<T: NativeType>(
     for j in 0..len.div_ceil(WORD_BITS) {
         let start = WORD_BITS * j;
         let end = start + WORD_BITS.min(len - start);
-        append_word(
-            &mut values,
-            bits.word(j),
-            &left[start..end],
-            &right[start..end],
-        );
+        let word = bits.word(j);
+        append_word(&mut values, word, &left[start..end], &right[start..end]);
     }
     Ok(values)
 }
