@@ -9,8 +9,7 @@ ghost use Rattle.arrow_flat.specs.Parts.{boolean_rows, rows_by};
 ghost use Rattle.arrow_arrays.specs.Any.{any_array_meaning, any_array_rows, any_array_type};
 ghost use Rattle.arrow_arrays.specs.KeyedParts.{AreKeys};
 ghost use Rattle.arrow_select.specs.Arrays.{rows_in, types_in};
-ghost use Rattle.arrow_select.specs.Laws.{true_places};
-ghost use Rattle.arrow_select.specs.Taken.{CanTake, IsNotTaken};
+ghost use Rattle.arrow_select.specs.Laws.{CanTakeByFields, IsStructOrUnion, true_places};
 
 use arrow_arrays::array::AnyArray;
 use arrow_flat::array::{BooleanArray, PrimitiveArray};
@@ -125,11 +124,12 @@ pub fn take_goes_by_rows<I: Index, J: Index>(
     ensures { any_array_meaning other_taken.now ≡ any_array_meaning taken.now }
 {}
 
-/// Where `can_take` holds of an array's type, `take` does not answer `NotYetImplemented`, whatever the indices.
+/// Of a carried struct or union `can_take` holds exactly where it holds of the type of each field, and of a type that is not
+/// carried it does not.
 ///
 /// # Requires
-/// `can_take` holds of the type.
-pub fn can_take_is_implemented<I: Index>(data_type: &DataType, indices: &PrimitiveArray<I>)
-    requires { CanTake (type_of data_type.now) }
-    ensures { IsNotTaken (type_of data_type.now) (rows_by (map I.slot) indices.now) → ⊥ }
+/// The type is a struct or a union, not inside an extension.
+pub fn can_take_goes_by_fields(data_type: &DataType)
+    requires { IsStructOrUnion (type_of data_type.now) }
+    ensures { CanTakeByFields (type_of data_type.now) }
 {}
