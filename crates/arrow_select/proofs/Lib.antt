@@ -1,3 +1,4 @@
+pub mod AnswerLemmas
 pub mod ArrayLemmas
 pub mod ChoiceLemmas
 pub mod ChosenLemmas
@@ -22,5 +23,6 @@ pub mod SpanLemmas
 pub mod TakenBytes
 pub mod TakenFields
 pub mod TakenKeys
+pub mod TakenRows
 pub mod TakenRuns
 pub mod TakenTypes

@@ -1,13 +1,11 @@
 -- Structs by index: each column by index, under the validity by index.
-use Rattle.std.proofs.Common.{arith, ◌≡◌, ◌+◌, ℕ, zero, suc, ◌<◌, ◌^◌, pos, Bool, true, false, Option, Some, None, List, [], ◌∷◌, ◌++◌, Result, Ok, Err, inl, inr, length, map, take, get_or, replicate, if◌then◌else◌, refl, ap, sym, subst, ◌∙◌}
-use Rattle.std.specs.Prelude.{IfOk, slice_index_or, unwrap_or}
+use Rattle.std.proofs.Common.{arith, ◌≡◌, ◌+◌, ℕ, zero, suc, ◌<◌, ◌^◌, pos, Bool, true, false, Option, Some, None, List, [], ◌∷◌, ◌++◌, length, map, take, get_or, replicate, if◌then◌else◌, refl, ap, sym, subst, ◌∙◌}
+use Rattle.std.specs.Prelude.{slice_index_or, unwrap_or}
 use Rattle.std.specs.List.{All}
 use Rattle.std.proofs.lemmas.List.{get_or-map, length-map, map-append}
 use Rattle.std.proofs.lemmas.List.Elements.{All-map}
 use Rattle.std.proofs.lemmas.Option.{get_or_from_slice_get, slice_get-get_or, slice_get_read, slice_get_within}
 use Rattle.std.proofs.lemmas.Simd.{map-map}
-use Rattle.arrow_types.specs.declared.error.Error.{Error}
-use Rattle.arrow_types.proofs.FitsLemmas.{Fits-nil}
 use Rattle.arrow_types.proofs.RowsLemmas.{take_at_read}
 use Rattle.arrow_types.specs.ArrowType.{ArrowType, null, plain}
 use Rattle.arrow_types.specs.Fits.{Fits, part_in, slot_or}
@@ -23,14 +21,8 @@ use Rattle.arrow_arrays.proofs.StructLemmas.{columns_of-to_layouts, length-struc
 use Rattle.arrow_arrays.proofs.ShapeLemmas.{shape_of}
 use Rattle.arrow_growable.specs.Form.{child_type, child_types}
 use Rattle.arrow_growable.proofs.ColumnLemmas.{column_fits, field_column, fits_fields, struct_child_types}
-use Rattle.arrow_select.specs.Taken.{HasTake, MarksTaken, MayTake, SomeDoNotFit, is_taken_valid, taken_rows, valid_index}
-use Rattle.arrow_select.proofs.TakenTypes.{struct_take}
+use Rattle.arrow_select.specs.Taken.{MarksTaken, SomeDoNotFit, is_taken_valid, taken_rows, valid_index}
 use Rattle.arrow_select.proofs.IndexLemmas.{Stores, each_index, fits_taken, length-gather, map-agree, named_valid, null_is_none, rows_taken}
-
--- an array without rows fits its type
-pub fits_none : (r : Result AnyArray Error) → IfOk r (λ a. any_array_rows a ≡ []) → IfOk r (λ a. Fits (any_array_type a) (any_array_rows a))
-fits_none (Ok a) none = subst (Fits (any_array_type a)) (sym none) (Fits-nil (any_array_type a))
-fits_none (Err e) none = tt
 
 -- arrays that are made one by one of others
 pub makes_next : {A : Type 0} (f h : AnyArray → A) (done whole : List AnyArray) (x item : AnyArray) (i : ℕ) → i < length whole → item ≡ get_or whole i item → f x ≡ h item → map f done ≡ map h (take i whole) → map f (done ++ x ∷ []) ≡ map h (take (i + 1) whole)
@@ -208,13 +200,6 @@ module _ (p : StructParts) (columns : List AnyArray) (held : IsStruct p) (childr
   pub columns_inside : All (λ c. AreKeys (length (any_array_rows c)) (map (valid_index v) indices)) columns
   columns_inside =
       λ k d within. subst (λ n. AreKeys n (map (valid_index v) indices)) (long ∙ sym (column_long k d within)) (valid_keys v (length (struct_rows p)) indices keys)
-
-  -- and each column has rows by index where the struct has
-  pub columns_may : MayTake p.arrow_type indices → All (λ c. MayTake (any_array_type c) (map (valid_index v) indices)) columns
-  columns_may (inl none) = λ k d within. inl (ap (map (valid_index v)) none)
-  columns_may (inr has) =
-      let each = subst (All HasTake) (sym (struct_child_types p.arrow_type (ap shape_of held.kind.1))) ((struct_take p.arrow_type held.kind.1).0 has) in
-      λ k d within. inr (subst HasTake (sym (column_type k d within)) (each k (plain null) (omega (arith, within, as_many))))
 
   -- the columns by index are of one length
   pub taken_fits : (taken : List AnyArray) (validity : Option (List Bool)) → map any_array_rows taken ≡ map (taken_rows (map (valid_index v) indices)) columns → MarksTaken v indices validity → FitsColumns (map layout_of taken) validity

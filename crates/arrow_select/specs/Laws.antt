@@ -1,14 +1,17 @@
 -- What the kernels' laws are stated by.
-use Rattle.std.specs.Prelude.{◌≡◌, ℕ, ◌+◌, ℤ, pos, Bool, true, None, List, [], ◌∷◌, map, replicate, if◌then◌else◌}
+use Rattle.std.specs.Prelude.{◌≡◌, ◌↔◌, ℕ, ◌+◌, ℤ, pos, Bool, true, None, List, [], ◌∷◌, All, map, replicate, if◌then◌else◌}
 use Rattle.arrow_types.specs.declared.datatypes.UnionMode.TheVariants.{Dense}
-use Rattle.arrow_types.specs.ArrowType.{ArrowType, plain, null, union, field, no_fields, more_fields}
+use Rattle.arrow_types.specs.ArrowType.{ArrowType, plain, null, struct, union, field, no_fields, more_fields}
+use Rattle.arrow_types.specs.Carried.{IsCarried}
 use Rattle.arrow_types.specs.Fits.{Fits}
 use Rattle.arrow_types.specs.Rows.{chosen, gather, mask_of, select, shifted}
 use Rattle.arrow_types.specs.Slot.{Slot, Null, Number, Variant}
 use Rattle.arrow_arrays.specs.Any.{any_array_meaning, any_array_rows, any_array_type}
 use Rattle.arrow_arrays.specs.Layout.{Layout}
+use Rattle.arrow_arrays.specs.TypeParts.{field_types}
 use Rattle.arrow_arrays.specs.declared.array.any.AnyArray.{AnyArray}
 use Rattle.arrow_select.specs.Selected.{selected_rows}
+use Rattle.arrow_select.specs.Taken.{CanTake}
 
 -- the places at which a mask is true, of which the first has this number
 abbrev pub places_from : ℕ → List Bool → List ℕ
@@ -55,3 +58,13 @@ dense_nulls = union Dense None (more_fields (field [] (plain null) true) no_fiel
 
 abbrev pub dense_rows : ℕ → List Slot
 dense_rows n = replicate n (Variant (pos 0) Null)
+
+-- a struct or a union
+abbrev pub IsStructOrUnion : ArrowType → Type 0
+IsStructOrUnion (struct fs) = Unit {0}
+IsStructOrUnion (union mode ids fs) = Unit {0}
+IsStructOrUnion _ = ⊥
+
+-- `can_take` holds exactly where the type is carried, and it holds of the type of each field
+abbrev pub CanTakeByFields : ArrowType → Type 0
+CanTakeByFields t = CanTake t ↔ (IsCarried t × All CanTake (field_types t))

@@ -1,3 +1,4 @@
+pub mod Answers
 pub mod Arrays
 pub mod Choice
 pub mod Examples

@@ -1,60 +1,40 @@
--- Rows by index: which types have them, and what private functions keep of them.
-use Rattle.std.specs.Prelude.{◌≡◌, ◌≢◌, ◌⊎◌, ℕ, ◌+◌, ◌-◌, pos, Bool, false, not, Option, None, Some, List, [], ◌∷◌, map, replicate, slice_get, slice_index, slice_index_or, unwrap_or, if◌then◌else◌}
+-- Rows by index: the types that `can_take` lists, what `take` answers, and what private functions keep of rows by index.
+use Rattle.std.specs.Prelude.{◌≡◌, ℕ, ◌+◌, ◌*◌, ◌-◌, pos, Bool, false, not, Option, None, Some, List, [], ◌∷◌, Result, map, replicate, slice_get, slice_index, slice_index_or, unwrap_or, if◌then◌else◌}
 use Rattle.std.specs.List.{All, range_with_len}
 use Rattle.arrow_types.specs.declared.error.Error.{Error}
-use Rattle.arrow_types.specs.declared.error.Error.TheVariants.{NotYetImplemented}
-use Rattle.arrow_types.specs.declared.error.Unsupported.TheVariants.{Take}
-use Rattle.arrow_types.specs.ArrowType.{ArrowType, ArrowFields, PlainType, ListForm, plain, list, struct, union, dictionary, extension, field, no_fields, more_fields, float16, float32, float64, fixed_size_binary, decimal256, mapped}
+use Rattle.arrow_types.specs.ArrowType.{ArrowType, ArrowFields, PlainType, plain, list, struct, union, dictionary, extension, field, no_fields, more_fields, float16, float32, float64, decimal256}
 use Rattle.arrow_types.specs.Carried.{IsCarried}
 use Rattle.arrow_types.specs.Fits.{Fits}
 use Rattle.arrow_types.specs.Relation.{is_null}
 use Rattle.arrow_types.specs.Rows.{gather, valid_at}
 use Rattle.arrow_types.specs.Slot.{Slot, Null, Number}
-use Rattle.arrow_memory.specs.Grown.{IsGrowthError}
-use Rattle.arrow_flat.specs.Parts.{IsValue}
+use Rattle.arrow_memory.specs.Sliced.{sliced}
+use Rattle.arrow_flat.specs.FixedRows.{FixedParts, fixed_slots}
+use Rattle.arrow_flat.specs.Parts.{IsValue, Parts, rows_by}
 use Rattle.arrow_arrays.specs.Any.{any_array_type, any_array_rows}
 use Rattle.arrow_arrays.specs.declared.array.any.AnyArray.{AnyArray}
 use Rattle.arrow_arrays.specs.KeyedParts.{key_in}
+use Rattle.arrow_arrays.specs.Layout.{Layout}
+use Rattle.arrow_arrays.specs.ListParts.{ListParts, list_rows}
+use Rattle.arrow_arrays.specs.UnionParts.{UnionParts, union_rows}
+use Rattle.arrow_flat_growable.specs.Grown.{Grown, source_at}
+use Rattle.arrow_select.specs.Answers.{Answers}
 use Rattle.arrow_select.specs.Spans.{span_bytes}
-
--- types of which there are rows by index: all but maps, unions and bytes of a fixed size, and structs that have a field of these
-abbrev pub HasTakePlain : PlainType → Type 0
-HasTakePlain (fixed_size_binary size) = ⊥
-HasTakePlain _ = Unit {0}
-
-abbrev pub HasTakeForm : ListForm → Type 0
-HasTakeForm (mapped sorted) = ⊥
-HasTakeForm _ = Unit {0}
-
-abbrev mutual
-  pub HasTake : ArrowType → Type 0
-  HasTake (plain p) = HasTakePlain p
-  HasTake (list form f) = HasTakeForm form
-  HasTake (struct fs) = HaveTake fs
-  HasTake (union mode ids fs) = ⊥
-  HasTake (dictionary keys ordered t) = Unit {0}
-  HasTake (extension name metadata t) = HasTake t
-
-  -- of all fields
-  pub HaveTake : ArrowFields → Type 0
-  HaveTake no_fields = Unit {0}
-  HaveTake (more_fields (field name t nullable) fs) = HasTake t × HaveTake fs
 
 -- the types of which `can_take` says so: extensions are not looked through, and decimals of 256 bits are not among them
 abbrev pub IsTakenPlain : PlainType → Type 0
 IsTakenPlain float16 = ⊥
 IsTakenPlain float32 = ⊥
 IsTakenPlain float64 = ⊥
-IsTakenPlain (fixed_size_binary size) = ⊥
 IsTakenPlain (decimal256 precision scale) = ⊥
 IsTakenPlain _ = Unit {0}
 
 abbrev mutual
   pub IsTaken : ArrowType → Type 0
   IsTaken (plain p) = IsTakenPlain p
-  IsTaken (list form f) = HasTakeForm form
+  IsTaken (list form f) = Unit {0}
   IsTaken (struct fs) = AreTaken fs
-  IsTaken (union mode ids fs) = ⊥
+  IsTaken (union mode ids fs) = AreTaken fs
   IsTaken (dictionary keys ordered t) = Unit {0}
   IsTaken (extension name metadata t) = ⊥
 
@@ -62,6 +42,25 @@ abbrev mutual
   pub AreTaken : ArrowFields → Type 0
   AreTaken no_fields = Unit {0}
   AreTaken (more_fields (field name t nullable) fs) = IsTaken t × AreTaken fs
+
+-- a type whose arrays have rows by index, as `can_take` says
+abbrev pub CanTake : ArrowType → Type 0
+CanTake t = IsCarried t × IsTaken t
+
+-- what `take` answers of arrays of a kind: the rows that the indices name, of the same type
+abbrev pub AnswersTaken : {A : Type 0} → (A → ArrowType) → (A → List Slot) → Result A Error → A → List Slot → Type 0
+AnswersTaken type_in rows_in result values indices =
+    Answers type_in rows_in result (type_in values) (gather (rows_in values) indices (type_in values))
+
+-- of bytes of a fixed size, of maps, and of unions
+abbrev pub AnswersFixedRows : Result (Parts FixedParts) Error → Parts FixedParts → List Slot → Type 0
+AnswersFixedRows = AnswersTaken (λ array. array.arrow_type) (rows_by fixed_slots)
+
+abbrev pub AnswersMaps : Result ListParts Error → ListParts → List Slot → Type 0
+AnswersMaps = AnswersTaken (λ array. array.arrow_type) list_rows
+
+abbrev pub AnswersUnions : Result UnionParts Error → UnionParts → List Slot → Type 0
+AnswersUnions = AnswersTaken (λ array. array.arrow_type) union_rows
 
 -- the place that an index names, and 0 where it is null
 abbrev pub place_in : Slot → ℕ
@@ -117,6 +116,19 @@ ends_from place (n ∷ lengths) = (place + n) ∷ ends_from (place + n) lengths
 abbrev pub row_length : List ℕ → ℕ → ℕ
 row_length offsets row = slice_index offsets (row + 1) - slice_index offsets row
 
+-- the bytes of a row of so many, by where it is, and as many zeros where it is nowhere
+abbrev pub fixed_row : ℕ → List ℕ → Option ℕ → List ℕ
+fixed_row size bytes None = replicate size 0
+fixed_row size bytes (Some n) = sliced bytes (n * size) size
+
+-- the bytes of the row that an index names
+abbrev pub taken_row : ℕ → List ℕ → Slot → List ℕ
+taken_row size bytes index = fixed_row size bytes (key_in index)
+
+-- the first array that is bound to a growable
+abbrev pub first_bound : Grown → Layout
+first_bound g = source_at (unwrap_or g.sources []) 0
+
 -- indices that name so many rows from one on, or as many nulls
 abbrev pub run_of : Option ℕ → ℕ → List Slot
 run_of None len = replicate len Null
@@ -129,19 +141,3 @@ taken_rows indices column = gather (any_array_rows column) indices (any_array_ty
 abbrev pub SomeDoNotFit : List Slot → List AnyArray → Type 0
 SomeDoNotFit indices columns =
     (k : ℕ) × (c : AnyArray) × (slice_get columns k ≡ Some c) × (Fits (any_array_type c) (taken_rows indices c) → ⊥)
-
--- rows that are asked for of a type that has none by index, and any others
-abbrev pub IsNotTaken : ArrowType → List Slot → Type 0
-IsNotTaken t indices = (HasTake t → ⊥) × (indices ≢ [])
-
-abbrev pub MayTake : ArrowType → List Slot → Type 0
-MayTake t indices = (indices ≡ []) ⊎ HasTake t
-
--- an error that `take` may answer
-abbrev pub IsTakeRefusal : Error → Type 0
-IsTakeRefusal (NotYetImplemented Take) = Unit {0}
-IsTakeRefusal e = IsGrowthError e
-
--- a type whose arrays have rows by index, as `can_take` says
-abbrev pub CanTake : ArrowType → Type 0
-CanTake t = IsCarried t × IsTaken t

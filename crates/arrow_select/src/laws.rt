@@ -12,9 +12,8 @@ ghost use Rattle.arrow_arrays.specs.KeyedParts.{AreKeys};
 ghost use Rattle.arrow_arrays.specs.Layout.{rows, type_of_layout};
 ghost use Rattle.arrow_select.specs.Arrays.{rows_in, types_in};
 ghost use Rattle.arrow_select.specs.Keys.{HasNoDictionary};
-ghost use Rattle.arrow_select.specs.Laws.{IsChoice, RowsFit, chosen_of, dense_nulls, dense_rows, gathered_of, kept_columns, kept_of, selected_of, shifted_of, true_places};
+ghost use Rattle.arrow_select.specs.Laws.{CanTakeByFields, IsChoice, IsStructOrUnion, RowsFit, chosen_of, dense_nulls, dense_rows, gathered_of, kept_columns, kept_of, selected_of, shifted_of, true_places};
 ghost use Rattle.arrow_select.specs.Selected.{FirstDoesNotFit};
-ghost use Rattle.arrow_select.specs.Taken.{CanTake, IsNotTaken};
 
 use crate::filter::Filter;
 use arrow_arrays::array::AnyArray;
@@ -131,13 +130,14 @@ pub fn take_goes_by_rows<I: Index, J: Index>(
     ensures { any_array_meaning other_taken.now ≡ any_array_meaning taken.now }
 {}
 
-/// Where `can_take` holds of an array's type, `take` does not answer `NotYetImplemented`, whatever the indices.
+/// Of a carried struct or union `can_take` holds exactly where it holds of the type of each field, and of a type that is not
+/// carried it does not.
 ///
 /// # Requires
-/// `can_take` holds of the type.
-pub fn can_take_is_implemented<I: Index>(data_type: &DataType, indices: &PrimitiveArray<I>)
-    requires { CanTake (type_of data_type.now) }
-    ensures { IsNotTaken (type_of data_type.now) (rows_by (map I.slot) indices.now) → ⊥ }
+/// The type is a struct or a union, not inside an extension.
+pub fn can_take_goes_by_fields(data_type: &DataType)
+    requires { IsStructOrUnion (type_of data_type.now) }
+    ensures { CanTakeByFields (type_of data_type.now) }
 {}
 
 /// Arrays of the same type and rows are filtered to the same type and rows by prepared filters of one mask.

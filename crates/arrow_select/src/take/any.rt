@@ -1,4 +1,4 @@
-//! Arrays of any type by index.
+//! Arrays of any type but structs by index.
 
 ghost use Rattle.std.specs.Prelude.{◌≡◌, ◌≢◌, Err, length, map, IfOk, IfErr, IsOkUnless};
 ghost use Rattle.arrow_types.specs.declared.error.Error.{Error};
@@ -10,48 +10,23 @@ ghost use Rattle.arrow_flat.specs.NullParts.{null_rows};
 ghost use Rattle.arrow_flat.specs.Parts.{rows_by};
 ghost use Rattle.arrow_arrays.specs.Any.{any_array_type, any_array_rows, kind_of, struct_kind};
 ghost use Rattle.arrow_arrays.specs.KeyedParts.{AreKeys};
-ghost use Rattle.arrow_select.specs.Taken.{HasTake, MayTake};
 
-use crate::take::structure::take_struct;
-use crate::take::{binary, boolean, dict, fixed_size_list, list, primitive, utf8};
-use arrow_arrays::array::{AnyArray, new_empty_array};
+use crate::take::{
+    binary, boolean, dict, fixed_size_binary, fixed_size_list, list, map, primitive, union, utf8,
+};
+use arrow_arrays::array::AnyArray;
 use arrow_flat::array::{AnyPrimitive, NullArray, PrimitiveArray};
 use arrow_types::error::Error;
 use arrow_types::types::Index;
 use std::alloc::Global;
 
-/// The rows that the indices name, of an array of any type that has rows by index, or by no index.
-#[cycle(take)]
-pub(super) fn take_any<I: Index>(
+/// The rows that the indices name, of an array of any type but a struct.
+pub(super) fn take_one<I: Index>(
     alloc: Global,
     values: &AnyArray,
     indices: &PrimitiveArray<I>,
 ) -> Result<AnyArray, Error>
     requires inside { AreKeys (length (any_array_rows values.now)) (rows_by (map I.slot) indices.now) }
-    requires may_take { MayTake (any_array_type values.now) (rows_by (map I.slot) indices.now) }
-    ensures array_type { IfOk result (λ taken. any_array_type taken ≡ any_array_type values.now) }
-    ensures rows { IfOk result (λ taken. any_array_rows taken ≡ gather (any_array_rows values.now) (rows_by (map I.slot) indices.now) (any_array_type values.now)) }
-    ensures fits { IfOk result (λ taken. Fits (any_array_type taken) (any_array_rows taken)) }
-    ensures overflow { result ≡ Err Error.Overflow → Fits (any_array_type values.now) (gather (any_array_rows values.now) (rows_by (map I.slot) indices.now) (any_array_type values.now)) → ⊥ }
-    ensures others { IfErr result IsGrowthError }
-{
-    if indices.is_empty() {
-        return new_empty_array(alloc, values.data_type().clone()?);
-    }
-    match values {
-        AnyArray::Struct(values) => { Ok(AnyArray::Struct(take_struct(alloc, values, indices)?)) }
-        _ => take_one(alloc, values, indices),
-    }
-}
-
-/// The rows that the indices name, of an array of any type that has rows by index but a struct.
-fn take_one<I: Index>(
-    alloc: Global,
-    values: &AnyArray,
-    indices: &PrimitiveArray<I>,
-) -> Result<AnyArray, Error>
-    requires inside { AreKeys (length (any_array_rows values.now)) (rows_by (map I.slot) indices.now) }
-    requires taken { HasTake (any_array_type values.now) }
     requires no_struct { kind_of values.now ≢ struct_kind }
     ensures array_type { IfOk result (λ taken. any_array_type taken ≡ any_array_type values.now) }
     ensures rows { IfOk result (λ taken. any_array_rows taken ≡ gather (any_array_rows values.now) (rows_by (map I.slot) indices.now) (any_array_type values.now)) }
@@ -59,8 +34,6 @@ fn take_one<I: Index>(
     ensures overflow { result ≡ Err Error.Overflow → Fits (any_array_type values.now) (gather (any_array_rows values.now) (rows_by (map I.slot) indices.now) (any_array_type values.now)) → ⊥ }
     ensures others { IfErr result IsGrowthError }
 {
-    // The kind of the array follows from its data type.
-    let _ = values.data_type();
     match values {
         AnyArray::Null(values) => Ok(AnyArray::Null(take_nulls(values, indices)?)),
         AnyArray::Boolean(values) => {
@@ -84,10 +57,12 @@ fn take_one<I: Index>(
         AnyArray::Dictionary(values) => {
             Ok(AnyArray::Dictionary(dict::take(alloc, values, indices)?))
         }
-        AnyArray::FixedSizeBinary(_)
-        | AnyArray::Struct(_)
-        | AnyArray::Union(_)
-        | AnyArray::Map(_) => unreachable!(),
+        AnyArray::FixedSizeBinary(values) => {
+            Ok(AnyArray::FixedSizeBinary(fixed_size_binary::take(alloc, values, indices)?))
+        }
+        AnyArray::Map(values) => Ok(AnyArray::Map(map::take(alloc, values, indices)?)),
+        AnyArray::Union(values) => Ok(AnyArray::Union(union::take(alloc, values, indices)?)),
+        AnyArray::Struct(_) => unreachable!(),
     }
 }
 

@@ -1,22 +1,18 @@
-//! Lists by index, of either form: one growable over the one array, to which runs of its rows are appended.
+//! Lists, of either form, and maps by index: one growable over the one array, to which runs of its rows are appended.
 
-ghost use Rattle.std.specs.Prelude.{◌≡◌, ◌+◌, ◌-◌, ◌<◌, ◌≤◌, [], ◌∷◌, Err, Some, None, slice_index_or, length, map, option_copied, IfOk, IfErr, IfSome, OnOk};
+ghost use Rattle.std.specs.Prelude.{◌≡◌, [], ◌∷◌, Err, length, map, IfOk, IfErr};
 ghost use Rattle.arrow_types.specs.declared.error.Error.{Error};
 ghost use Rattle.arrow_types.specs.Fits.{Fits};
-ghost use Rattle.arrow_types.specs.Rows.{gather, masked};
-ghost use Rattle.arrow_types.specs.Slot.{Null};
+ghost use Rattle.arrow_types.specs.Rows.{gather};
 ghost use Rattle.arrow_memory.specs.Grown.{IsGrowthError};
-ghost use Rattle.arrow_memory.specs.Sliced.{sliced};
-ghost use Rattle.arrow_flat.specs.Parts.{FitsRows, rows_by};
-ghost use Rattle.arrow_arrays.specs.KeyedParts.{AreKeys, key_in};
+ghost use Rattle.arrow_flat.specs.Parts.{rows_by};
+ghost use Rattle.arrow_arrays.specs.KeyedParts.{AreKeys};
 ghost use Rattle.arrow_arrays.specs.Layout.{rows, type_of_layout};
 ghost use Rattle.arrow_flat_growable.specs.Grown.{bound_to};
-ghost use Rattle.arrow_growable.specs.Growing.{HasAppended};
-ghost use Rattle.arrow_select.specs.Taken.{run_of};
 
-use crate::take::runs::run_at;
+use crate::take::append::append_taken;
 use arrow_flat::array::PrimitiveArray;
-use arrow_growable::growable::{Growable, GrowableOf, NestedArray};
+use arrow_growable::growable::{GrowableOf, NestedArray};
 use arrow_types::error::Error;
 use arrow_types::types::Index;
 use std::alloc::Global;
@@ -48,7 +44,7 @@ pub(super) fn take_nested<A: NestedArray, I: Index>(
 }
 
 /// The same, by a growable over the array that has no row yet.
-fn grown<'a, A: NestedArray, I: Index>(
+fn grown<'a, A: NestedArray + 'a, I: Index>(
     growable: GrowableOf<'a, A>,
     values: &A,
     len: usize,
@@ -64,33 +60,6 @@ fn grown<'a, A: NestedArray, I: Index>(
     ensures others { IfErr result IsGrowthError }
 {
     let mut growable = growable;
-    append_taken(&mut growable, values, len, indices)?;
+    append_taken(&mut growable, len, indices)?;
     growable.into_array()
-}
-
-/// Appends the rows that the indices name, a run of them at a time, and null slots where indices are null.
-fn append_taken<'a, A: NestedArray, I: Index>(
-    growable: &mut GrowableOf<'a, A>,
-    values: &A,
-    len: usize,
-    indices: &PrimitiveArray<I>,
-) -> Result<(), Error>
-    requires bound { growable.old ≡ bound_to (A.layout_in values.now ∷ []) }
-    requires len { len ≡ length (rows (A.layout_in values.now)) }
-    requires inside { AreKeys len (rows_by (map I.slot) indices.now) }
-    ensures ok { OnOk result (HasAppended (A.layout_in values.now ∷ []) growable.new (gather (rows (A.layout_in values.now)) (rows_by (map I.slot) indices.now) (type_of_layout (A.layout_in values.now)))) }
-    ensures overflow { result ≡ Err Error.Overflow → Fits (type_of_layout (A.layout_in values.now)) (gather (rows (A.layout_in values.now)) (rows_by (map I.slot) indices.now) (type_of_layout (A.layout_in values.now))) → ⊥ }
-    ensures others { IfErr result IsGrowthError }
-{
-    let (stored, validity) = (indices.values().as_slice(), indices.validity());
-    let mut row = 0;
-    while row < stored.len() {
-        let (place, count) = run_at(stored, validity, row, len);
-        match place {
-            Some(start) => growable.extend(0, start, count)?,
-            None => growable.extend_validity(count)?,
-        }
-        row += count;
-    }
-    Ok(())
 }

@@ -1,9 +1,8 @@
 //! Structs by index: each field is taken by indices that are null where the struct's row is.
 
-ghost use Rattle.std.specs.Prelude.{◌≡◌, ◌↔◌, Err, length, map, IfOk, IfErr};
+ghost use Rattle.std.specs.Prelude.{◌≡◌, Err, length, map, IfOk, IfErr};
 ghost use Rattle.std.specs.List.{All};
 ghost use Rattle.arrow_types.specs.declared.error.Error.{Error};
-ghost use Rattle.arrow_types.specs.declared.error.Unsupported.{Unsupported};
 ghost use Rattle.arrow_types.specs.Fits.{Fits};
 ghost use Rattle.arrow_types.specs.Rows.{gather};
 ghost use Rattle.arrow_memory.specs.Grown.{IsGrowthError};
@@ -11,14 +10,12 @@ ghost use Rattle.arrow_flat.specs.Parts.{rows_by};
 ghost use Rattle.arrow_arrays.specs.Any.{any_array_type, any_array_rows};
 ghost use Rattle.arrow_arrays.specs.KeyedParts.{AreKeys};
 ghost use Rattle.arrow_arrays.specs.StructParts.{struct_rows};
-ghost use Rattle.arrow_select.specs.Taken.{IsNotTaken, IsTakeRefusal, MayTake, SomeDoNotFit, taken_rows};
+ghost use Rattle.arrow_select.specs.Taken.{SomeDoNotFit, taken_rows};
 
-use crate::take::any::take_any;
 use crate::take::indices::{take_validity, valid_indices};
-use crate::take::types::may_take;
 use arrow_arrays::array::{AnyArray, StructArray};
 use arrow_flat::array::PrimitiveArray;
-use arrow_types::error::{Error, Unsupported};
+use arrow_types::error::Error;
 use arrow_types::types::Index;
 use std::alloc::Global;
 
@@ -29,38 +26,16 @@ use std::alloc::Global;
 /// Each index that is not null is that of a row.
 ///
 /// # Errors
-/// `NotYetImplemented(Take)` where there is an index, and a field, at any depth of structs, is a map, a union or bytes of a
-/// fixed size; then `Overflow` where the rows do not fit the type, and `OutOfMemory` where memory is refused.
+/// `Overflow` where the rows do not fit the type, and `OutOfMemory` where memory is refused.
 ///
 /// Source: arrow2's `take::structure::take`.
+#[cycle(take)]
 pub fn take<I: Index>(
     alloc: Global,
     values: &StructArray,
     indices: &PrimitiveArray<I>,
 ) -> Result<StructArray, Error>
     requires inside { AreKeys (length (struct_rows values.now)) (rows_by (map I.slot) indices.now) }
-    ensures array_type { IfOk result (λ taken. taken.arrow_type ≡ values.now.arrow_type) }
-    ensures rows { IfOk result (λ taken. struct_rows taken ≡ gather (struct_rows values.now) (rows_by (map I.slot) indices.now) values.now.arrow_type) }
-    ensures fits { IfOk result (λ taken. Fits taken.arrow_type (struct_rows taken)) }
-    ensures not_yet { (result ≡ Err (Error.NotYetImplemented Unsupported.Take)) ↔ IsNotTaken values.now.arrow_type (rows_by (map I.slot) indices.now) }
-    ensures overflow { result ≡ Err Error.Overflow → Fits values.now.arrow_type (gather (struct_rows values.now) (rows_by (map I.slot) indices.now) values.now.arrow_type) → ⊥ }
-    ensures others { IfErr result IsTakeRefusal }
-{
-    if !may_take(values.data_type(), indices) {
-        return Err(Error::NotYetImplemented(Unsupported::Take));
-    }
-    take_struct(alloc, values, indices)
-}
-
-/// The same of a struct that has rows by index, or by no index.
-#[cycle(take)]
-pub(super) fn take_struct<I: Index>(
-    alloc: Global,
-    values: &StructArray,
-    indices: &PrimitiveArray<I>,
-) -> Result<StructArray, Error>
-    requires inside { AreKeys (length (struct_rows values.now)) (rows_by (map I.slot) indices.now) }
-    requires may_take { MayTake values.now.arrow_type (rows_by (map I.slot) indices.now) }
     ensures array_type { IfOk result (λ taken. taken.arrow_type ≡ values.now.arrow_type) }
     ensures rows { IfOk result (λ taken. struct_rows taken ≡ gather (struct_rows values.now) (rows_by (map I.slot) indices.now) values.now.arrow_type) }
     ensures fits { IfOk result (λ taken. Fits taken.arrow_type (struct_rows taken)) }
@@ -88,7 +63,6 @@ fn take_fields<I: Index>(
     indices: &PrimitiveArray<I>,
 ) -> Result<Vec<AnyArray>, Error>
     requires inside { All (λ field. AreKeys (length (any_array_rows field)) (rows_by (map I.slot) indices.now)) fields.now }
-    requires may_take { All (λ field. MayTake (any_array_type field) (rows_by (map I.slot) indices.now)) fields.now }
     ensures types { IfOk result (λ taken. map any_array_type taken.items ≡ map any_array_type fields.now) }
     ensures rows { IfOk result (λ taken. map any_array_rows taken.items ≡ map (taken_rows (rows_by (map I.slot) indices.now)) fields.now) }
     ensures fits { IfOk result (λ taken. All (λ field. Fits (any_array_type field) (taken_rows (rows_by (map I.slot) indices.now) field)) fields.now) }
@@ -97,7 +71,7 @@ fn take_fields<I: Index>(
 {
     let mut taken = Vec::with_capacity(alloc, fields.len())?;
     for field in fields {
-        taken.push(take_any(alloc, field, indices)?)?;
+        taken.push(crate::take::take(alloc, field, indices)?)?;
     }
     Ok(taken)
 }

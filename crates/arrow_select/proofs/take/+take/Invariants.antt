@@ -10,11 +10,11 @@ use Rattle.arrow_select.proofs.take.+take.Given as goal
 
 -- each call goes to a less deep array, or comes nearer to one
 
-abbrev pub decreases-any::take_any : goal.decreases-any::take_any
-decreases-any::take_any g l = 3 * depth (layout_of l.values.now) + 1
+abbrev pub decreases-take : goal.decreases-take
+decreases-take g l = 3 * depth (layout_of l.values.now) + 1
 
-abbrev pub decreases-structure::take_struct : goal.decreases-structure::take_struct
-decreases-structure::take_struct g l = 3 * depth (struct_layout l.values.now)
+abbrev pub decreases-structure::take : goal.decreases-structure::take
+decreases-structure::take g l = 3 * depth (struct_layout l.values.now)
 
 abbrev pub decreases-structure::take_fields : goal.decreases-structure::take_fields
 decreases-structure::take_fields g l = 3 * depth_of_all (to_layouts (map layout_of l.fields.now)) + 2

@@ -3,13 +3,14 @@ use Rattle.arrow_types.specs.Rows.{gather}
 use Rattle.arrow_flat.specs.Parts.{rows_by}
 use Rattle.arrow_arrays.specs.Layout.{rows, type_of_layout}
 use Rattle.arrow_growable.specs.Growing.{HasAppended}
-use Rattle.arrow_select.proofs.take.nested.append_taken.Given as goal
+use Rattle.arrow_select.specs.Taken.{first_bound}
+use Rattle.arrow_select.proofs.take.append.append_taken.Given as goal
 
 -- the rows of the indices so far are held
 abbrev pub invariant-loop-row : goal.invariant-loop-row
 invariant-loop-row g l = record {
   within : l.row ≤ length l.stored;
-  held : HasAppended (g.A.NestedArray.layout_in l.values ∷ []) l.growable (gather (rows (g.A.NestedArray.layout_in l.values)) (take l.row (rows_by (map g.I.NativeType.slot) l.fn.indices)) (type_of_layout (g.A.NestedArray.layout_in l.values)));
+  held : HasAppended (first_bound (g.G.Growable.state l.initial.growable) ∷ []) (g.G.Growable.state l.growable) (gather (rows (first_bound (g.G.Growable.state l.initial.growable))) (take l.row (rows_by (map g.I.NativeType.slot) l.fn.indices)) (type_of_layout (first_bound (g.G.Growable.state l.initial.growable))));
 }
 
 -- the indices that are left

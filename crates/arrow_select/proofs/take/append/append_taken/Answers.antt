@@ -8,20 +8,20 @@ use Rattle.arrow_flat_growable.proofs.ResultLemmas.{passed_on}
 use Rattle.arrow_arrays.specs.Layout.{rows, type_of_layout}
 use Rattle.arrow_growable.specs.Growing.{HasAppended}
 use Rattle.arrow_growable.proofs.GrowLemmas.{holds_none, holds_more, named, nulls, refuses_whole, too_many_first}
-use Rattle.arrow_select.specs.Taken.{run_of}
+use Rattle.arrow_select.specs.Taken.{first_bound, run_of}
 use Rattle.arrow_select.proofs.TakenRuns.{gather_all, gather_more, run_appends, run_of_nulls}
-use Rattle.arrow_select.proofs.take.nested.append_taken.Goals as goal
-use Rattle.arrow_select.proofs.take.nested.append_taken.Goals.{in-Some+in_ok-extend-in-Some, in-None+in_ok-extend_validity-in-None}
+use Rattle.arrow_select.proofs.take.append.append_taken.Goals as goal
+use Rattle.arrow_select.proofs.take.append.append_taken.Goals.{in-Some+in_ok-extend-in-Some, in-None+in_ok-extend_validity-in-None}
 
 pub loop-row-init : goal.loop-row-init
 loop-row-init g c =
-    record { within = omega arith; held = holds_none (g.A.NestedArray.layout_in c.args.values.now ∷ []) _ c.requires.bound }
+    record { within = omega arith; held = holds_none (first_bound (g.G.Growable.state c.args.growable.now) ∷ []) _ c.requires.bound }
 
 pub returns-in_err-extend-in-Some-clause-overflow : goal.returns-in_err-extend-in-Some-clause-overflow
 returns-in_err-extend-in-Some-clause-overflow g c overflows fits =
-    let layouts = g.A.NestedArray.layout_in c.args.values.now ∷ [] in
-    let xs = rows (g.A.NestedArray.layout_in c.args.values.now) in
-    let t = type_of_layout (g.A.NestedArray.layout_in c.args.values.now) in
+    let layouts = first_bound (g.G.Growable.state c.args.growable.now) ∷ [] in
+    let xs = rows (first_bound (g.G.Growable.state c.args.growable.now)) in
+    let t = type_of_layout (first_bound (g.G.Growable.state c.args.growable.now)) in
     let indices = rows_by (map g.I.NativeType.slot) c.args.indices.now in
     let row = c.loop-row.row in
     let count = c.run_at-place.result.1 in
@@ -37,9 +37,9 @@ returns-in_err-extend-in-Some-clause-overflow g c overflows fits =
 
 pub returns-in_err-extend_validity-in-None-clause-overflow : goal.returns-in_err-extend_validity-in-None-clause-overflow
 returns-in_err-extend_validity-in-None-clause-overflow g c overflows fits =
-    let layouts = g.A.NestedArray.layout_in c.args.values.now ∷ [] in
-    let xs = rows (g.A.NestedArray.layout_in c.args.values.now) in
-    let t = type_of_layout (g.A.NestedArray.layout_in c.args.values.now) in
+    let layouts = first_bound (g.G.Growable.state c.args.growable.now) ∷ [] in
+    let xs = rows (first_bound (g.G.Growable.state c.args.growable.now)) in
+    let t = type_of_layout (first_bound (g.G.Growable.state c.args.growable.now)) in
     let indices = rows_by (map g.I.NativeType.slot) c.args.indices.now in
     let row = c.loop-row.row in
     let count = c.run_at-place.result.1 in
@@ -53,9 +53,9 @@ returns-in_err-extend_validity-in-None-clause-overflow g c overflows fits =
 
 pub loop-row-preserved : goal.loop-row-preserved
 loop-row-preserved g c =
-    let layouts = g.A.NestedArray.layout_in c.args.values.now ∷ [] in
-    let xs = rows (g.A.NestedArray.layout_in c.args.values.now) in
-    let t = type_of_layout (g.A.NestedArray.layout_in c.args.values.now) in
+    let layouts = first_bound (g.G.Growable.state c.args.growable.now) ∷ [] in
+    let xs = rows (first_bound (g.G.Growable.state c.args.growable.now)) in
+    let t = type_of_layout (first_bound (g.G.Growable.state c.args.growable.now)) in
     let indices = rows_by (map g.I.NativeType.slot) c.args.indices.now in
     let row = c.loop-row.row in
     let count = c.run_at-place.result.1 in
@@ -72,13 +72,13 @@ loop-row-preserved g c =
           let more = holds_more layouts _ kept held _ _ (sliced xs start count) (named layouts _ kept held 0 start count) w.in_ok-extend-in-Some.ensures.ok w.in_ok-extend-in-Some.ensures.fits in
           record {
             within = within;
-            held = subst (λ h. HasAppended layouts h (gather xs (take (row + count) indices) t)) (sym w.growable-is) (subst (HasAppended layouts _) (sym (gather_more xs indices t row count (sliced xs start count) appends)) more);
+            held = subst (λ h. HasAppended layouts (g.G.Growable.state h) (gather xs (take (row + count) indices) t)) (sym w.growable-is) (subst (HasAppended layouts _) (sym (gather_more xs indices t row count (sliced xs start count) appends)) more);
           }
       | in-None+in_ok-extend_validity-in-None w ↦
           let appends = run_of_nulls xs indices t row count (run ∙ ap (λ o. run_of o count) w.in-None.is) in
           let more = holds_more layouts _ kept held _ _ (replicate count (null_slot t)) (nulls layouts _ kept held count) w.in_ok-extend_validity-in-None.ensures.ok w.in_ok-extend_validity-in-None.ensures.fits in
           record {
             within = within;
-            held = subst (λ h. HasAppended layouts h (gather xs (take (row + count) indices) t)) (sym w.growable-is) (subst (HasAppended layouts _) (sym (gather_more xs indices t row count (replicate count (null_slot t)) appends)) more);
+            held = subst (λ h. HasAppended layouts (g.G.Growable.state h) (gather xs (take (row + count) indices) t)) (sym w.growable-is) (subst (HasAppended layouts _) (sym (gather_more xs indices t row count (replicate count (null_slot t)) appends)) more);
           }
     ]

@@ -1,0 +1,6 @@
+use Rattle.arrow_types.specs.TypeOf.{type_of}
+use Rattle.arrow_select.proofs.TakenTypes.{can_by_fields}
+use Rattle.arrow_select.proofs.laws.can_take_goes_by_fields.Goals as goal
+
+pub returns : goal.returns
+returns c = can_by_fields (type_of c.args.data_type.now) c.requires
