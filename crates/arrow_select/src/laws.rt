@@ -8,12 +8,12 @@ ghost use Rattle.arrow_types.specs.TypeOf.{type_of};
 ghost use Rattle.arrow_memory.specs.Sliced.{sliced};
 ghost use Rattle.arrow_flat.specs.Parts.{boolean_rows, rows_by};
 ghost use Rattle.arrow_arrays.specs.Any.{any_array_meaning, any_array_rows, any_array_type};
-ghost use Rattle.arrow_arrays.specs.KeyedParts.{AreKeys};
 ghost use Rattle.arrow_arrays.specs.Layout.{rows, type_of_layout};
 ghost use Rattle.arrow_select.specs.Arrays.{rows_in, types_in};
 ghost use Rattle.arrow_select.specs.Keys.{HasNoDictionary};
 ghost use Rattle.arrow_select.specs.Laws.{CanTakeByFields, IsChoice, IsStructOrUnion, RowsFit, chosen_of, dense_nulls, dense_rows, gathered_of, kept_columns, kept_of, selected_of, shifted_of, true_places};
 ghost use Rattle.arrow_select.specs.Selected.{FirstDoesNotFit};
+ghost use Rattle.arrow_select.specs.Taken.{AreIndices};
 
 use crate::filter::Filter;
 use arrow_arrays::array::AnyArray;
@@ -34,7 +34,7 @@ pub fn gather_of_gather<I: Index, J: Index>(
     first: &PrimitiveArray<I>,
     second: &PrimitiveArray<J>,
 )
-    requires inside { AreKeys (length (rows_by (map I.slot) first.now)) (rows_by (map J.slot) second.now) }
+    requires inside { AreIndices (length (rows_by (map I.slot) first.now)) (rows_by (map J.slot) second.now) }
     ensures { gather (gather (any_array_rows array.now) (rows_by (map I.slot) first.now) (any_array_type array.now)) (rows_by (map J.slot) second.now) (any_array_type array.now) ≡ gather (any_array_rows array.now) (gather (rows_by (map I.slot) first.now) (rows_by (map J.slot) second.now) first.now.arrow_type) (any_array_type array.now) }
 {
     // The null slot of the indices' type is null.
