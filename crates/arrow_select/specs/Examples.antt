@@ -131,14 +131,14 @@ nulls_chosen : chosen (Boolean true ∷ Boolean false ∷ Boolean true ∷ []) (
 nulls_chosen = refl
 
 -- [t, f, f, t] names row 0 of the left array, rows 1 and 2 of the right one, and row 3 of the left one
-sides_named : named_sides ((0, (0, 1)) ∷ (1, (1, 2)) ∷ (0, (3, 1)) ∷ []) ≡ sides_from 0 (Boolean true ∷ Boolean false ∷ Boolean false ∷ Boolean true ∷ [])
+sides_named : named_sides ((0, 0, 1) ∷ (1, 1, 2) ∷ (0, 3, 1) ∷ []) ≡ sides_from 0 (Boolean true ∷ Boolean false ∷ Boolean false ∷ Boolean true ∷ [])
 sides_named = refl
 
 -- [t, null over true, f] names its null row on a side of its own, by its place
-null_is_named : named_sides ((0, (0, 1)) ∷ (2, (1, 1)) ∷ (1, (2, 1)) ∷ []) ≡ sides_from 0 (boolean_rows nulls_over_trues)
+null_is_named : named_sides ((0, 0, 1) ∷ (2, 1, 1) ∷ (1, 2, 1) ∷ []) ≡ sides_from 0 (boolean_rows nulls_over_trues)
 null_is_named = refl
 
-nulls_are_named : named_sides ((2, (0, 3)) ∷ (0, (3, 2)) ∷ (1, (5, 1)) ∷ []) ≡ sides_from 0 (Null ∷ Null ∷ Null ∷ Boolean true ∷ Boolean true ∷ Boolean false ∷ [])
+nulls_are_named : named_sides ((2, 0, 3) ∷ (0, 3, 2) ∷ (1, 5, 1) ∷ []) ≡ sides_from 0 (Null ∷ Null ∷ Null ∷ Boolean true ∷ Boolean true ∷ Boolean false ∷ [])
 nulls_are_named = refl
 
 -- keys of 8 bits over a hundred values, and behind these key 28 of others: it is crowded where it is chosen
