@@ -13,7 +13,7 @@ use Rattle.arrow_flat.specs.FixedRows.{FixedParts, fixed_slots}
 use Rattle.arrow_flat.specs.Parts.{IsValue, Parts, rows_by}
 use Rattle.arrow_arrays.specs.Any.{any_array_type, any_array_rows}
 use Rattle.arrow_arrays.specs.declared.array.any.AnyArray.{AnyArray}
-use Rattle.arrow_arrays.specs.KeyedParts.{key_in}
+use Rattle.arrow_arrays.specs.KeyedParts.{AreKeys, IsKey, key_in}
 use Rattle.arrow_arrays.specs.Layout.{Layout}
 use Rattle.arrow_arrays.specs.ListParts.{ListParts, list_rows}
 use Rattle.arrow_arrays.specs.UnionParts.{UnionParts, union_rows}
@@ -46,6 +46,13 @@ abbrev mutual
 -- a type whose arrays have rows by index, as `can_take` says
 abbrev pub CanTake : ArrowType → Type 0
 CanTake t = IsCarried t × IsTaken t
+
+-- an index that is null, whatever lies beneath, or names one of so many rows: as a key of a dictionary names a value
+abbrev pub IsIndex : ℕ → Slot → Type 0
+IsIndex = IsKey
+
+abbrev pub AreIndices : ℕ → List Slot → Type 0
+AreIndices = AreKeys
 
 -- what `take` answers of arrays of a kind: the rows that the indices name, of the same type
 abbrev pub AnswersTaken : {A : Type 0} → (A → ArrowType) → (A → List Slot) → Result A Error → A → List Slot → Type 0

@@ -8,8 +8,7 @@ ghost use Rattle.arrow_types.specs.TypeOf.{type_of};
 ghost use Rattle.arrow_memory.specs.Grown.{IsGrowthError};
 ghost use Rattle.arrow_flat.specs.Parts.{rows_by};
 ghost use Rattle.arrow_arrays.specs.Any.{any_array_type, any_array_rows};
-ghost use Rattle.arrow_arrays.specs.KeyedParts.{AreKeys};
-ghost use Rattle.arrow_select.specs.Taken.{CanTake};
+ghost use Rattle.arrow_select.specs.Taken.{AreIndices, CanTake};
 
 mod any;
 mod append;
@@ -55,7 +54,7 @@ pub fn take<O: Index>(
     values: &AnyArray,
     indices: &PrimitiveArray<O>,
 ) -> Result<AnyArray, Error>
-    requires inside { AreKeys (length (any_array_rows values.now)) (rows_by (map O.slot) indices.now) }
+    requires inside { AreIndices (length (any_array_rows values.now)) (rows_by (map O.slot) indices.now) }
     ensures array_type { IfOk result (λ taken. any_array_type taken ≡ any_array_type values.now) }
     ensures rows { IfOk result (λ taken. any_array_rows taken ≡ gather (any_array_rows values.now) (rows_by (map O.slot) indices.now) (any_array_type values.now)) }
     ensures fits { IfOk result (λ taken. Fits (any_array_type taken) (any_array_rows taken)) }

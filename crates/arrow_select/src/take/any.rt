@@ -9,7 +9,7 @@ ghost use Rattle.arrow_flat.specs.AnyPrimitive.{any_type, any_rows};
 ghost use Rattle.arrow_flat.specs.NullParts.{null_rows};
 ghost use Rattle.arrow_flat.specs.Parts.{rows_by};
 ghost use Rattle.arrow_arrays.specs.Any.{any_array_type, any_array_rows, kind_of, struct_kind};
-ghost use Rattle.arrow_arrays.specs.KeyedParts.{AreKeys};
+ghost use Rattle.arrow_select.specs.Taken.{AreIndices};
 
 use crate::take::{
     binary, boolean, dict, fixed_size_binary, fixed_size_list, list, map, primitive, union, utf8,
@@ -26,7 +26,7 @@ pub(super) fn take_one<I: Index>(
     values: &AnyArray,
     indices: &PrimitiveArray<I>,
 ) -> Result<AnyArray, Error>
-    requires inside { AreKeys (length (any_array_rows values.now)) (rows_by (map I.slot) indices.now) }
+    requires inside { AreIndices (length (any_array_rows values.now)) (rows_by (map I.slot) indices.now) }
     requires no_struct { kind_of values.now ≢ struct_kind }
     ensures array_type { IfOk result (λ taken. any_array_type taken ≡ any_array_type values.now) }
     ensures rows { IfOk result (λ taken. any_array_rows taken ≡ gather (any_array_rows values.now) (rows_by (map I.slot) indices.now) (any_array_type values.now)) }
@@ -71,7 +71,7 @@ pub(super) fn take_one<I: Index>(
 /// # Errors
 /// `OutOfMemory` where memory is refused.
 fn take_nulls<I: Index>(values: &NullArray, indices: &PrimitiveArray<I>) -> Result<NullArray, Error>
-    requires { AreKeys (length (null_rows values.now)) (rows_by (map I.slot) indices.now) }
+    requires { AreIndices (length (null_rows values.now)) (rows_by (map I.slot) indices.now) }
     ensures array_type { IfOk result (λ taken. taken.arrow_type ≡ values.now.arrow_type) }
     ensures rows { IfOk result (λ taken. null_rows taken ≡ gather (null_rows values.now) (rows_by (map I.slot) indices.now) values.now.arrow_type) }
     ensures fits { IfOk result (λ taken. Fits taken.arrow_type (null_rows taken)) }
@@ -93,7 +93,7 @@ fn take_primitive<I: Index>(
     values: &AnyPrimitive,
     indices: &PrimitiveArray<I>,
 ) -> Result<AnyPrimitive, Error>
-    requires { AreKeys (length (any_rows values.now)) (rows_by (map I.slot) indices.now) }
+    requires { AreIndices (length (any_rows values.now)) (rows_by (map I.slot) indices.now) }
     ensures array_type { IfOk result (λ taken. any_type taken ≡ any_type values.now) }
     ensures rows { IfOk result (λ taken. any_rows taken ≡ gather (any_rows values.now) (rows_by (map I.slot) indices.now) (any_type values.now)) }
     ensures fits { IfOk result (λ taken. Fits (any_type taken) (any_rows taken)) }

@@ -8,11 +8,11 @@ ghost use Rattle.arrow_types.specs.Slot.{Null};
 ghost use Rattle.arrow_memory.specs.Grown.{IsGrowthError};
 ghost use Rattle.arrow_memory.specs.Sliced.{sliced};
 ghost use Rattle.arrow_flat.specs.Parts.{FitsRows, rows_by};
-ghost use Rattle.arrow_arrays.specs.KeyedParts.{AreKeys, key_in};
+ghost use Rattle.arrow_arrays.specs.KeyedParts.{key_in};
 ghost use Rattle.arrow_arrays.specs.Layout.{rows, type_of_layout};
 ghost use Rattle.arrow_flat_growable.specs.Grown.{bound_to};
 ghost use Rattle.arrow_growable.specs.Growing.{HasAppended};
-ghost use Rattle.arrow_select.specs.Taken.{first_bound, run_of};
+ghost use Rattle.arrow_select.specs.Taken.{AreIndices, first_bound, run_of};
 
 use crate::take::runs::run_at;
 use arrow_flat::array::PrimitiveArray;
@@ -29,7 +29,7 @@ pub(super) fn append_taken<'a, G: Growable<'a>, I: Index>(
 ) -> Result<(), Error>
     requires bound { G.state growable.old ≡ bound_to (first_bound (G.state growable.old) ∷ []) }
     requires len { len ≡ length (rows (first_bound (G.state growable.old))) }
-    requires inside { AreKeys len (rows_by (map I.slot) indices.now) }
+    requires inside { AreIndices len (rows_by (map I.slot) indices.now) }
     ensures ok { OnOk result (HasAppended (first_bound (G.state growable.old) ∷ []) (G.state growable.new) (gather (rows (first_bound (G.state growable.old))) (rows_by (map I.slot) indices.now) (type_of_layout (first_bound (G.state growable.old))))) }
     ensures overflow { result ≡ Err Error.Overflow → Fits (type_of_layout (first_bound (G.state growable.old))) (gather (rows (first_bound (G.state growable.old))) (rows_by (map I.slot) indices.now) (type_of_layout (first_bound (G.state growable.old)))) → ⊥ }
     ensures others { IfErr result IsGrowthError }

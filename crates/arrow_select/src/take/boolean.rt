@@ -5,7 +5,7 @@ ghost use Rattle.arrow_types.specs.declared.error.Error.{Error};
 ghost use Rattle.arrow_types.specs.Fits.{Fits};
 ghost use Rattle.arrow_types.specs.Rows.{gather};
 ghost use Rattle.arrow_flat.specs.Parts.{boolean_rows, rows_by};
-ghost use Rattle.arrow_arrays.specs.KeyedParts.{AreKeys};
+ghost use Rattle.arrow_select.specs.Taken.{AreIndices};
 
 use crate::take::indices::{gather_bits, take_validity};
 use arrow_flat::array::{BooleanArray, PrimitiveArray};
@@ -27,7 +27,7 @@ pub fn take<I: Index>(
     values: &BooleanArray,
     indices: &PrimitiveArray<I>,
 ) -> Result<BooleanArray, Error>
-    requires inside { AreKeys (length (boolean_rows values.now)) (rows_by (map I.slot) indices.now) }
+    requires inside { AreIndices (length (boolean_rows values.now)) (rows_by (map I.slot) indices.now) }
     ensures array_type { IfOk result (λ taken. taken.arrow_type ≡ values.now.arrow_type) }
     ensures rows { IfOk result (λ taken. boolean_rows taken ≡ gather (boolean_rows values.now) (rows_by (map I.slot) indices.now) values.now.arrow_type) }
     ensures fits { IfOk result (λ taken. Fits taken.arrow_type (boolean_rows taken)) }

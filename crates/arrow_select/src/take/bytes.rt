@@ -10,8 +10,8 @@ ghost use Rattle.arrow_memory.specs.Grown.{IsGrowthError};
 ghost use Rattle.arrow_memory.specs.Offsets.{last_of};
 ghost use Rattle.arrow_flat.specs.ByteRows.{byte_slots};
 ghost use Rattle.arrow_flat.specs.Parts.{FitsRows, MarksNulls, rows_by};
-ghost use Rattle.arrow_arrays.specs.KeyedParts.{AreKeys, key_in};
-ghost use Rattle.arrow_select.specs.Taken.{ends_from, span_length, span_of, taken_bytes, taken_span};
+ghost use Rattle.arrow_arrays.specs.KeyedParts.{key_in};
+ghost use Rattle.arrow_select.specs.Taken.{AreIndices, ends_from, span_length, span_of, taken_bytes, taken_span};
 
 use crate::spans::copy_spans;
 use crate::take::indices::{index_at, is_valid, take_validity};
@@ -31,12 +31,14 @@ use std::alloc::Global;
 ///
 /// # Errors
 /// `Overflow` where the rows do not fit the type, `OutOfMemory` where memory is refused.
-pub(super) fn take_bytes<O: Offset, K: GrowableKind, I: Index>(
+///
+/// Source: arrow2's `take::utf8::take` and `take::binary::take`.
+pub fn take<O: Offset, K: GrowableKind, I: Index>(
     alloc: Global,
     values: &FlatArray<ByteRows<O, K>>,
     indices: &PrimitiveArray<I>,
 ) -> Result<FlatArray<ByteRows<O, K>>, Error>
-    requires inside { AreKeys (length (rows_by (byte_slots K.slot) values.now)) (rows_by (map I.slot) indices.now) }
+    requires inside { AreIndices (length (rows_by (byte_slots K.slot) values.now)) (rows_by (map I.slot) indices.now) }
     ensures array_type { IfOk result (λ taken. taken.arrow_type ≡ values.now.arrow_type) }
     ensures rows { IfOk result (λ taken. rows_by (byte_slots K.slot) taken ≡ gather (rows_by (byte_slots K.slot) values.now) (rows_by (map I.slot) indices.now) values.now.arrow_type) }
     ensures fits { IfOk result (λ taken. Fits taken.arrow_type (rows_by (byte_slots K.slot) taken)) }
@@ -63,7 +65,7 @@ fn take_rows<O: Offset, K: ByteKind, I: Index>(
     values: &FlatArray<ByteRows<O, K>>,
     indices: &PrimitiveArray<I>,
 ) -> Result<(OffsetsBuffer<O>, Vec<u8>), Error>
-    requires { AreKeys (length values.now.values.offsets - 1) (rows_by (map I.slot) indices.now) }
+    requires { AreIndices (length values.now.values.offsets - 1) (rows_by (map I.slot) indices.now) }
     ensures offsets { IfOk result (λ rows. rows.0 ≡ 0 ∷ ends_from 0 (map (span_length values.now.validity values.now.values.offsets) (rows_by (map I.slot) indices.now))) }
     ensures bytes { IfOk result (λ rows. rows.1.items ≡ concat (map (taken_bytes values.now.validity values.now.values.offsets values.now.values.bytes) (rows_by (map I.slot) indices.now))) }
     ensures few { OnOk result (sum (map (span_length values.now.validity values.now.values.offsets) (rows_by (map I.slot) indices.now)) ≤ O.greatest) }
@@ -91,7 +93,7 @@ fn span_at<O: Offset, I: Index>(
     requires index_fits { FitsRows (option_copied nulls) (length stored.now) }
     requires marks { MarksNulls (option_copied nulls) (masked (option_copied nulls) (map I.slot stored.now)) }
     requires within { row < length stored.now }
-    requires inside { AreKeys (length rows.now - 1) (masked (option_copied nulls) (map I.slot stored.now)) }
+    requires inside { AreIndices (length rows.now - 1) (masked (option_copied nulls) (map I.slot stored.now)) }
     ensures span { result ≡ span_of (option_copied validity.entry) rows.now (key_in (slice_index_or (masked (option_copied nulls.entry) (map I.slot stored.now)) row Null)) }
     ensures rises { result.0 ≤ result.1 }
     ensures within { result.1 ≤ last_of rows.now }
@@ -118,7 +120,7 @@ fn take_spans<O: Offset, K: ByteKind, I: Index>(
     values: &FlatArray<ByteRows<O, K>>,
     indices: &PrimitiveArray<I>,
 ) -> Result<(Vec<(usize, usize)>, Offsets<O>), Error>
-    requires { AreKeys (length values.now.values.offsets - 1) (rows_by (map I.slot) indices.now) }
+    requires { AreIndices (length values.now.values.offsets - 1) (rows_by (map I.slot) indices.now) }
     ensures spans { IfOk result (λ taken. taken.0.items ≡ map (taken_span values.now.validity values.now.values.offsets) (rows_by (map I.slot) indices.now)) }
     ensures offsets { IfOk result (λ taken. taken.1 ≡ 0 ∷ ends_from 0 (map (span_length values.now.validity values.now.values.offsets) (rows_by (map I.slot) indices.now))) }
     ensures overflow { result ≡ Err Error.Overflow → O.greatest < sum (map (span_length values.now.validity values.now.values.offsets) (rows_by (map I.slot) indices.now)) }

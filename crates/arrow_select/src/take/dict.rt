@@ -7,7 +7,8 @@ ghost use Rattle.arrow_types.specs.Fits.{Fits};
 ghost use Rattle.arrow_types.specs.Rows.{gather};
 ghost use Rattle.arrow_flat.specs.Parts.{rows_by};
 ghost use Rattle.arrow_arrays.specs.AnyKeys.{key_rows, key_type_of};
-ghost use Rattle.arrow_arrays.specs.KeyedParts.{AreKeys, keyed_rows};
+ghost use Rattle.arrow_arrays.specs.KeyedParts.{keyed_rows};
+ghost use Rattle.arrow_select.specs.Taken.{AreIndices};
 
 use crate::take::primitive;
 use arrow_arrays::array::{AnyKeys, DictionaryArray};
@@ -31,7 +32,7 @@ pub fn take<I: Index>(
     values: &DictionaryArray,
     indices: &PrimitiveArray<I>,
 ) -> Result<DictionaryArray, Error>
-    requires inside { AreKeys (length (keyed_rows values.now)) (rows_by (map I.slot) indices.now) }
+    requires inside { AreIndices (length (keyed_rows values.now)) (rows_by (map I.slot) indices.now) }
     ensures array_type { IfOk result (λ taken. taken.arrow_type ≡ values.now.arrow_type) }
     ensures rows { IfOk result (λ taken. keyed_rows taken ≡ gather (keyed_rows values.now) (rows_by (map I.slot) indices.now) values.now.arrow_type) }
     ensures values { IfOk result (λ taken. taken.child ≡ values.now.child) }
@@ -58,7 +59,7 @@ fn take_keys<I: Index>(
     keys: &AnyKeys,
     indices: &PrimitiveArray<I>,
 ) -> Result<AnyKeys, Error>
-    requires { AreKeys (length (key_rows keys.now)) (rows_by (map I.slot) indices.now) }
+    requires { AreIndices (length (key_rows keys.now)) (rows_by (map I.slot) indices.now) }
     ensures ok { IfOk result (λ taken. key_rows taken ≡ gather (key_rows keys.now) (rows_by (map I.slot) indices.now) (plain null)) }
     ensures same { IfOk result (λ taken. key_type_of taken ≡ key_type_of keys.now) }
     ensures err { IsOkUnless result Error.OutOfMemory }
@@ -81,7 +82,7 @@ fn take_key<K: NativeType, I: Index>(
     keys: &PrimitiveArray<K>,
     indices: &PrimitiveArray<I>,
 ) -> Result<PrimitiveArray<K>, Error>
-    requires { AreKeys (length (rows_by (map K.slot) keys.now)) (rows_by (map I.slot) indices.now) }
+    requires { AreIndices (length (rows_by (map K.slot) keys.now)) (rows_by (map I.slot) indices.now) }
     ensures ok { IfOk result (λ taken. rows_by (map K.slot) taken ≡ gather (rows_by (map K.slot) keys.now) (rows_by (map I.slot) indices.now) (plain null)) }
     ensures err { IsOkUnless result Error.OutOfMemory }
 {

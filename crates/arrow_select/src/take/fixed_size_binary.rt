@@ -7,8 +7,7 @@ ghost use Rattle.arrow_memory.specs.Grown.{IsGrowthError};
 ghost use Rattle.arrow_memory.specs.Sliced.{sliced};
 ghost use Rattle.arrow_flat.specs.FixedRows.{fixed_slots};
 ghost use Rattle.arrow_flat.specs.Parts.{rows_by};
-ghost use Rattle.arrow_arrays.specs.KeyedParts.{AreKeys};
-ghost use Rattle.arrow_select.specs.Taken.{AnswersFixedRows, fixed_row, taken_row};
+ghost use Rattle.arrow_select.specs.Taken.{AnswersFixedRows, AreIndices, fixed_row, taken_row};
 
 use crate::take::indices::{index_at, take_validity};
 use arrow_flat::array::{FixedSizeBinaryArray, PrimitiveArray};
@@ -31,7 +30,7 @@ pub fn take<I: Index>(
     values: &FixedSizeBinaryArray,
     indices: &PrimitiveArray<I>,
 ) -> Result<FixedSizeBinaryArray, Error>
-    requires inside { AreKeys (length (rows_by fixed_slots values.now)) (rows_by (map I.slot) indices.now) }
+    requires inside { AreIndices (length (rows_by fixed_slots values.now)) (rows_by (map I.slot) indices.now) }
     ensures answer { AnswersFixedRows result values.now (rows_by (map I.slot) indices.now) }
 {
     // There are as many rows as a `usize` counts, each as long as the type and the array say.
@@ -59,7 +58,7 @@ fn take_rows<I: Index>(
     values: &FixedSizeBinaryArray,
     indices: &PrimitiveArray<I>,
 ) -> Result<Vec<u8>, Error>
-    requires inside { AreKeys values.now.values.count (rows_by (map I.slot) indices.now) }
+    requires inside { AreIndices values.now.values.count (rows_by (map I.slot) indices.now) }
     ensures ok { IfOk result (λ bytes. bytes.items ≡ concat (map (taken_row values.now.values.size values.now.values.bytes) (rows_by (map I.slot) indices.now))) }
     ensures overflow { result ≡ Err Error.Overflow → length (rows_by (map I.slot) indices.now) * values.now.values.size < 2 ^ 64 → ⊥ }
     ensures others { IfErr result IsGrowthError }
@@ -91,7 +90,7 @@ fn copy_rows<I: Index>(
     requires size { size ≡ values.now.values.size }
     requires some { 0 < size }
     requires zeros { taken.old ≡ replicate (length (rows_by (map I.slot) indices.now) * size) 0 }
-    requires inside { AreKeys values.now.values.count (rows_by (map I.slot) indices.now) }
+    requires inside { AreIndices values.now.values.count (rows_by (map I.slot) indices.now) }
     ensures { taken.new ≡ concat (map (taken_row size values.now.values.bytes) (rows_by (map I.slot) indices.now)) }
 {
     let bytes = values.values().as_slice();

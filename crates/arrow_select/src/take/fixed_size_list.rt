@@ -7,7 +7,7 @@ ghost use Rattle.arrow_types.specs.Rows.{gather};
 ghost use Rattle.arrow_memory.specs.Grown.{IsGrowthError};
 ghost use Rattle.arrow_flat.specs.Parts.{rows_by};
 ghost use Rattle.arrow_arrays.specs.FixedListParts.{fixed_list_rows};
-ghost use Rattle.arrow_arrays.specs.KeyedParts.{AreKeys};
+ghost use Rattle.arrow_select.specs.Taken.{AreIndices};
 
 use crate::take::nested::take_nested;
 use arrow_arrays::array::FixedSizeListArray;
@@ -30,7 +30,7 @@ pub fn take<I: Index>(
     values: &FixedSizeListArray,
     indices: &PrimitiveArray<I>,
 ) -> Result<FixedSizeListArray, Error>
-    requires inside { AreKeys (length (fixed_list_rows values.now)) (rows_by (map I.slot) indices.now) }
+    requires inside { AreIndices (length (fixed_list_rows values.now)) (rows_by (map I.slot) indices.now) }
     ensures array_type { IfOk result (λ taken. taken.arrow_type ≡ values.now.arrow_type) }
     ensures rows { IfOk result (λ taken. fixed_list_rows taken ≡ gather (fixed_list_rows values.now) (rows_by (map I.slot) indices.now) values.now.arrow_type) }
     ensures fits { IfOk result (λ taken. Fits taken.arrow_type (fixed_list_rows taken)) }

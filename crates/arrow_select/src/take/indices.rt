@@ -9,8 +9,8 @@ ghost use Rattle.arrow_types.specs.Slot.{Null};
 ghost use Rattle.arrow_flat.specs.Parts.{FitsRows, MarksNulls, rows_by};
 ghost use Rattle.arrow_memory.specs.Sliced.{sliced};
 ghost use Rattle.arrow_memory.specs.Words.{low_bits};
-ghost use Rattle.arrow_arrays.specs.KeyedParts.{AreKeys, IsKey, IsKeyIn, key_in};
-ghost use Rattle.arrow_select.specs.Taken.{MarksTaken, named_bit, picked, valid_index};
+ghost use Rattle.arrow_arrays.specs.KeyedParts.{IsKeyIn, key_in};
+ghost use Rattle.arrow_select.specs.Taken.{AreIndices, IsIndex, MarksTaken, named_bit, picked, valid_index};
 
 use arrow_flat::array::PrimitiveArray;
 use arrow_memory::bitmap::{Bitmap, MutableBitmap, WORD_BITS};
@@ -58,7 +58,7 @@ pub(super) fn gather_values<T: NativeType, I: Index>(
     values: &[T],
     indices: &PrimitiveArray<I>,
 ) -> Result<Vec<T>, Error>
-    requires { AreKeys (length values.now) (rows_by (map I.slot) indices.now) }
+    requires { AreIndices (length values.now) (rows_by (map I.slot) indices.now) }
     ensures ok { IfOk result (λ taken. taken.items ≡ map (picked values.now T.zero) (rows_by (map I.slot) indices.now)) }
     ensures err { IsOkUnless result Error.OutOfMemory }
 {
@@ -91,7 +91,7 @@ fn append_values<T: NativeType, I: Index>(
     requires some { 0 < length values.now }
     requires room { vec_len taken.old + length stored.now ≤ vec_capacity taken.old }
     requires fits { FitsRows (option_copied validity) (length stored.now) }
-    requires inside { AreKeys (length values.now) (masked (option_copied validity) (map I.slot stored.now)) }
+    requires inside { AreIndices (length values.now) (masked (option_copied validity) (map I.slot stored.now)) }
     ensures { taken.new.items ≡ taken.old.items ++ map (picked values.now T.zero) (masked (option_copied validity.entry) (map I.slot stored.now)) }
 {
     let mut row = 0;
@@ -117,7 +117,7 @@ fn append_picked<T: NativeType, I: Index>(
     requires fits { FitsRows (option_copied validity) (length stored.now) }
     requires within { 64 * j + count ≤ length stored.now }
     requires in_word { count ≤ 64 }
-    requires inside { AreKeys (length values.now) (masked (option_copied validity) (map I.slot stored.now)) }
+    requires inside { AreIndices (length values.now) (masked (option_copied validity) (map I.slot stored.now)) }
     ensures items { taken.new.items ≡ taken.old.items ++ map (picked values.now T.zero) (sliced (masked (option_copied validity.entry) (map I.slot stored.now)) (64 * j) count) }
     ensures len { vec_len taken.new ≡ vec_len taken.old + count }
     ensures capacity { vec_capacity taken.new ≡ vec_capacity taken.old }
@@ -143,7 +143,7 @@ fn valid_word(validity: Option<&Bitmap>, j: usize) -> u64
 /// index is chosen before it is turned into a place, so that the test is a choice of values and no branch.
 fn value_at<T: NativeType, I: Index>(values: &[T], index: I, is_valid: bool) -> T
     requires some { 0 < length values.now }
-    requires inside { IsKey (length values.now) (if is_valid then I.slot index else Null) }
+    requires inside { IsIndex (length values.now) (if is_valid then I.slot index else Null) }
     ensures { result ≡ picked values.now T.zero (if is_valid then I.slot index else Null) }
 {
     let index = if is_valid { index } else { I::default() };
@@ -159,7 +159,7 @@ pub(super) fn gather_bits<I: Index>(
     bits: &Bitmap,
     indices: &PrimitiveArray<I>,
 ) -> Result<Bitmap, Error>
-    requires { AreKeys (length bits.now) (rows_by (map I.slot) indices.now) }
+    requires { AreIndices (length bits.now) (rows_by (map I.slot) indices.now) }
     ensures ok { IfOk result (λ taken. taken ≡ map (named_bit bits.now) (rows_by (map I.slot) indices.now)) }
     ensures err { IsOkUnless result Error.OutOfMemory }
 {
@@ -186,7 +186,7 @@ fn append_bits<I: Index>(
     requires none { taken.old ≡ [] }
     requires fits { FitsRows (option_copied validity) (length stored.now) }
     requires marks { MarksNulls (option_copied validity) (masked (option_copied validity) (map I.slot stored.now)) }
-    requires inside { AreKeys (length bits.now) (masked (option_copied validity) (map I.slot stored.now)) }
+    requires inside { AreIndices (length bits.now) (masked (option_copied validity) (map I.slot stored.now)) }
     ensures ok { OnOk result (taken.new ≡ map (named_bit bits.now) (masked (option_copied validity.entry) (map I.slot stored.now))) }
     ensures err { IsOkUnless result Error.OutOfMemory }
 {
@@ -213,7 +213,7 @@ fn bits_at<I: Index>(
     requires marks { MarksNulls (option_copied validity) (masked (option_copied validity) (map I.slot stored.now)) }
     requires within { row + count ≤ length stored.now }
     requires in_word { count ≤ 64 }
-    requires inside { AreKeys (length bits.now) (masked (option_copied validity) (map I.slot stored.now)) }
+    requires inside { AreIndices (length bits.now) (masked (option_copied validity) (map I.slot stored.now)) }
     ensures { low_bits result count ≡ map (named_bit bits.now) (sliced (masked (option_copied validity.entry) (map I.slot stored.now)) row count) }
 {
     let mut word = 0;
@@ -229,7 +229,7 @@ fn bit_at<I: Index>(bits: &Bitmap, stored: &[I], validity: Option<&Bitmap>, row:
     requires fits { FitsRows (option_copied validity) (length stored.now) }
     requires marks { MarksNulls (option_copied validity) (masked (option_copied validity) (map I.slot stored.now)) }
     requires within { row < length stored.now }
-    requires inside { AreKeys (length bits.now) (masked (option_copied validity) (map I.slot stored.now)) }
+    requires inside { AreIndices (length bits.now) (masked (option_copied validity) (map I.slot stored.now)) }
     ensures { result ≡ named_bit bits.now (slice_index_or (masked (option_copied validity.entry) (map I.slot stored.now)) row Null) }
 {
     let bit = bits.get_bit(index_at(stored, validity, row).unwrap_or(0));
@@ -246,7 +246,7 @@ pub(super) fn take_validity<I: Index>(
     validity: Option<&Bitmap>,
     indices: &PrimitiveArray<I>,
 ) -> Result<Option<Bitmap>, Error>
-    requires { IfSome (option_copied validity) (λ bits. AreKeys (length bits) (rows_by (map I.slot) indices.now)) }
+    requires { IfSome (option_copied validity) (λ bits. AreIndices (length bits) (rows_by (map I.slot) indices.now)) }
     ensures ok { IfOk result (λ taken. MarksTaken (option_copied validity.entry) (rows_by (map I.slot) indices.now) taken) }
     ensures err { IsOkUnless result Error.OutOfMemory }
 {

@@ -2,9 +2,8 @@
 
 ghost use Rattle.std.specs.Prelude.{length, map};
 ghost use Rattle.arrow_flat.specs.Parts.{rows_by};
-ghost use Rattle.arrow_arrays.specs.KeyedParts.{AreKeys};
 ghost use Rattle.arrow_arrays.specs.ListParts.{list_rows};
-ghost use Rattle.arrow_select.specs.Taken.{AnswersMaps};
+ghost use Rattle.arrow_select.specs.Taken.{AnswersMaps, AreIndices};
 
 use crate::take::nested::take_nested;
 use arrow_arrays::array::MapArray;
@@ -27,7 +26,7 @@ pub fn take<I: Index>(
     values: &MapArray,
     indices: &PrimitiveArray<I>,
 ) -> Result<MapArray, Error>
-    requires inside { AreKeys (length (list_rows values.now)) (rows_by (map I.slot) indices.now) }
+    requires inside { AreIndices (length (list_rows values.now)) (rows_by (map I.slot) indices.now) }
     ensures answer { AnswersMaps result values.now (rows_by (map I.slot) indices.now) }
 {
     take_nested(alloc, values, values.len(), indices)

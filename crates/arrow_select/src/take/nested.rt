@@ -6,9 +6,9 @@ ghost use Rattle.arrow_types.specs.Fits.{Fits};
 ghost use Rattle.arrow_types.specs.Rows.{gather};
 ghost use Rattle.arrow_memory.specs.Grown.{IsGrowthError};
 ghost use Rattle.arrow_flat.specs.Parts.{rows_by};
-ghost use Rattle.arrow_arrays.specs.KeyedParts.{AreKeys};
 ghost use Rattle.arrow_arrays.specs.Layout.{rows, type_of_layout};
 ghost use Rattle.arrow_flat_growable.specs.Grown.{bound_to};
+ghost use Rattle.arrow_select.specs.Taken.{AreIndices};
 
 use crate::take::append::append_taken;
 use arrow_flat::array::PrimitiveArray;
@@ -31,7 +31,7 @@ pub(super) fn take_nested<A: NestedArray, I: Index>(
     indices: &PrimitiveArray<I>,
 ) -> Result<A, Error>
     requires len { len ≡ length (rows (A.layout_in values.now)) }
-    requires inside { AreKeys len (rows_by (map I.slot) indices.now) }
+    requires inside { AreIndices len (rows_by (map I.slot) indices.now) }
     ensures array_type { IfOk result (λ taken. type_of_layout (A.layout_in taken) ≡ type_of_layout (A.layout_in values.now)) }
     ensures rows { IfOk result (λ taken. rows (A.layout_in taken) ≡ gather (rows (A.layout_in values.now)) (rows_by (map I.slot) indices.now) (type_of_layout (A.layout_in values.now))) }
     ensures fits { IfOk result (λ taken. Fits (type_of_layout (A.layout_in taken)) (rows (A.layout_in taken))) }
@@ -52,7 +52,7 @@ fn grown<'a, A: NestedArray + 'a, I: Index>(
 ) -> Result<A, Error>
     requires bound { growable ≡ bound_to (A.layout_in values.now ∷ []) }
     requires len { len ≡ length (rows (A.layout_in values.now)) }
-    requires inside { AreKeys len (rows_by (map I.slot) indices.now) }
+    requires inside { AreIndices len (rows_by (map I.slot) indices.now) }
     ensures array_type { IfOk result (λ taken. type_of_layout (A.layout_in taken) ≡ type_of_layout (A.layout_in values.now)) }
     ensures rows { IfOk result (λ taken. rows (A.layout_in taken) ≡ gather (rows (A.layout_in values.now)) (rows_by (map I.slot) indices.now) (type_of_layout (A.layout_in values.now))) }
     ensures fits { IfOk result (λ taken. Fits (type_of_layout (A.layout_in taken)) (rows (A.layout_in taken))) }

@@ -5,7 +5,7 @@ ghost use Rattle.arrow_types.specs.declared.error.Error.{Error};
 ghost use Rattle.arrow_types.specs.Fits.{Fits};
 ghost use Rattle.arrow_types.specs.Rows.{gather};
 ghost use Rattle.arrow_flat.specs.Parts.{rows_by};
-ghost use Rattle.arrow_arrays.specs.KeyedParts.{AreKeys};
+ghost use Rattle.arrow_select.specs.Taken.{AreIndices};
 
 use crate::take::indices::{gather_values, take_validity};
 use arrow_flat::array::PrimitiveArray;
@@ -28,7 +28,7 @@ pub fn take<T: NativeType, I: Index>(
     values: &PrimitiveArray<T>,
     indices: &PrimitiveArray<I>,
 ) -> Result<PrimitiveArray<T>, Error>
-    requires inside { AreKeys (length (rows_by (map T.slot) values.now)) (rows_by (map I.slot) indices.now) }
+    requires inside { AreIndices (length (rows_by (map T.slot) values.now)) (rows_by (map I.slot) indices.now) }
     ensures array_type { IfOk result (λ taken. taken.arrow_type ≡ values.now.arrow_type) }
     ensures rows { IfOk result (λ taken. rows_by (map T.slot) taken ≡ gather (rows_by (map T.slot) values.now) (rows_by (map I.slot) indices.now) values.now.arrow_type) }
     ensures fits { IfOk result (λ taken. Fits taken.arrow_type (rows_by (map T.slot) taken)) }

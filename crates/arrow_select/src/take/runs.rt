@@ -5,8 +5,8 @@ ghost use Rattle.arrow_types.specs.Rows.{masked};
 ghost use Rattle.arrow_types.specs.Slot.{Null};
 ghost use Rattle.arrow_memory.specs.Sliced.{sliced};
 ghost use Rattle.arrow_flat.specs.Parts.{FitsRows};
-ghost use Rattle.arrow_arrays.specs.KeyedParts.{AreKeys, key_in};
-ghost use Rattle.arrow_select.specs.Taken.{run_of};
+ghost use Rattle.arrow_arrays.specs.KeyedParts.{key_in};
+ghost use Rattle.arrow_select.specs.Taken.{AreIndices, run_of};
 
 use crate::take::indices::index_at;
 use arrow_memory::bitmap::Bitmap;
@@ -22,7 +22,7 @@ pub(super) fn run_at<I: Index>(
 ) -> (Option<usize>, usize)
     requires fits { FitsRows (option_copied validity) (length stored.now) }
     requires within { row < length stored.now }
-    requires inside { AreKeys len (masked (option_copied validity) (map I.slot stored.now)) }
+    requires inside { AreIndices len (masked (option_copied validity) (map I.slot stored.now)) }
     ensures some { 0 < result.1 }
     ensures within { row + result.1 ≤ length stored.now }
     ensures inside { IfSome result.0 (λ start. start + result.1 ≤ len) }
@@ -46,7 +46,7 @@ fn rising_from<I: Index>(
 ) -> usize
     requires fits { FitsRows (option_copied validity) (length stored.now) }
     requires within { row < length stored.now }
-    requires inside { AreKeys len (masked (option_copied validity) (map I.slot stored.now)) }
+    requires inside { AreIndices len (masked (option_copied validity) (map I.slot stored.now)) }
     requires first { key_in (slice_index_or (masked (option_copied validity) (map I.slot stored.now)) row Null) ≡ Some start }
     ensures some { 0 < result }
     ensures within { row + result ≤ length stored.now }
@@ -67,7 +67,7 @@ fn rising_from<I: Index>(
 fn nulls_from<I: Index>(stored: &[I], validity: Option<&Bitmap>, row: usize, len: usize) -> usize
     requires fits { FitsRows (option_copied validity) (length stored.now) }
     requires within { row < length stored.now }
-    requires inside { AreKeys len (masked (option_copied validity) (map I.slot stored.now)) }
+    requires inside { AreIndices len (masked (option_copied validity) (map I.slot stored.now)) }
     requires first { key_in (slice_index_or (masked (option_copied validity) (map I.slot stored.now)) row Null) ≡ None }
     ensures some { 0 < result }
     ensures within { row + result ≤ length stored.now }

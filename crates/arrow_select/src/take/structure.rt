@@ -8,9 +8,8 @@ ghost use Rattle.arrow_types.specs.Rows.{gather};
 ghost use Rattle.arrow_memory.specs.Grown.{IsGrowthError};
 ghost use Rattle.arrow_flat.specs.Parts.{rows_by};
 ghost use Rattle.arrow_arrays.specs.Any.{any_array_type, any_array_rows};
-ghost use Rattle.arrow_arrays.specs.KeyedParts.{AreKeys};
 ghost use Rattle.arrow_arrays.specs.StructParts.{struct_rows};
-ghost use Rattle.arrow_select.specs.Taken.{SomeDoNotFit, taken_rows};
+ghost use Rattle.arrow_select.specs.Taken.{AreIndices, SomeDoNotFit, taken_rows};
 
 use crate::take::indices::{take_validity, valid_indices};
 use arrow_arrays::array::{AnyArray, StructArray};
@@ -35,7 +34,7 @@ pub fn take<I: Index>(
     values: &StructArray,
     indices: &PrimitiveArray<I>,
 ) -> Result<StructArray, Error>
-    requires inside { AreKeys (length (struct_rows values.now)) (rows_by (map I.slot) indices.now) }
+    requires inside { AreIndices (length (struct_rows values.now)) (rows_by (map I.slot) indices.now) }
     ensures array_type { IfOk result (λ taken. taken.arrow_type ≡ values.now.arrow_type) }
     ensures rows { IfOk result (λ taken. struct_rows taken ≡ gather (struct_rows values.now) (rows_by (map I.slot) indices.now) values.now.arrow_type) }
     ensures fits { IfOk result (λ taken. Fits taken.arrow_type (struct_rows taken)) }
@@ -62,7 +61,7 @@ fn take_fields<I: Index>(
     fields: &[AnyArray],
     indices: &PrimitiveArray<I>,
 ) -> Result<Vec<AnyArray>, Error>
-    requires inside { All (λ field. AreKeys (length (any_array_rows field)) (rows_by (map I.slot) indices.now)) fields.now }
+    requires inside { All (λ field. AreIndices (length (any_array_rows field)) (rows_by (map I.slot) indices.now)) fields.now }
     ensures types { IfOk result (λ taken. map any_array_type taken.items ≡ map any_array_type fields.now) }
     ensures rows { IfOk result (λ taken. map any_array_rows taken.items ≡ map (taken_rows (rows_by (map I.slot) indices.now)) fields.now) }
     ensures fits { IfOk result (λ taken. All (λ field. Fits (any_array_type field) (taken_rows (rows_by (map I.slot) indices.now) field)) fields.now) }

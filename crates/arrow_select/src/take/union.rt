@@ -2,10 +2,9 @@
 
 ghost use Rattle.std.specs.Prelude.{◌≡◌, [], ◌∷◌, length, map};
 ghost use Rattle.arrow_flat.specs.Parts.{rows_by};
-ghost use Rattle.arrow_arrays.specs.KeyedParts.{AreKeys};
 ghost use Rattle.arrow_arrays.specs.UnionParts.{union_layout, union_rows};
 ghost use Rattle.arrow_flat_growable.specs.Grown.{bound_to};
-ghost use Rattle.arrow_select.specs.Taken.{AnswersUnions};
+ghost use Rattle.arrow_select.specs.Taken.{AnswersUnions, AreIndices};
 
 use crate::take::append::append_taken;
 use arrow_arrays::array::UnionArray;
@@ -30,7 +29,7 @@ pub fn take<I: Index>(
     values: &UnionArray,
     indices: &PrimitiveArray<I>,
 ) -> Result<UnionArray, Error>
-    requires inside { AreKeys (length (union_rows values.now)) (rows_by (map I.slot) indices.now) }
+    requires inside { AreIndices (length (union_rows values.now)) (rows_by (map I.slot) indices.now) }
     ensures answer { AnswersUnions result values.now (rows_by (map I.slot) indices.now) }
 {
     let bound = vec![in alloc; values]?;
@@ -47,7 +46,7 @@ fn grown<'a, I: Index>(
 ) -> Result<UnionArray, Error>
     requires bound { growable ≡ bound_to (union_layout values.now ∷ []) }
     requires len { len ≡ length (union_rows values.now) }
-    requires inside { AreKeys len (rows_by (map I.slot) indices.now) }
+    requires inside { AreIndices len (rows_by (map I.slot) indices.now) }
     ensures answer { AnswersUnions result values.now (rows_by (map I.slot) indices.now) }
 {
     let mut growable = growable;

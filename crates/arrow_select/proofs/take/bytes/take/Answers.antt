@@ -14,7 +14,7 @@ use Rattle.arrow_flat_growable.proofs.ResultLemmas.{passed_on}
 use Rattle.arrow_arrays.specs.KeyedParts.{AreKeys}
 use Rattle.arrow_select.specs.Taken.{MarksTaken, ends_from, span_length, taken_bytes}
 use Rattle.arrow_select.proofs.TakenBytes.{allowed_by_index, bytes_end, bytes_fit, bytes_pass, bytes_taken, offsets_fit, pieces_are, rows_fit}
-use Rattle.arrow_select.proofs.take.bytes.take_bytes.Goals as goal
+use Rattle.arrow_select.proofs.take.bytes.take.Goals as goal
 
 -- the indices name rows that the offsets name
 keys_of : (slot : List ℕ → Slot) (p : Parts ByteParts) (indices : List Slot) → FitsRows p.validity (length (byte_slots slot p.values)) → AreKeys (length (rows_by (byte_slots slot) p)) indices → AreKeys (length p.values.offsets - 1) indices
