@@ -4,6 +4,8 @@
 ghost use Rattle.std.specs.Prelude.{◌≡◌, IsTrue};
 ghost use Rattle.arrow_arrays.specs.Any.{any_array_meaning, any_array_type};
 ghost use Rattle.arrow_select.specs.Keys.{HasNoDictionary};
+ghost use Rattle.arrow_select.specs.Laws.{IsStructOrUnion};
+ghost use Rattle.arrow_types.specs.TypeOf.{type_of};
 
 use crate::arrays::{numbers, truths};
 use crate::lines::{Answer, Line, PLAIN, check_lines};
@@ -85,7 +87,7 @@ fn types(_alloc: Global, _name: &str, arrays: &[AnyArray]) -> Result<bool, Fault
     compared::can_lt_scalar_has_order(data_type);
     selected::dense_union_holds(5);
     selected::dense_union_edge();
-    if matches!(data_type, DataType::Struct(_) | DataType::Union(_, _, _)) {
+    if is_struct_or_union(data_type) {
         selected::can_take_goes_by_fields(data_type);
     }
     Ok(true)
@@ -147,6 +149,16 @@ fn are_equal(array: &AnyArray, other: &AnyArray) -> bool
     ensures { IsTrue result → any_array_meaning other.now ≡ any_array_meaning array.now }
 {
     *array == *other
+}
+
+/// Whether a type is a struct or a union.
+fn is_struct_or_union(data_type: &DataType) -> bool
+    ensures { IsTrue result → IsStructOrUnion (type_of data_type.now) }
+{
+    match data_type {
+        DataType::Struct(_) | DataType::Union(_, _, _) => true,
+        _ => false,
+    }
 }
 
 /// Whether an array is of numbers of 32 bits, a type that holds no dictionary.
