@@ -1,6 +1,7 @@
 pub mod AppendLemmas
 pub mod BitLemmas
 pub mod BitmapLemmas
+pub mod FoursLemmas
 pub mod GatherLemmas
 pub mod LogicLemmas
 pub mod MutableLemmas

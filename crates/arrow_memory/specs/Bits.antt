@@ -17,3 +17,8 @@ either_bits = paired (λ x y. x || y)
 -- the first bit is set, and the second is not
 abbrev pub first_bits : List Bool → List Bool → List Bool
 first_bits = paired (λ x y. x && not y)
+
+-- the bits that each four bits give
+abbrev pub by_fours : (Bool → Bool → Bool → Bool → Bool) → List Bool → List Bool → List Bool → List Bool → List Bool
+by_fours give (x ∷ xs) (y ∷ ys) (z ∷ zs) (w ∷ ws) = give x y z w ∷ by_fours give xs ys zs ws
+by_fours give _ _ _ _ = []

@@ -13,6 +13,7 @@ ghost use Rattle.arrow_memory.specs.Words.{bits_in, word_of, AppendsBits};
 mod bitmap_ops;
 mod collect;
 mod mutable;
+mod quaternary;
 mod runs;
 
 pub use crate::words::WORD_BITS;
@@ -20,6 +21,7 @@ pub use crate::words::logic::Logic;
 use crate::words::{append_bits, bits_from, count_ones, equal_bits, pack, word_within};
 use arrow_types::error::Error;
 pub use mutable::MutableBitmap;
+pub use quaternary::QuaternaryLogic;
 pub use runs::BitRuns;
 use std::alloc::{AllocError, Global};
 use std::marker::Model;

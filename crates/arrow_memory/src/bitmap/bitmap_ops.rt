@@ -122,7 +122,7 @@ impl Bitmap {
     }
 
     /// The bits in words of their own, from the first bit of the first word on.
-    fn to_words(&self, alloc: Global) -> Result<Vec<u64>, Error>
+    pub(super) fn to_words(&self, alloc: Global) -> Result<Vec<u64>, Error>
         ensures full { IfOk result (λ words. length words.items ≡ div_ceil (length self.now) 64) }
         ensures ok { IfOk result (λ words. Reads words.items self.now) }
         ensures err { IsOkUnless result Error.OutOfMemory }
