@@ -4,6 +4,7 @@ pub mod FixedRowsLemmas
 pub mod FlatLemmas
 pub mod GrownKeyLemmas
 pub mod MaskLemmas
+pub mod MovedLemmas
 pub mod NullLemmas
 pub mod ResultLemmas
 pub mod StoreLemmas

@@ -1,5 +1,5 @@
 -- Keys of dictionaries under construction: those of an array grow by the values of the dictionaries before its own ("Dictionary-encoded Layout").
-use Rattle.std.specs.Prelude.{ℕ, ◌+◌, ◌<◌, ◌≤◌, pos, List, map, slice_index_or}
+use Rattle.std.specs.Prelude.{ℕ, ◌+◌, ◌-◌, ◌<◌, ◌≤◌, pos, List, map, slice_index_or}
 use Rattle.arrow_types.specs.declared.datatypes.IntegerType.{IntegerType}
 use Rattle.arrow_types.specs.declared.datatypes.IntegerType.TheVariants as integer
 use Rattle.arrow_types.specs.Slot.{Slot, Null, Number}
@@ -41,6 +41,10 @@ grown_key by _ = zero_key
 abbrev pub KeyFits : ℕ → ℕ → Slot → Type 0
 KeyFits greatest by (Number (pos k)) = k + by ≤ greatest
 KeyFits greatest by _ = Unit {0}
+
+-- how many keys from 0 on are at most the greatest behind so many values
+abbrev pub fitting_keys : ℕ → ℕ → ℕ
+fitting_keys greatest by = greatest + 1 - by
 
 -- one that passes the greatest, and would not by itself
 abbrev pub PassesGreatest : ℕ → ℕ → Slot → Type 0

@@ -11,6 +11,7 @@ ghost use Rattle.arrow_types.specs.TypeOf.{type_of};
 ghost use Rattle.arrow_types.specs.declared.datatypes.physical_type.PhysicalType.TheVariants as physical;
 ghost use Rattle.arrow_memory.specs.Sliced.{sliced};
 ghost use Rattle.arrow_flat.specs.DictionaryScalar.{values_in};
+ghost use Rattle.arrow_flat.specs.Faults.{IsCarriedAs};
 ghost use Rattle.arrow_flat.specs.Parts.{MarksNulls, meaning_code};
 ghost use Rattle.arrow_arrays.specs.Any.{layout_of, kind_in, dictionary_kind};
 ghost use Rattle.arrow_arrays.specs.AnyKeys.{key_rows, key_type_of, keyed_of, keys_of};
@@ -74,6 +75,24 @@ impl Model for DictionaryArray {
 }
 
 impl DictionaryArray {
+    /// The array that [`DictionaryArray::try_new`] makes of parts that are known to be sound: nothing is tested.
+    ///
+    /// # Requires
+    /// The data type is carried and that of a dictionary with keys of this width, the values have the type that it
+    /// names, and each key that is not null names one of them.
+    pub fn new(data_type: DataType, keys: AnyKeys, values: Box<AnyArray>) -> DictionaryArray
+        requires kind { IsCarriedAs (physical.Dictionary (key_type_of keys)) (type_of data_type) }
+        requires child { type_of_layout (layout_of values.value) ≡ values_in (type_of data_type) }
+        requires within { AreKeys (length (rows (layout_of values.value))) (key_rows keys) }
+        ensures { result ≡ keyed_of (type_of data_type) keys (layout_of values.value) }
+    {
+        DictionaryArray {
+            data_type,
+            keys,
+            values,
+        }
+    }
+
     /// An array of dictionaries: row `i` is the value that key `i` names, null where the key is. It
     /// takes no memory.
     ///
@@ -91,11 +110,7 @@ impl DictionaryArray {
         ensures fault { IfErr result (IsKeyedFault (type_of data_type) (key_rows keys) (key_type_of keys) (layout_of values.value)) }
     {
         check_dictionary(&data_type, &keys, &values)?;
-        Ok(DictionaryArray {
-            data_type,
-            keys,
-            values,
-        })
+        Ok(DictionaryArray::new(data_type, keys, values))
     }
 
     /// The data type.

@@ -13,9 +13,12 @@ ghost use Rattle.arrow_memory.specs.Sliced.{sliced};
 ghost use Rattle.arrow_flat.specs.Faults.{IsCarriedAs};
 ghost use Rattle.arrow_flat.specs.Parts.{FitsRows, rows_by};
 ghost use Rattle.arrow_arrays.specs.AnyKeys.{key_rows, key_type_of};
-ghost use Rattle.arrow_arrays.specs.KeyedParts.{IsKeyIn};
+ghost use Rattle.arrow_arrays.specs.KeyedParts.{AreKeys, IsKeyIn};
 ghost use Rattle.arrow_flat_growable.specs.Keys.{KeyFits, PassesGreatest, SomePasses, grown_key, grown_key_type, key_slots, zero_key};
 
+mod moved;
+
+use crate::growable::primitive::append_part;
 use arrow_arrays::array::AnyKeys;
 use arrow_flat::array::PrimitiveArray;
 use arrow_memory::bitmap::Bitmap;
@@ -23,6 +26,7 @@ use arrow_memory::buffer::Buffer;
 use arrow_types::datatypes::DataType;
 use arrow_types::error::Error;
 use arrow_types::types::{DictionaryKey, Index};
+use moved::{MovedKey, append_moved, step_of};
 use std::alloc::Global;
 
 /// The keys of a dictionary under construction, of any key type: one for each row, and key 0 beneath nulls.
@@ -129,6 +133,60 @@ impl GrowableKeys {
         }
     }
 
+    /// The same of others that name values of a dictionary of `count`: where none can pass the greatest of its type, no key is
+    /// tested by itself.
+    ///
+    /// # Requires
+    /// The others are of the same type, have these rows, and each that is not null is below `count`.
+    ///
+    /// # Errors
+    /// `Overflow` where one that is not null passes the greatest of its type; `OutOfMemory` where memory is refused.
+    pub fn extend_within(
+        &mut self,
+        others: &AnyKeys,
+        start: usize,
+        len: usize,
+        by: usize,
+        count: usize,
+    ) -> Result<(), Error>
+        requires same { grown_key_type self.old ≡ key_type_of others.now }
+        requires part { start + len ≤ length (key_rows others.now) }
+        requires within { AreKeys count (key_rows others.now) }
+        ensures ok { OnOk result (key_slots self.new ≡ key_slots self.old ++ map (grown_key by) (sliced (key_rows others.now) start len)) }
+        ensures fits { OnOk result (All (KeyFits (greatest_number (key_type_of others.now)) by) (sliced (key_rows others.now) start len)) }
+        ensures same { grown_key_type self.new ≡ grown_key_type self.old }
+        ensures overflow { result ≡ Err Error.Overflow → SomePasses (greatest_number (key_type_of others.now)) by (key_rows others.now) start len }
+        ensures others { IfErr result IsGrowthError }
+    {
+        match (self, others) {
+            (GrowableKeys::Int8(own), AnyKeys::Int8(others)) => {
+                append_within(own, others, start, len, by, count)
+            }
+            (GrowableKeys::Int16(own), AnyKeys::Int16(others)) => {
+                append_within(own, others, start, len, by, count)
+            }
+            (GrowableKeys::Int32(own), AnyKeys::Int32(others)) => {
+                append_within(own, others, start, len, by, count)
+            }
+            (GrowableKeys::Int64(own), AnyKeys::Int64(others)) => {
+                append_within(own, others, start, len, by, count)
+            }
+            (GrowableKeys::UInt8(own), AnyKeys::UInt8(others)) => {
+                append_within(own, others, start, len, by, count)
+            }
+            (GrowableKeys::UInt16(own), AnyKeys::UInt16(others)) => {
+                append_within(own, others, start, len, by, count)
+            }
+            (GrowableKeys::UInt32(own), AnyKeys::UInt32(others)) => {
+                append_within(own, others, start, len, by, count)
+            }
+            (GrowableKeys::UInt64(own), AnyKeys::UInt64(others)) => {
+                append_within(own, others, start, len, by, count)
+            }
+            _ => unreachable!(),
+        }
+    }
+
     /// Appends so many keys 0.
     ///
     /// # Requires
@@ -194,6 +252,35 @@ impl GrowableKeys {
             }
         }
     }
+}
+
+/// Appends `len` keys of others from row `start` on, each greater by `by`, and 0 where one is null: without a test of each,
+/// where none of a dictionary of `count` values can pass the greatest of its type.
+fn append_within<K: MovedKey>(
+    keys: &mut Vec<K>,
+    others: &PrimitiveArray<K>,
+    start: usize,
+    len: usize,
+    by: usize,
+    count: usize,
+) -> Result<(), Error>
+    requires part { start + len ≤ length (rows_by (map K.slot) others.now) }
+    requires within { AreKeys count (rows_by (map K.slot) others.now) }
+    ensures ok { OnOk result (map K.slot keys.new.items ≡ map K.slot keys.old.items ++ map (grown_key by) (sliced (rows_by (map K.slot) others.now) start len)) }
+    ensures fits { OnOk result (All (KeyFits K.greatest by) (sliced (rows_by (map K.slot) others.now) start len)) }
+    ensures overflow { result ≡ Err Error.Overflow → SomePasses K.greatest by (rows_by (map K.slot) others.now) start len }
+    ensures others { IfErr result IsGrowthError }
+{
+    let Some(step) = step_of::<K>(by, count) else {
+        return append_keys(keys, others, start, len, by);
+    };
+    let (stored, validity) = (others.values().as_slice(), others.validity());
+    if by == 0 && validity.is_none() {
+        return append_part(keys, stored, start, len);
+    }
+    keys.reserve(len)?;
+    append_moved(keys, stored, validity, start, len, step);
+    Ok(())
 }
 
 /// Appends `len` keys of others from row `start` on, each greater by `by`, and 0 where one is null.
