@@ -1,4 +1,5 @@
 pub mod GrownRowLemmas
+pub mod EmptyNullLemmas
 pub mod FitsLemmas
 pub mod FixedRowsLemmas
 pub mod FlatLemmas

@@ -1,5 +1,5 @@
 -- Rows that grow, one behind the other, in values of any kind: in bytes, or in the rows of a child ("Variable-size Binary Layout", "Variable-size List Layout").
-use Rattle.std.specs.Prelude.{ℕ, ◌≡◌, ◌+◌, ◌-◌, ◌++◌, Bool, List, [], ◌∷◌, length, sum_by, slice_index, if◌then◌else◌}
+use Rattle.std.specs.Prelude.{ℕ, ◌≡◌, ◌+◌, ◌-◌, ◌<◌, ◌≤◌, ◌++◌, Bool, false, List, [], ◌∷◌, length, sum_by, slice_index, slice_index_or, if◌then◌else◌}
 use Rattle.std.specs.List.{All}
 use Rattle.arrow_memory.specs.Offsets.{last_of}
 use Rattle.arrow_memory.specs.Sliced.{sliced}
@@ -15,6 +15,11 @@ abbrev pub valid_values : {A : Type 0} → List Bool → List ℕ → List A →
 valid_values [] offsets xs i = []
 valid_values (bit ∷ bits) offsets xs i =
     (if bit then sliced xs (slice_index offsets i) (slice_index offsets (i + 1) - slice_index offsets i) else []) ++ valid_values bits offsets xs (i + 1)
+
+-- each row from one place up to another is empty whose bit is not set
+abbrev pub AreEmptyNulls : List Bool → List ℕ → ℕ → ℕ → Type 0
+AreEmptyNulls bits offsets start end =
+    (i : ℕ) → start ≤ i → i < end → slice_index_or bits i false ≡ false → slice_index offsets (i + 1) ≡ slice_index offsets i
 
 -- how many values all rows have
 abbrev pub total : {A : Type 0} → List (List A) → ℕ

@@ -1,6 +1,7 @@
 //! What texts and bytes under construction share.
 
-ghost use Rattle.std.specs.Prelude.{◌≡◌, ◌+◌, ◌-◌, ◌<◌, ◌≤◌, [], ◌++◌, Bool, List, ℕ, length, map, replicate, slice_index, Err, IfOk, IfErr, OnOk, OnErr, IsOkUnless, refl};
+ghost use Rattle.std.specs.Prelude.{◌≡◌, ◌+◌, ◌-◌, ◌%◌, ◌<◌, ◌≤◌, [], ◌++◌, Bool, List, ℕ, false, length, map, replicate, slice_index, slice_index_or, Err, IfOk, IfErr, OnOk, OnErr, IsOkUnless, IsTrue, refl};
+ghost use Rattle.std.specs.Int.{bit_at};
 ghost use Rattle.std.specs.List.{All};
 ghost use Rattle.arrow_types.specs.declared.error.Error.{Error};
 ghost use Rattle.arrow_types.specs.Fits.{byte_count};
@@ -11,12 +12,12 @@ ghost use Rattle.arrow_memory.specs.Sliced.{sliced};
 ghost use Rattle.arrow_flat.specs.ByteRows.{byte_slots, row_bytes};
 ghost use Rattle.arrow_flat.specs.Pieces.{pieces};
 ghost use Rattle.arrow_flat_growable.specs.Bytes.{BeginsWith, IsBytesType, SparesBytes, stored_rows};
-ghost use Rattle.arrow_flat_growable.specs.GrownRows.{filled, total, valid_values};
+ghost use Rattle.arrow_flat_growable.specs.GrownRows.{AreEmptyNulls, filled, total, valid_values};
 
 use crate::growable::flat::GrowableValues;
 use arrow_arrays::array::{AnyArray, AnyOffset, AnyRows};
 use arrow_flat::array::{ByteKind, ByteRows, FlatArray};
-use arrow_memory::bitmap::Bitmap;
+use arrow_memory::bitmap::{Bitmap, WORD_BITS};
 use arrow_memory::buffer::Buffer;
 use arrow_memory::bytes::append_span;
 use arrow_memory::offset::{Offsets, OffsetsBuffer};
@@ -203,6 +204,89 @@ fn copy_rows<O: Offset>(
 /// Appends rows that others name in their bytes, without bytes where their bit is not set. Where that is
 /// refused, all is as before.
 fn copy_valid_rows<O: Offset>(
+    offsets: &mut Offsets<O>,
+    bytes: &mut Vec<u8>,
+    rows: &OffsetsBuffer<O>,
+    values: &[u8],
+    validity: &Bitmap,
+    start: usize,
+    len: usize,
+) -> Result<(), Error>
+    requires some { 0 < len }
+    requires part { start + len < length rows.now }
+    requires covered { start + len ≤ length validity.now }
+    requires within { last_of rows.now ≤ length values.now }
+    ensures sound { IsOffsets offsets.old }
+    ensures rows_sound { IsOffsets rows.now }
+    ensures ok { OnOk result ((offsets.new ≡ with_valid_rows offsets.old (sliced validity.now start len) rows.now start) × (bytes.new.items ≡ bytes.old.items ++ valid_values (sliced validity.now start len) rows.now values.now start)) }
+    ensures overflow { result ≡ Err Error.Overflow → O.greatest < last_of offsets.old + valid_items (sliced validity.now start len) rows.now start }
+    ensures others { IfErr result IsGrowthError }
+    ensures unchanged { OnErr result ((offsets.new ≡ offsets.old) × (bytes.new.items ≡ bytes.old.items)) }
+{
+    if are_nulls_empty(rows, validity, start, len) {
+        return copy_rows(offsets, bytes, rows, values, start, len);
+    }
+    copy_set_rows(offsets, bytes, rows, values, validity, start, len)
+}
+
+/// Whether those of `len` rows from row `start` on are empty whose bit is not set, by words of the bits. It stops at the
+/// first that is not.
+fn are_nulls_empty<O: Offset>(
+    rows: &OffsetsBuffer<O>,
+    validity: &Bitmap,
+    start: usize,
+    len: usize,
+) -> bool
+    requires part { start + len < length rows.now }
+    requires covered { start + len ≤ length validity.now }
+    ensures { IsTrue result → AreEmptyNulls validity.now rows.now start (start + len) }
+{
+    prove!(start < rows.len());
+    let end = start + len;
+    let mut next = start;
+    while next < end {
+        let count = (WORD_BITS - next % WORD_BITS).min(end - next);
+        if !are_empty(rows, next, unset_from(validity, next, count)) {
+            return false;
+        }
+        next += count;
+    }
+    true
+}
+
+/// Those of `count` bits from bit `first` on that are not set, as a word. They lie in one word of the bitmap.
+#[inline(always)]
+fn unset_from(validity: &Bitmap, first: usize, count: usize) -> u64
+    requires some { 0 < count }
+    requires in_word { first % 64 + count ≤ 64 }
+    ensures within { (k : ℕ) → bit_at result k ≡ 1 → k < count }
+    ensures unset { (k : ℕ) → k < count → slice_index_or validity.now (first + k) false ≡ false → bit_at result k ≡ 1 }
+{
+    let word = validity.word(first / WORD_BITS) >> (first % WORD_BITS);
+    !word & (u64::MAX >> (WORD_BITS - count))
+}
+
+/// Whether the rows are empty whose bit is set in a word, counted from row `start` on.
+#[inline(always)]
+fn are_empty<O: Offset>(rows: &OffsetsBuffer<O>, start: usize, word: u64) -> bool
+    requires { (k : ℕ) → bit_at word k ≡ 1 → start + k + 1 < length rows.now }
+    ensures { IsTrue result → (k : ℕ) → bit_at word k ≡ 1 → slice_index rows.now (start + k + 1) ≡ slice_index rows.now (start + k) }
+{
+    prove!(0 < rows.len());
+    let mut left = word;
+    while left != 0 {
+        let place = left.trailing_zeros() as usize;
+        let (begin, end) = rows.start_end(start + place);
+        if begin != end {
+            return false;
+        }
+        left &= !(1 << place);
+    }
+    true
+}
+
+/// The same, run by run.
+fn copy_set_rows<O: Offset>(
     offsets: &mut Offsets<O>,
     bytes: &mut Vec<u8>,
     rows: &OffsetsBuffer<O>,

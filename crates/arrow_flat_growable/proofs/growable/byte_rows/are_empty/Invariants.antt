@@ -1,0 +1,11 @@
+use Rattle.std.proofs.Common.{◌≡◌, ◌+◌, ℕ, slice_index}
+use Rattle.std.specs.Int.{bit_at}
+use Rattle.arrow_flat_growable.proofs.growable.byte_rows.are_empty.Given as goal
+
+-- the bits that are left are among those of the word, and the rows of the others are empty
+abbrev pub invariant-loop-left : goal.invariant-loop-left
+invariant-loop-left g l =
+    ((k : ℕ) → bit_at l.left k ≡ 1 → bit_at l.word k ≡ 1) × ((k : ℕ) → bit_at l.word k ≡ 1 → bit_at l.left k ≡ 0 → slice_index l.rows (l.start + k + 1) ≡ slice_index l.rows (l.start + k))
+
+abbrev pub decreases-loop-left : goal.decreases-loop-left
+decreases-loop-left g l = l.left
