@@ -3,23 +3,19 @@
 ghost use Rattle.std.specs.Prelude.{◌≡◌, ◌<◌, ◌↔◌, true, Err, length, map, IfErr, IfOk, IsOkUnless, OnErr, OnOk};
 ghost use Rattle.std.specs.List.{All};
 ghost use Rattle.arrow_types.specs.declared.error.Error.{Error};
-ghost use Rattle.arrow_types.specs.declared.datatypes.physical_type.PhysicalType.TheVariants as physical;
-ghost use Rattle.arrow_types.specs.TypeOf.{type_of};
 ghost use Rattle.arrow_memory.specs.Grown.{IsGrowthError};
 ghost use Rattle.arrow_flat.specs.DictionaryScalar.{values_in};
-ghost use Rattle.arrow_flat.specs.Faults.{IsCarriedAs};
 ghost use Rattle.arrow_types.specs.Physical.{physical_type_of};
 ghost use Rattle.arrow_arrays.specs.Any.{any_array_rows, any_array_type, dictionary_kind, kind_in, kind_of, layout_of};
-ghost use Rattle.arrow_arrays.specs.AnyKeys.{key_rows, key_type_of, keyed_of};
 ghost use Rattle.arrow_arrays.specs.Crowded.{Unjoined, child_of};
-ghost use Rattle.arrow_arrays.specs.KeyedParts.{AreKeys, keyed_layout, keyed_rows};
+ghost use Rattle.arrow_arrays.specs.KeyedParts.{keyed_layout, keyed_rows};
 ghost use Rattle.arrow_arrays.specs.Layout.{type_of_layout};
 ghost use Rattle.arrow_flat_growable.specs.Grown.{AreOfOneType, CannotHold, FitsItself, HasFailed, IsFailedOrMemory, IsRefusal, NamesRows, appended, bound_to, empty_over, first_type, named_rows};
 ghost use Rattle.arrow_growable.specs.Dictionary.{StartsAt, AreUncrowded, joined_values};
 
 use crate::growable::join::join_arrays;
 use crate::growable::{Growable, GrowableKeys, GrowableValidity};
-use arrow_arrays::array::{AnyArray, AnyKeys, DictionaryArray};
+use arrow_arrays::array::{AnyArray, DictionaryArray};
 use arrow_types::datatypes::DataType;
 use arrow_types::error::Error;
 use std::alloc::Global;
@@ -159,7 +155,7 @@ impl<'a> GrowableDictionary<'a> {
         let validity = mem::replace(&mut self.validity, fresh).into_validity()?;
         let fresh = self.keys.fresh(self.alloc);
         let keys = mem::replace(&mut self.keys, fresh).into_keys(self.alloc, validity)?;
-        let array = dictionary_of(data_type, keys, values);
+        let array = DictionaryArray::new(data_type, keys, values);
         self.len = 0;
         self.has_failed = false;
         Ok(array)
@@ -259,19 +255,6 @@ fn starts_of(alloc: Global, arrays: &[&DictionaryArray], count: usize) -> Result
     Ok(starts)
 }
 
-/// An array of dictionaries, of parts that are one's.
-fn dictionary_of(data_type: DataType, keys: AnyKeys, values: Box<AnyArray>) -> DictionaryArray
-    requires kind { IsCarriedAs (physical.Dictionary (key_type_of keys)) (type_of data_type) }
-    requires child { any_array_type values.value ≡ values_in (type_of data_type) }
-    requires within { AreKeys (length (any_array_rows values.value)) (key_rows keys) }
-    ensures { result ≡ keyed_of (type_of data_type) keys (layout_of values.value) }
-{
-    let Ok(array) = DictionaryArray::try_new(data_type, keys, values) else {
-        unreachable!();
-    };
-    array
-}
-
 impl<'a> Growable<'a> for GrowableDictionary<'a> {
     ghost state = { λ g. g };
 
@@ -296,8 +279,9 @@ impl<'a> Growable<'a> for GrowableDictionary<'a> {
         };
         let array: &'a DictionaryArray = self.arrays[index];
         let keys = array.keys();
+        let count = array.values().len();
         self.validity.extend_from(array.validity(), start, len)?;
-        self.keys.extend(keys, start, len, self.starts[index])?;
+        self.keys.extend_within(keys, start, len, self.starts[index], count)?;
         self.len = total;
         self.has_failed = false;
         Ok(())

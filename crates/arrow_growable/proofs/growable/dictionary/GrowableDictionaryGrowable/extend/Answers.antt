@@ -39,8 +39,8 @@ index-requires c =
     let long : length c.self.inside.starts.items ≡ vec_len c.self.inside.starts = search rules in
     omega (arith, there.0, long, c.self.invariant.begun.count)
 
-pub extend-requires-clause-same : goal.extend-requires-clause-same
-extend-requires-clause-same c =
+pub extend_within-requires-clause-same : goal.extend_within-requires-clause-same
+extend_within-requires-clause-same c =
     let there = subst (λ h. NamesRows h c.args.index c.args.start c.args.len) (sym c.self.view_is) c.requires in
     same_keys (λ (r : Bor _). r.now) c.self.inside.arrays.items c.index-array.result.now _ _ _ _ _ _ _ _ c.args.index c.self.invariant there.0 c.index-array.ensures _ c.keys-keys.ensures.width
 
@@ -52,15 +52,15 @@ returns-in_default-clause-overflow c overflows =
     let named = sliced (rows (source_at layouts c.args.index)) c.args.start c.args.len in
     subst (λ h. CannotHold h c.args.index c.args.start c.args.len) c.self.view_is (inl (λ fits. too_many (type_of c.self.inside.data_type) before named c.self.inside.len c.args.len fits (rows_counted _ _ _ _ _ (c.self.invariant.holds c.if-self.false)) (length-sliced _ c.args.start c.args.len there.1) (omega (arith, c.in_default.ensures))))
 
-pub returns-in_err-extend-clause-overflow : goal.returns-in_err-extend-clause-overflow
-returns-in_err-extend-clause-overflow c overflows =
+pub returns-in_err-extend_within-clause-overflow : goal.returns-in_err-extend_within-clause-overflow
+returns-in_err-extend_within-clause-overflow c overflows =
     let there = subst (λ h. NamesRows h c.args.index c.args.start c.args.len) (sym c.self.view_is) c.requires in
     let arrays = c.self.inside.arrays.items in
     let inv = c.self.invariant in
     let names = names_from (λ (r : Bor _). r.now) arrays c.index-array.result.now _ _ _ _ _ _ _ _ c.args.index inv there.0 c.index-array.ensures c.index.result.now (key_rows c.keys-keys.result.now) c.index.ensures c.keys-keys.ensures.within c.keys-keys.ensures.same in
     let greatest = greatest_named (λ (r : Bor _). r.now) arrays c.index-array.result.now _ _ _ _ _ _ _ _ c.args.index inv there.0 c.index-array.ensures in
     let same = same_keys (λ (r : Bor _). r.now) arrays c.index-array.result.now _ _ _ _ _ _ _ _ c.args.index inv there.0 c.index-array.ensures _ c.keys-keys.ensures.width in
-    let some = c.in_err-extend.ensures.overflow (ap Err (passed_on c.from_residual-in_err-extend.result _ _ c.from_residual-in_err-extend.ensures.1 overflows)) in
+    let some = c.in_err-extend_within.ensures.overflow (ap Err (passed_on c.from_residual-in_err-extend_within.result _ _ c.from_residual-in_err-extend_within.ensures.1 overflows)) in
     subst (λ h. CannotHold h c.args.index c.args.start c.args.len) c.self.view_is (inr (passes_crowded _ _ c.args.index _ _ _ names _ (greatest ∙ ap greatest_number same) c.args.start c.args.len (omega (arith, there.1, rows_long _ _ c.args.index _ _ _ names)) some))
 
 named : (c : goal.After-self-3-1) → Names (map (λ (r : Bor _). keyed_layout r.now) c.self.inside.arrays.items) (any_array_rows c.self.inside.values) c.args.index c.index.result.now c.index-array.result.now.now (key_rows c.keys-keys.result.now)
@@ -68,17 +68,17 @@ named c =
     let there = subst (λ h. NamesRows h c.args.index c.args.start c.args.len) (sym c.self.view_is) c.requires in
     names_from (λ (r : Bor _). r.now) c.self.inside.arrays.items c.index-array.result.now _ _ _ _ _ _ _ _ c.args.index c.self.invariant there.0 c.index-array.ensures c.index.result.now (key_rows c.keys-keys.result.now) c.index.ensures c.keys-keys.ensures.within c.keys-keys.ensures.same
 
-held : (c : goal.After-self-3-1) → HoldsKeys c.extend_from.new.self (key_slots c.extend.new.self) c.in-Some.total (length (any_array_rows c.self.inside.values))
+held : (c : goal.After-self-3-1) → HoldsKeys c.extend_from.new.self (key_slots c.extend_within.new.self) c.in-Some.total (length (any_array_rows c.self.inside.values))
 held c =
     let there = subst (λ h. NamesRows h c.args.index c.args.start c.args.len) (sym c.self.view_is) c.requires in
     let was = c.self.invariant.holds c.if-self.false in
     let holds = holds_named _ _ c.args.index _ _ _ (named c) (option_copied c.validity.result) c.self.inside.validity (key_slots c.self.inside.keys) c.args.start c.args.len (was.covered ∙ sym was.counted) c.validity.ensures.marks there.1 c.self.inside.len c.in-Some.total (omega (arith, c.in-Some.ensures)) was in
-    rw (c.in_ok-extend_from.ensures.ok, c.in_ok-extend.ensures.ok) holds
+    rw (c.in_ok-extend_from.ensures.ok, c.in_ok-extend_within.ensures.ok) holds
 
 pub invariant_of-self-2 : goal.invariant_of-self-2
 invariant_of-self-2 c =
     let inv = c.self.invariant in
-    record { kind = subst (λ k. IsCarriedAs (physical.Dictionary k) (type_of c.self.inside.data_type)) (sym c.in_ok-extend.ensures.same) inv.kind; one_type = inv.one_type; child = inv.child; joined = inv.joined; begun = inv.begun; holds = λ well. held c }
+    record { kind = subst (λ k. IsCarriedAs (physical.Dictionary k) (type_of c.self.inside.data_type)) (sym c.in_ok-extend_within.ensures.same) inv.kind; one_type = inv.one_type; child = inv.child; joined = inv.joined; begun = inv.begun; holds = λ well. held c }
 
 pub returns-clause-ok : goal.returns-clause-ok
 returns-clause-ok c =
@@ -86,7 +86,7 @@ returns-clause-ok c =
     let layouts = map (λ (r : Bor _). keyed_layout r.now) c.self.inside.arrays.items in
     let values = any_array_rows c.self.inside.values in
     let was = c.self.invariant.holds c.if-self.false in
-    let grown = (λ i. dictionary_rows values (c.in_ok-extend_from.ensures.ok i) (c.in_ok-extend.ensures.ok i)) ∙ rows_named _ _ c.args.index _ _ _ (named c) (option_copied c.validity.result) c.self.inside.validity (key_slots c.self.inside.keys) c.args.start c.args.len (was.covered ∙ sym was.counted) c.validity.ensures.marks there.1 in
+    let grown = (λ i. dictionary_rows values (c.in_ok-extend_from.ensures.ok i) (c.in_ok-extend_within.ensures.ok i)) ∙ rows_named _ _ c.args.index _ _ _ (named c) (option_copied c.validity.result) c.self.inside.validity (key_slots c.self.inside.keys) c.args.start c.args.len (was.covered ∙ sym was.counted) c.validity.ensures.marks there.1 in
     let many = length-sliced (rows (source_at layouts c.args.index)) c.args.start c.args.len there.1 in
     let count : c.in-Some.total ≡ c.self.inside.len + length (sliced (rows (source_at layouts c.args.index)) c.args.start c.args.len) = omega (arith, c.in-Some.ensures, many) in
     rw (← c.self.view_is) (λ i. record { arrow_type = type_of c.self.inside.data_type; sources = Some layouts; rows = grown i; count = count i; failed = false })
@@ -102,4 +102,4 @@ returns-clause-keys c =
     let arrays = c.self.inside.arrays.items in
     let greatest = greatest_named (λ (r : Bor _). r.now) arrays c.index-array.result.now _ _ _ _ _ _ _ _ c.args.index c.self.invariant there.0 c.index-array.ensures in
     let same = same_keys (λ (r : Bor _). r.now) arrays c.index-array.result.now _ _ _ _ _ _ _ _ c.args.index c.self.invariant there.0 c.index-array.ensures _ c.keys-keys.ensures.width in
-    subst (λ h. AreUncrowded h.sources c.args.index c.args.start c.args.len) c.self.view_is (fits_uncrowded _ _ c.args.index _ _ _ (named c) _ (greatest ∙ ap greatest_number same) c.args.start c.args.len (omega (arith, there.1, rows_long _ _ c.args.index _ _ _ (named c))) c.in_ok-extend.ensures.fits)
+    subst (λ h. AreUncrowded h.sources c.args.index c.args.start c.args.len) c.self.view_is (fits_uncrowded _ _ c.args.index _ _ _ (named c) _ (greatest ∙ ap greatest_number same) c.args.start c.args.len (omega (arith, there.1, rows_long _ _ c.args.index _ _ _ (named c))) c.in_ok-extend_within.ensures.fits)
