@@ -281,7 +281,8 @@ impl<'a> Growable<'a> for GrowableDictionary<'a> {
         let keys = array.keys();
         let count = array.values().len();
         self.validity.extend_from(array.validity(), start, len)?;
-        self.keys.extend_within(keys, start, len, self.starts[index], count)?;
+        self.keys
+            .extend_within(keys, start, len, self.starts[index], count)?;
         self.len = total;
         self.has_failed = false;
         Ok(())
