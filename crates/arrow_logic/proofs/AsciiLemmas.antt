@@ -10,7 +10,7 @@ use Rattle.std.proofs.Math.ListN.{get_or-map}
 use Rattle.std.proofs.lemmas.Nat.Bits.{bit_at-zero, bit_at-trailing_zeros}
 use Rattle.std.proofs.lemmas.Simd.{bit_mask_l, mask_l-mod, tops_compared}
 
-high : ℕ → Bool
+abbrev high : ℕ → Bool
 high b = leb 128 b
 
 against_all : (xs : List ℕ) → zip2 leb (replicate (length xs) 128) xs ≡ map high xs

@@ -115,6 +115,11 @@ halves_of_lengths word low high os start m n is_low is_high small others full = 
     all : List ℤ
     all = map (λ k. pos (word_length word os start k)) (range_with_len 0 (m + n))
 
+    low_bit : (i : ℕ) → i < 32 → (bit_at low i == 1) ≡ (bit_at word i == 1)
+    low_bit i below =
+        let at : 0 + i ≡ i = omega arith in
+        is_low i below ∙ ap (λ q. bit_at word q == 1) at
+
     firsts : length first ≡ m
     firsts = length-map-range_with_len (λ k. pos (word_length low os start k)) 0 m
 
@@ -135,11 +140,12 @@ halves_of_lengths word low high os start m n is_low is_high small others full = 
           | inl below ↦
               get_or_append_left first second (pos 0) i (omega (arith, below, firsts))
               ∙ (get_or-map-range_with_len (λ k. pos (word_length low os start k)) 0 m i i (pos 0) below (omega arith)
-              ∙ (ap (λ bit. pos (valid_length bit os (start + i))) (is_low i (omega (arith, below, small))) ∙ sym read))
+              ∙ (ap (λ bit. pos (valid_length bit os (start + i))) (low_bit i (omega (arith, below, small))) ∙ sym read))
           | inr past ↦
               let whole : m ≡ 32 = full (omega (arith, past, inside)) in
               let place : i - m < n = omega (arith, past, inside) in
-              let bit : (bit_at high (i - m) == 1) ≡ (bit_at word i == 1) = is_high (i - m) (omega (arith, place, others)) ∙ ap (λ q. bit_at word q == 1) (omega (arith, past, whole)) in
+              let at : 32 + (i - m) ≡ i = omega (arith, past, whole) in
+              let bit : (bit_at high (i - m) == 1) ≡ (bit_at word i == 1) = is_high (i - m) (omega (arith, place, others)) ∙ ap (λ q. bit_at word q == 1) at in
               let row : start + m + (i - m) ≡ start + i = omega (arith, past) in
               get_or-append_right first second m i (pos 0) firsts (omega (arith, past))
               ∙ (get_or-map-range_with_len (λ k. pos (word_length high os (start + m) k)) 0 n (i - m) (i - m) (pos 0) place (omega arith)

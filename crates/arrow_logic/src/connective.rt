@@ -22,6 +22,8 @@ pub(crate) enum Connective {
 struct KnownOfAnd;
 
 impl QuaternaryLogic for KnownOfAnd {
+    ghost use Rattle.arrow_logic.specs.declared.connective.Connective.{Connective};
+
     ghost bits = { known_bit Connective.And };
 
     fn of_words(left_valid: u64, left: u64, right_valid: u64, right: u64) -> u64 {
@@ -33,6 +35,8 @@ impl QuaternaryLogic for KnownOfAnd {
 struct KnownOfOr;
 
 impl QuaternaryLogic for KnownOfOr {
+    ghost use Rattle.arrow_logic.specs.declared.connective.Connective.{Connective};
+
     ghost bits = { known_bit Connective.Or };
 
     fn of_words(left_valid: u64, left: u64, right_valid: u64, right: u64) -> u64 {

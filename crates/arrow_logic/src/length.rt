@@ -149,6 +149,8 @@ fn append_lengths<O: Offset>(
     ensures len { vec_len lengths.new ≡ vec_len lengths.old + count }
     ensures capacity { vec_capacity lengths.new ≡ vec_capacity lengths.old }
 {
+    // The places of rows are below 2 ^ 64.
+    let _ = offsets.len();
     let (low, high) = (half_of(word, 0), half_of(word, HALF_BITS));
     if count == WORD_BITS {
         append_half(lengths, offsets, start, low, HALF_BITS);
@@ -191,7 +193,7 @@ fn half_of(word: u64, first: usize) -> u32
     requires { first ≤ 32 }
     ensures { (k : ℕ) → k < 32 → (bit_at result k == 1) ≡ (bit_at word (first + k) == 1) }
 {
-    (word >> first) as u32
+    ((word >> first) % 4_294_967_296) as u32
 }
 
 /// How long a row is that lies between these offsets: 0 where it is not valid.
