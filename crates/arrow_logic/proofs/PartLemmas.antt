@@ -4,7 +4,7 @@ use Rattle.std.specs.List.{All}
 use Rattle.std.specs.Result.{IsErrAnd}
 use Rattle.std.proofs.lemmas.Int.{ints}
 use Rattle.std.proofs.lemmas.Option.{get_or_from_slice_get}
-use Rattle.std.proofs.lemmas.List.{take-append-le, drop-append-le, take_all, length-drop, length-append, length-take, take_more}
+use Rattle.std.proofs.lemmas.List.{take-append-le, drop-append-le, take_all, length-drop, length-append, take_more}
 use Rattle.std.proofs.Math.Seq.{drop-append_seam}
 use Rattle.arrow_memory.proofs.SlicedLemmas.{sliced-sliced}
 use Rattle.arrow_types.specs.declared.error.Error.{Error}

@@ -3,7 +3,7 @@ use Rattle.arrow_types.specs.Rows.{masked}
 use Rattle.arrow_types.specs.Slot.{Boolean}
 use Rattle.arrow_flat.specs.Parts.{boolean_rows}
 use Rattle.arrow_logic.specs.Connective.{bits_by}
-use Rattle.arrow_logic.proofs.ConnectiveLemmas.{as_many_values, fits_known, kleene_connected_rows, known_of}
+use Rattle.arrow_logic.proofs.ConnectiveLemmas.{as_many_values, fits_known, kleene_connected_rows}
 use Rattle.arrow_logic.proofs.boolean_kleene.connect.Goals as goal
 
 pub of_bits-requires : goal.of_bits-requires

@@ -1,4 +1,4 @@
-use Rattle.std.proofs.Common.{◌≡◌, ◌+◌, ◌-◌, ◌<◌, ◌≤◌, ◌++◌, ap, map, pos, sym, ◌∙◌, append_assoc, arith}
+use Rattle.std.proofs.Common.{◌≡◌, ◌+◌, ◌-◌, ◌++◌, ap, map, pos, ◌∙◌, append_assoc, arith}
 use Rattle.std.specs.List.{range_with_len}
 use Rattle.arrow_logic.specs.Length.{word_length}
 use Rattle.arrow_logic.proofs.LengthLemmas.{halves_of_lengths}
