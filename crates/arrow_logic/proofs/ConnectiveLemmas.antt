@@ -1,18 +1,20 @@
 -- What a connective makes of two arrays of truth values, row by row.
-use Rattle.std.proofs.Common.{◌≡◌, ℕ, ◌&&◌, ◌||◌, Bool, true, false, not, Option, Some, None, List, [], ◌∷◌, length, map, if◌then◌else◌, refl, ap, sym, subst, ◌∙◌, arith}
+use Rattle.std.proofs.Common.{◌≡◌, ℕ, ◌^◌, ◌<◌, w64, ◌&&◌, ◌||◌, Bool, true, false, not, Option, Some, None, List, [], ◌∷◌, length, map, if◌then◌else◌, refl, ap, sym, subst, ◌∙◌, arith}
+use Rattle.std.specs.Prelude.{◌==◌, bit_and, bit_or}
+use Rattle.std.specs.Int.{bit_at, bit_not}
 use Rattle.std.proofs.lemmas.List.{length-map}
 use Rattle.arrow_types.specs.Logic.{both, either, kleene_both, kleene_either}
 use Rattle.arrow_types.specs.Rows.{mask, masked}
 use Rattle.arrow_types.specs.Slot.{Slot, Null, Boolean}
-use Rattle.arrow_memory.specs.Bits.{both_bits, either_bits, first_bits, paired}
+use Rattle.arrow_memory.specs.Bits.{both_bits, by_fours, either_bits, first_bits, paired}
 use Rattle.arrow_flat.specs.Parts.{FitsRows}
 use Rattle.arrow_flat.proofs.PartsLemmas.{length-masked}
-use Rattle.arrow_logic.specs.Connective.{bits_by, slot_by, kleene_by, decides, known_side}
+use Rattle.arrow_logic.specs.Connective.{bits_by, slot_by, kleene_by, decides, known_bit, known_side}
 use Rattle.arrow_logic.specs.RowByRow.{row_by_row}
 use Rattle.arrow_logic.specs.Validities.{combined}
 use Rattle.arrow_logic.specs.declared.connective.Connective.{Connective}
 use Rattle.arrow_logic.specs.declared.connective.Connective.TheVariants.{And, Or}
-use Rattle.arrow_memory.proofs.LogicLemmas.{length-paired}
+use Rattle.arrow_memory.proofs.LogicLemmas.{and_each, and_not_each, length-paired, or_each}
 use Rattle.arrow_logic.proofs.MaskedLemmas.{bits_of, masked-by_bits, length-bits_of, bits_of-combined, fits_combined, bits_of-known_side, fits_known_side}
 
 -- one row: what is stored, where it is valid
@@ -203,3 +205,47 @@ deciding_is And None xs fits = unset_decide xs
 deciding_is And (Some vs) xs fits = valid_unset_decide vs xs fits
 deciding_is Or None xs fits = set_decide xs
 deciding_is Or (Some vs) xs fits = valid_set_decide vs xs fits
+
+-- ---- which rows are known, of four bits
+
+known_of_one : (op : Connective) (v x w y : Bool) → known_bit op v x w y ≡ ((v || decides op (row w y)) && (w || decides op (row v x)))
+known_of_one And v x w y = λ i. (v || not_decides w y i) && (w || not_decides v x i)
+known_of_one Or v x w y = λ i. (v || value_decides w y i) && (w || value_decides v x i)
+
+known_of_bits : (op : Connective) (vs xs ws ys : List Bool) → length vs ≡ length xs → length ws ≡ length ys → length xs ≡ length ys → by_fours (known_bit op) vs xs ws ys ≡ both_bits (either_bits vs (map (decides op) (mask ws (map Boolean ys)))) (either_bits ws (map (decides op) (mask vs (map Boolean xs))))
+known_of_bits op [] xs ws ys v w same = refl
+known_of_bits op (b ∷ vs) [] ws ys v w same = absurd (omega (arith, v))
+known_of_bits op (b ∷ vs) (x ∷ xs) ws [] v w same = absurd (omega (arith, same))
+known_of_bits op (b ∷ vs) (x ∷ xs) [] (y ∷ ys) v w same = absurd (omega (arith, w))
+known_of_bits op (b ∷ vs) (x ∷ xs) (c ∷ ws) (y ∷ ys) v w same =
+    let rest = known_of_bits op vs xs ws ys (omega (arith, v)) (omega (arith, w)) (omega (arith, same)) in
+    λ i. known_of_one op b x c y i ∷ rest i
+
+-- of two arrays with a validity, and of one
+pub known_in_both : (op : Connective) (v w : Option (List Bool)) (vs xs ws ys : List Bool) → v ≡ Some vs → w ≡ Some ws → FitsRows v (length (map Boolean xs)) → FitsRows w (length (map Boolean ys)) → length xs ≡ length ys → Some (by_fours (known_bit op) vs xs ws ys) ≡ known_of op v xs w ys
+known_in_both op v w vs xs ws ys left right fits other same =
+    let here = subst (λ o. FitsRows o (length (map Boolean xs))) left fits ∙ length-map xs Boolean in
+    let there = subst (λ o. FitsRows o (length (map Boolean ys))) right other ∙ length-map ys Boolean in
+    ap Some (known_of_bits op vs xs ws ys here there same) ∙ (λ i. known_of op (sym left i) xs (sym right i) ys)
+
+pub known_in_left : (op : Connective) (v w : Option (List Bool)) (xs ys : List Bool) → w ≡ None → known_side v (map (decides op) (masked w (map Boolean ys))) ≡ known_of op v xs w ys
+known_in_left op None w xs ys right = λ i. known_of op None xs (sym right i) ys
+known_in_left op (Some vs) w xs ys right =
+    ap (λ o. known_side (Some vs) (map (decides op) (masked o (map Boolean ys)))) right ∙ (λ i. known_of op (Some vs) xs (sym right i) ys)
+
+pub known_in_right : (op : Connective) (v w : Option (List Bool)) (xs ys : List Bool) → v ≡ None → known_side w (map (decides op) (masked v (map Boolean xs))) ≡ known_of op v xs w ys
+known_in_right op v w xs ys left =
+    ap (λ o. known_side w (map (decides op) (masked o (map Boolean xs)))) left ∙ (λ i. known_of op (sym left i) xs w ys)
+
+-- and the words that tell it of 64 rows
+pub known_of_and : (v x w y k : ℕ) → x < 2 ^ 64 → y < 2 ^ 64 → k < 64 → (bit_at (bit_and (bit_or v (bit_and w (bit_not w64 y))) (bit_or w (bit_and v (bit_not w64 x)))) k == 1) ≡ known_bit And (bit_at v k == 1) (bit_at x k == 1) (bit_at w k == 1) (bit_at y k == 1)
+known_of_and v x w y k fits other below =
+    let left = or_each v (bit_and w (bit_not w64 y)) k ∙ ap (λ b. (bit_at v k == 1) || b) (and_not_each w y k other below) in
+    let right = or_each w (bit_and v (bit_not w64 x)) k ∙ ap (λ b. (bit_at w k == 1) || b) (and_not_each v x k fits below) in
+    and_each (bit_or v (bit_and w (bit_not w64 y))) (bit_or w (bit_and v (bit_not w64 x))) k ∙ (λ i. left i && right i)
+
+pub known_of_or : (v x w y k : ℕ) → (bit_at (bit_and (bit_or v (bit_and w y)) (bit_or w (bit_and v x))) k == 1) ≡ known_bit Or (bit_at v k == 1) (bit_at x k == 1) (bit_at w k == 1) (bit_at y k == 1)
+known_of_or v x w y k =
+    let left = or_each v (bit_and w y) k ∙ ap (λ b. (bit_at v k == 1) || b) (and_each w y k) in
+    let right = or_each w (bit_and v x) k ∙ ap (λ b. (bit_at w k == 1) || b) (and_each v x k) in
+    and_each (bit_or v (bit_and w y)) (bit_or w (bit_and v x)) k ∙ (λ i. left i && right i)

@@ -1,19 +1,23 @@
 -- How long rows are, a word of rows at a time.
-use Rattle.std.proofs.Common.{◌≡◌, ℕ, suc, ◌+◌, ◌-◌, ◌/◌, ◌^◌, ◌<◌, ◌≤◌, ◌==◌, ℤ, pos, ◌-ℤ◌, ◌≤ℤ◌, Bool, true, false, Option, List, [], ◌∷◌, ◌++◌, length, map, take, get_or, slice_index, if◌then◌else◌, bit_and, nat_eq, refl, ap, subst, subst₂, sym, ◌∙◌, append_assoc, arith}
+use Rattle.std.proofs.Common.{◌≡◌, ℕ, suc, ◌+◌, ◌-◌, ◌/◌, ◌%◌, ◌^◌, ◌<◌, ◌≤◌, ◌==◌, ℤ, pos, ◌-ℤ◌, ◌≤ℤ◌, Bool, true, false, Option, List, [], ◌∷◌, ◌++◌, length, map, take, get_or, slice_index, if◌then◌else◌, bit_and, nat_eq, refl, ap, subst, subst₂, sym, ◌∙◌, append_assoc, arith, inl, inr}
 use Rattle.std.specs.Int.{bit_at}
 use Rattle.std.specs.List.{range_with_len}
 use Rattle.std.proofs.Math.Seq.{take-add}
 use Rattle.std.proofs.lemmas.Int.{ints}
-use Rattle.std.proofs.lemmas.List.{ext_get_or, map-append}
+use Rattle.std.proofs.lemmas.Bool.{cases_lt}
+use Rattle.std.proofs.lemmas.List.{ext_get_or, get_or-append_right, get_or_append_left, length-append, map-append}
 use Rattle.std.proofs.lemmas.List.FromFn.{get_or-map-range_with_len, length-map-range_with_len, map-range_with_len_more}
 use Rattle.std.proofs.lemmas.Nat.Bits.{shr_and_one}
 use Rattle.std.proofs.lemmas.Option.{get_or_from_slice_get}
 use Rattle.std.proofs.lemmas.Simd.{map-map}
 use Rattle.arrow_types.specs.Slot.{Slot, Number}
-use Rattle.arrow_memory.specs.Offsets.{IsOffsets, last_of}
+use Rattle.arrow_memory.specs.Offsets.{IsOffsets, last_of, valid_length}
 use Rattle.arrow_memory.specs.Sliced.{sliced}
+use Rattle.arrow_memory.specs.Words.{bits_in, word_of}
+use Rattle.arrow_memory.proofs.BitmapLemmas.{bit_of-word_of}
 use Rattle.arrow_memory.proofs.OffsetLemmas.{at_most_last, offsets_rise}
 use Rattle.arrow_memory.proofs.SlicedLemmas.{length-sliced}
+use Rattle.arrow_memory.proofs.WordLemmas.{get_or-bits_in, word_of-bits_in}
 use Rattle.arrow_flat.specs.Parts.{FitsRows}
 use Rattle.arrow_flat.specs.Pieces.{pieces}
 use Rattle.arrow_flat.proofs.PartsLemmas.{fits_within}
@@ -83,3 +87,67 @@ slots_of_numbers slot number numbered xs ns same =
     every : (ys : _) → map slot ys ≡ map (λ x. Number (number x)) ys
     every [] = refl
     every (y ∷ ys) = λ i. numbered y i ∷ every ys i
+
+-- ---- a word in two halves
+
+-- a bit of 32 bits of a word
+pub part_bit : (word first k : ℕ) → first ≤ 32 → k < 32 → (bit_at (word / 2 ^ first % 4294967296) k == 1) ≡ (bit_at word (first + k) == 1)
+part_bit word first k half below =
+    let words = word ∷ [] in
+    let shift : first % 64 ≡ first = omega (arith, half) in
+    let index : first / 64 ≡ 0 = omega (arith, half) in
+    let part : word_of (bits_in words first 32) ≡ word / 2 ^ first % 4294967296 = word_of-bits_in words first 32 (omega (arith, half)) ∙ (λ t. slice_index words (index t) / 2 ^ shift t % 4294967296) in
+    let place : (first + k) / 64 ≡ 0 = omega (arith, half, below) in
+    let at : (first + k) % 64 ≡ first + k = omega (arith, half, below) in
+    ap (λ w. bit_at w k == 1) (sym part) ∙ (bit_of-word_of (bits_in words first 32) k ∙ (get_or-bits_in words first 32 k false below ∙ (λ t. bit_at (slice_index words (place t)) (at t) == 1)))
+
+-- the lengths of the rows of both
+pub halves_of_lengths : (word low high : ℕ) (os : List ℕ) (start m n : ℕ) → ((k : ℕ) → k < 32 → (bit_at low k == 1) ≡ (bit_at word (0 + k) == 1)) → ((k : ℕ) → k < 32 → (bit_at high k == 1) ≡ (bit_at word (32 + k) == 1)) → m ≤ 32 → n ≤ 32 → (0 < n → m ≡ 32)
+    → map (λ k. pos (word_length low os start k)) (range_with_len 0 m) ++ map (λ k. pos (word_length high os (start + m) k)) (range_with_len 0 n) ≡ map (λ k. pos (word_length word os start k)) (range_with_len 0 (m + n))
+halves_of_lengths word low high os start m n is_low is_high small others full = ext_get_or (pos 0) (first ++ second) all long each
+  where
+    first : List ℤ
+    first = map (λ k. pos (word_length low os start k)) (range_with_len 0 m)
+
+    second : List ℤ
+    second = map (λ k. pos (word_length high os (start + m) k)) (range_with_len 0 n)
+
+    all : List ℤ
+    all = map (λ k. pos (word_length word os start k)) (range_with_len 0 (m + n))
+
+    low_bit : (i : ℕ) → i < 32 → (bit_at low i == 1) ≡ (bit_at word i == 1)
+    low_bit i below =
+        let at : 0 + i ≡ i = omega arith in
+        is_low i below ∙ ap (λ q. bit_at word q == 1) at
+
+    firsts : length first ≡ m
+    firsts = length-map-range_with_len (λ k. pos (word_length low os start k)) 0 m
+
+    seconds : length second ≡ n
+    seconds = length-map-range_with_len (λ k. pos (word_length high os (start + m) k)) 0 n
+
+    total : length (first ++ second) ≡ m + n
+    total = length-append first second ∙ (λ t. firsts t + seconds t)
+
+    long : length (first ++ second) ≡ length all
+    long = total ∙ sym (length-map-range_with_len (λ k. pos (word_length word os start k)) 0 (m + n))
+
+    each : (i : ℕ) → i < length (first ++ second) → get_or (first ++ second) i (pos 0) ≡ get_or all i (pos 0)
+    each i within =
+        let inside : i < m + n = omega (arith, within, total) in
+        let read = get_or-map-range_with_len (λ k. pos (word_length word os start k)) 0 (m + n) i i (pos 0) inside (omega arith) in
+        elim (cases_lt i m) as (λ _. get_or (first ++ second) i (pos 0) ≡ get_or all i (pos 0)) [
+          | inl below ↦
+              get_or_append_left first second (pos 0) i (omega (arith, below, firsts))
+              ∙ (get_or-map-range_with_len (λ k. pos (word_length low os start k)) 0 m i i (pos 0) below (omega arith)
+              ∙ (ap (λ bit. pos (valid_length bit os (start + i))) (low_bit i (omega (arith, below, small))) ∙ sym read))
+          | inr past ↦
+              let whole : m ≡ 32 = full (omega (arith, past, inside)) in
+              let place : i - m < n = omega (arith, past, inside) in
+              let at : 32 + (i - m) ≡ i = omega (arith, past, whole) in
+              let bit : (bit_at high (i - m) == 1) ≡ (bit_at word i == 1) = is_high (i - m) (omega (arith, place, others)) ∙ ap (λ q. bit_at word q == 1) at in
+              let row : start + m + (i - m) ≡ start + i = omega (arith, past) in
+              get_or-append_right first second m i (pos 0) firsts (omega (arith, past))
+              ∙ (get_or-map-range_with_len (λ k. pos (word_length high os (start + m) k)) 0 n (i - m) (i - m) (pos 0) place (omega arith)
+              ∙ ((λ t. pos (valid_length (bit t) os (row t))) ∙ sym read))
+        ]

@@ -1,4 +1,5 @@
 pub mod AnswerLemmas
+pub mod AsciiLemmas
 pub mod ConnectiveLemmas
 pub mod KeptLemmas
 pub mod LawLemmas

@@ -4,7 +4,7 @@ use Rattle.std.specs.List.{All}
 use Rattle.std.specs.Result.{IsErrAnd}
 use Rattle.std.proofs.lemmas.Int.{ints}
 use Rattle.std.proofs.lemmas.Option.{get_or_from_slice_get}
-use Rattle.std.proofs.lemmas.List.{take-append-le, drop-append-le, take_all, length-drop, length-append, length-take, take_more}
+use Rattle.std.proofs.lemmas.List.{take-append-le, drop-append-le, take_all, length-drop, length-append, take_more}
 use Rattle.std.proofs.Math.Seq.{drop-append_seam}
 use Rattle.arrow_memory.proofs.SlicedLemmas.{sliced-sliced}
 use Rattle.arrow_types.specs.declared.error.Error.{Error}
@@ -117,10 +117,10 @@ module _ (f : List ℕ → List ℕ) (v : Option (List Bool)) (os bytes : List �
       part ∙ (ap f row_is ∙ sym (read ∙ ap (λ t. if t then f (get_or (pieces os bytes) i []) else []) (sym told ∙ is)))
 
 -- a part of what lies between two places, as it lies among all bytes
-pub part_moved : (from bytes : List ℕ) (begin end first last : ℕ) → from ≡ bytes → first ≤ last → last ≤ length (sliced from begin (end - begin)) → sliced bytes (begin + first) (begin + last - (begin + first)) ≡ sliced (sliced from begin (end - begin)) first (last - first)
+pub part_moved : (from bytes : List ℕ) (begin end first last : ℕ) → from ≡ bytes → first ≤ last → last ≤ end - begin → sliced bytes (begin + first) (begin + last - (begin + first)) ≡ sliced (sliced from begin (end - begin)) first (last - first)
 part_moved from bytes begin end first last lent rises within =
     let count : begin + last - (begin + first) ≡ last - first = omega arith in
-    ap (sliced bytes (begin + first)) count ∙ sym (ap (λ xs. sliced (sliced xs begin (end - begin)) first (last - first)) lent ∙ sliced-sliced bytes begin (end - begin) first (last - first) (omega (arith, length-take (end - begin) (drop begin from))))
+    ap (sliced bytes (begin + first)) count ∙ sym (ap (λ xs. sliced (sliced xs begin (end - begin)) first (last - first)) lent ∙ sliced-sliced bytes begin (end - begin) first (last - first) (omega (arith, rises, within)))
 
 -- ---- errors
 

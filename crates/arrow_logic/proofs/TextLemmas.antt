@@ -220,11 +220,13 @@ IsAscii-cut start (Some k) bytes ascii =
     IsAscii-take _ k (IsAscii-drop bytes (part_begin start (length bytes)) ascii)
 
 -- their characters are their bytes
+pub ascii_cut : (row : List ℕ) → IsAscii row → IsCutByBytes text_cut row
+ascii_cut row ascii start len =
+    ap (λ cs. encode_utf8_all (cut start len cs)) (chars-IsAscii row ascii) ∙ encodes-IsAscii (cut start len row) (IsAscii-cut start len row ascii)
+
 pub ascii_by_bytes : (bytes : List ℕ) → IsAscii bytes → (place n : ℕ) → IsCutByBytes text_cut (sliced bytes place n)
-ascii_by_bytes bytes ascii place n start len =
-    let row = sliced bytes place n in
-    let row_ascii = IsAscii-take (drop place bytes) n (IsAscii-drop bytes place ascii) in
-    ap (λ cs. encode_utf8_all (cut start len cs)) (chars-IsAscii row row_ascii) ∙ encodes-IsAscii (cut start len row) (IsAscii-cut start len row row_ascii)
+ascii_by_bytes bytes ascii place n =
+    ascii_cut (sliced bytes place n) (IsAscii-take (drop place bytes) n (IsAscii-drop bytes place ascii))
 
 -- what a number and bytes have together: the bits that are set in any of them
 abbrev pub together : ℕ → List ℕ → ℕ

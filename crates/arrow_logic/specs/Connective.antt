@@ -1,5 +1,5 @@
 -- The two connectives, and what each logic makes of two rows by one of them.
-use Rattle.std.specs.Prelude.{Bool, true, false, List, Option, option_map}
+use Rattle.std.specs.Prelude.{Bool, true, false, not, ◌&&◌, ◌||◌, List, Option, option_map}
 use Rattle.arrow_types.specs.Logic.{both, either, kleene_both, kleene_either}
 use Rattle.arrow_types.specs.Slot.{Slot, Boolean}
 use Rattle.arrow_memory.specs.Bits.{both_bits, either_bits}
@@ -35,3 +35,8 @@ decides _ _ = false
 -- the bits of a validity, and those of the rows at which the other side decides
 abbrev pub known_side : Option (List Bool) → List Bool → Option (List Bool)
 known_side validity deciding = option_map (λ bits. either_bits bits deciding) validity
+
+-- whether a row of Kleene's logic is known, by the validity and the value of each side
+abbrev pub known_bit : Connective → Bool → Bool → Bool → Bool → Bool
+known_bit And v x w y = (v || (w && not y)) && (w || (v && not x))
+known_bit Or v x w y = (v || (w && y)) && (w || (v && x))

@@ -14,7 +14,6 @@ ghost use Rattle.arrow_logic.specs.Validities.{combined};
 use crate::boolean;
 use crate::connective::Connective;
 use crate::truths::truths;
-use crate::utils::combine_validities;
 use crate::validity::shared;
 use arrow_flat::array::BooleanArray;
 use arrow_flat::scalar::BooleanScalar;
@@ -124,11 +123,34 @@ fn connect(
     ensures rows { IfOk result (λ array. boolean_rows array ≡ row_by_row (kleene_by connective) (boolean_rows lhs.now) (boolean_rows rhs.now)) }
     ensures err { IsOkUnless result Error.OutOfMemory }
 {
-    let left = known_side(alloc, connective, lhs.validity(), rhs)?;
-    let right = known_side(alloc, connective, rhs.validity(), lhs)?;
-    let validity = combine_validities(alloc, left.as_ref(), right.as_ref())?;
+    // A validity has a bit for each value.
+    let _ = lhs.validity();
+    let _ = rhs.validity();
+    let validity = known_rows(alloc, connective, lhs, rhs)?;
     let values = connective.of_bits(alloc, lhs.values(), rhs.values())?;
     Ok(truths(values, validity))
+}
+
+/// The rows of two arrays that are known: none is said to be where neither has a validity. Of two with one it is one pass.
+fn known_rows(
+    alloc: Global,
+    connective: Connective,
+    lhs: &BooleanArray,
+    rhs: &BooleanArray,
+) -> Result<Option<Bitmap>, Error>
+    requires { length (boolean_rows lhs.now) ≡ length (boolean_rows rhs.now) }
+    ensures ok { IfOk result (λ bits. bits ≡ combined (known_side lhs.now.validity (map (decides connective) (boolean_rows rhs.now))) (known_side rhs.now.validity (map (decides connective) (boolean_rows lhs.now)))) }
+    ensures err { IsOkUnless result Error.OutOfMemory }
+{
+    let (left, right) = (lhs.values(), rhs.values());
+    match (lhs.validity(), rhs.validity()) {
+        (Some(left_valid), Some(right_valid)) => {
+            let known = connective.known(alloc, left_valid, left, right_valid, right)?;
+            Ok(Some(known))
+        }
+        (validity, None) => known_side(alloc, connective, validity, rhs),
+        (None, validity) => known_side(alloc, connective, validity, lhs),
+    }
 }
 
 /// The rows that a validity marks as valid, and those at which the other side decides; none where there is no validity.

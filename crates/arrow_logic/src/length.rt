@@ -29,6 +29,9 @@ use arrow_types::error::{ArgumentFault, Error};
 use arrow_types::types::Offset;
 use std::alloc::Global;
 
+/// Half as many bits as a word has.
+const HALF_BITS: usize = 32;
+
 /// How many bytes each text has: an array of `Int32` of one of `Utf8`, and of `Int64` of one of `LargeUtf8`, null where
 /// the text is. Beneath a null 0 is stored, whatever lies beneath it there.
 ///
@@ -131,7 +134,7 @@ fn word_of_rows(validity: Option<&Bitmap>, j: usize) -> u64
 }
 
 /// Appends how many bytes each of `count` rows from row `start` on has, and 0 where its bit of the word is not set. There
-/// is room for them, and no branch depends on a bit.
+/// is room for them. Those of a whole word are two halves with a count that is known when the program is compiled.
 fn append_lengths<O: Offset>(
     lengths: &mut Vec<O>,
     offsets: &OffsetsBuffer<O>,
@@ -146,14 +149,51 @@ fn append_lengths<O: Offset>(
     ensures len { vec_len lengths.new ≡ vec_len lengths.old + count }
     ensures capacity { vec_capacity lengths.new ≡ vec_capacity lengths.old }
 {
+    // The places of rows are below 2 ^ 64.
+    let _ = offsets.len();
+    let (low, high) = (half_of(word, 0), half_of(word, HALF_BITS));
+    if count == WORD_BITS {
+        append_half(lengths, offsets, start, low, HALF_BITS);
+        append_half(lengths, offsets, start + HALF_BITS, high, HALF_BITS);
+    } else {
+        let first = count.min(HALF_BITS);
+        append_half(lengths, offsets, start, low, first);
+        append_half(lengths, offsets, start + first, high, count - first);
+    }
+}
+
+/// The same of 32 rows at most, by half a word. No branch depends on a bit, so that several rows are measured at once.
+#[inline(always)]
+fn append_half<O: Offset>(
+    lengths: &mut Vec<O>,
+    offsets: &OffsetsBuffer<O>,
+    start: usize,
+    half: u32,
+    count: usize,
+)
+    requires in_half { count ≤ 32 }
+    requires within { start + count < length offsets.now }
+    requires room { vec_len lengths.old + count ≤ vec_capacity lengths.old }
+    ensures items { map O.number lengths.new.items ≡ map O.number lengths.old.items ++ map (λ k. pos (word_length half offsets.now start k)) (range_with_len 0 count) }
+    ensures len { vec_len lengths.new ≡ vec_len lengths.old + count }
+    ensures capacity { vec_capacity lengths.new ≡ vec_capacity lengths.old }
+{
     // Where a row ends is at most the greatest offset of the type.
     let _ = offsets.range(start, count);
     let offsets = offsets.buffer();
     for k in 0..count {
         let begin = offsets[start + k];
         let end = offsets[start + k + 1];
-        lengths.push_reserved(length_if(begin, end, word >> k & 1 == 1));
+        lengths.push_reserved(length_if(begin, end, half >> k & 1 == 1));
     }
+}
+
+/// 32 bits of a word.
+fn half_of(word: u64, first: usize) -> u32
+    requires { first ≤ 32 }
+    ensures { (k : ℕ) → k < 32 → (bit_at result k == 1) ≡ (bit_at word (first + k) == 1) }
+{
+    ((word >> first) % 4_294_967_296) as u32
 }
 
 /// How long a row is that lies between these offsets: 0 where it is not valid.

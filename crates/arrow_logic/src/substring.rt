@@ -199,7 +199,7 @@ fn span_of<O: Offset, K: Units>(
         return (0, 0);
     }
     let (begin, end) = rows.offsets().start_end(row);
-    let bytes = &rows.values().as_slice()[begin..end];
-    let (first, last) = span_in::<K>(bytes, start, count, by_bytes);
+    let from = &rows.values().as_slice()[begin..];
+    let (first, last) = span_in::<K>(from, end - begin, start, count, by_bytes);
     (begin + first, begin + last)
 }

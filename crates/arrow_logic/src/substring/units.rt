@@ -1,6 +1,6 @@
 //! What a part of a row is counted in: the characters of a text, or bytes.
 
-ghost use Rattle.std.specs.Prelude.{◌≡◌, ◌↔◌, ◌<◌, ◌≤◌, ◌-◌, ℕ, ℤ, Option, List, [], drop, length, count_by, encode_utf8_all, IsAscii, IsTrue, IsUtf8};
+ghost use Rattle.std.specs.Prelude.{◌≡◌, ◌↔◌, ◌<◌, ◌≤◌, ◌-◌, ℕ, ℤ, Option, List, [], drop, length, slice_index, take, count_by, encode_utf8_all, IsAscii, IsTrue, IsUtf8};
 ghost use Rattle.std.specs.Str.{chars};
 ghost use Rattle.std.proofs.lemmas.Str.{IsUtf8-nil};
 ghost use Rattle.arrow_types.specs.Part.{cut, part, part_begin};
@@ -10,6 +10,10 @@ ghost use Rattle.arrow_logic.specs.Substring.{IsCutByBytes, begins, skipped, tex
 ghost use Rattle.arrow_logic.specs.SubstringLaws.{IsUtf8-cut, part_of_bytes, part_of_text};
 
 use arrow_flat::array::{Binary, ByteKind, Text};
+use std::simd::prelude::*;
+
+/// How many bytes are looked at together.
+const BLOCK: usize = 16;
 
 /// Rows of bytes that parts can be taken of.
 pub(crate) trait Units: ByteKind {
@@ -29,6 +33,11 @@ pub(crate) trait Units: ByteKind {
     /// Whether each unit is known to be a byte in every row that lies among these bytes.
     fn are_bytes(bytes: &[u8]) -> bool
         ensures { IsTrue result → (place len : ℕ) → IsCutByBytes cut (sliced bytes.now place len) };
+
+    /// Whether each unit is known to be a byte in the row of the first `len` of these bytes, by one look.
+    fn are_bytes_in_block(from: &[u8], len: usize) -> bool
+        requires { len ≤ length from.now }
+        ensures { IsTrue result → IsCutByBytes cut (take len from.now) };
 
     ghost is_part: { (start : ℤ) (count : Option ℕ) (bytes : List ℕ) → part start count (Self.slot bytes) ≡ Self.slot (cut start count bytes) };
 
@@ -54,6 +63,10 @@ impl Units for Text {
         are_ascii(bytes)
     }
 
+    fn are_bytes_in_block(from: &[u8], len: usize) -> bool {
+        are_ascii_in_block(from, len)
+    }
+
     ghost is_part = { part_of_text };
 
     ghost allows_part = { IsUtf8-cut };
@@ -72,6 +85,10 @@ impl Units for Binary {
         true
     }
 
+    fn are_bytes_in_block(_from: &[u8], _len: usize) -> bool {
+        true
+    }
+
     ghost is_part = { part_of_bytes };
 
     ghost allows_part = { λ start count bytes any. any };
@@ -79,25 +96,30 @@ impl Units for Binary {
     ghost allows_none = { tt };
 }
 
-/// Where the part of a row lies among its bytes, which is counted where each unit is a byte.
+/// Where the part of a row lies, which is the first `len` of these bytes: it is counted in bytes where each unit is one.
 #[inline(always)]
 pub(crate) fn span_in<K: Units>(
-    row: &[u8],
+    from: &[u8],
+    len: usize,
     start: i64,
     count: Option<u64>,
     by_bytes: bool,
 ) -> (usize, usize)
-    requires allowed { K.Allows row.now }
-    requires by_bytes { IsTrue by_bytes → IsCutByBytes K.cut row.now }
+    requires row { len ≤ length from.now }
+    requires allowed { K.Allows (take len from.now) }
+    requires by_bytes { IsTrue by_bytes → IsCutByBytes K.cut (take len from.now) }
     ensures rises { result.0 ≤ result.1 }
-    ensures within { result.1 ≤ length row.now }
-    ensures part { sliced row.now result.0 (result.1 - result.0) ≡ K.cut start count row.now }
+    ensures within { result.1 ≤ len }
+    ensures part { sliced (take len from.now) result.0 (result.1 - result.0) ≡ K.cut start count (take len from.now) }
 {
+    let row = &from[..len];
     if by_bytes {
-        span_of_bytes(row, start, count)
-    } else {
-        K::span(row, start, count)
+        return span_of_bytes(row, start, count);
     }
+    if K::are_bytes_in_block(from, len) {
+        return span_of_bytes(row, start, count);
+    }
+    K::span(row, start, count)
 }
 
 /// Where a part lies among the bytes of a row, each of which is a unit.
@@ -130,6 +152,30 @@ fn are_ascii(bytes: &[u8]) -> bool
         together |= byte;
     }
     together < 0x80
+}
+
+/// Whether the first `len` bytes are known to be below 0x80: where they are 16 at most, and 16 can be read.
+#[inline(always)]
+fn are_ascii_in_block(from: &[u8], len: usize) -> bool
+    requires { len ≤ length from.now }
+    ensures { IsTrue result → IsAscii (take len from.now) }
+{
+    if from.len() < BLOCK {
+        return false;
+    }
+    len <= ascii_at_front(from)
+}
+
+/// How many of 16 bytes come before the first one that is not below 0x80.
+#[inline(always)]
+fn ascii_at_front(from: &[u8]) -> usize
+    requires { 16 ≤ length from.now }
+    ensures { (k : ℕ) → k < result → slice_index from.now k < 128 }
+{
+    let high = u8x16::from_slice(from)
+        .simd_ge(u8x16::splat(0x80))
+        .to_bitmask();
+    BLOCK.min(high.trailing_zeros() as usize)
 }
 
 /// Whether a byte of a text begins a character, and does not go on with one.

@@ -1,40 +1,37 @@
-use Rattle.std.proofs.Common.{◌+◌, arith}
-use Rattle.std.proofs.lemmas.Int.{ints}
-use Rattle.arrow_memory.proofs.OffsetLemmas.{number_at, offsets_rise}
-use Rattle.arrow_logic.proofs.LengthLemmas.{length_next}
+use Rattle.std.proofs.Common.{◌≡◌, ◌+◌, ◌-◌, ◌++◌, ap, map, pos, ◌∙◌, append_assoc, arith}
+use Rattle.std.specs.List.{range_with_len}
+use Rattle.arrow_logic.specs.Length.{word_length}
+use Rattle.arrow_logic.proofs.LengthLemmas.{halves_of_lengths}
 use Rattle.arrow_logic.proofs.length.append_lengths.Goals as goal
 
-pub length_if-requires-clause-starts : goal.length_if-requires-clause-starts
-length_if-requires-clause-starts g c =
-    let os = c.args.offsets.now in
-    let i = c.args.start + c.loop-k.k in
-    let begin = number_at g.O.NativeOrd.number c.buffer-offsets.result.now os i c.index-offsets-start.result c.buffer-offsets.ensures.values (omega arith) c.index-offsets-start.is in
-    omega (arith, ints, begin)
+pub overflow_add-start : goal.overflow_add-start
+overflow_add-start g c = record { fits = omega (arith, c.requires.within, c.if-count-eq-WORD_BITS.true, c.len.ensures, c.len.type_inv) }
 
-pub length_if-requires-clause-rises : goal.length_if-requires-clause-rises
-length_if-requires-clause-rises g c =
-    let os = c.args.offsets.now in
-    let i = c.args.start + c.loop-k.k in
-    let begin = number_at g.O.NativeOrd.number c.buffer-offsets.result.now os i c.index-offsets-start.result c.buffer-offsets.ensures.values (omega arith) c.index-offsets-start.is in
-    let end = number_at g.O.NativeOrd.number c.buffer-offsets.result.now os (i + 1) c.index-offsets-start-in-loop-k.result c.buffer-offsets.ensures.values (omega arith) c.index-offsets-start-in-loop-k.is in
-    omega (arith, ints, begin, end, offsets_rise os i (i + 1) c.buffer-offsets.ensures.sound (omega arith) (omega arith))
+pub overflow_add-start-else-count-eq-WORD_BITS : goal.overflow_add-start-else-count-eq-WORD_BITS
+overflow_add-start-else-count-eq-WORD_BITS g c = record { fits = omega (arith, c.requires.within, c.min-first.ensures, c.len.ensures, c.len.type_inv) }
 
-pub length_if-requires-clause-fits : goal.length_if-requires-clause-fits
-length_if-requires-clause-fits g c =
-    let os = c.args.offsets.now in
-    let i = c.args.start + c.loop-k.k in
-    let end = number_at g.O.NativeOrd.number c.buffer-offsets.result.now os (i + 1) c.index-offsets-start-in-loop-k.result c.buffer-offsets.ensures.values (omega arith) c.index-offsets-start-in-loop-k.is in
-    omega (arith, ints, end, c.range.ensures.end, c.range.ensures.fits, offsets_rise os (i + 1) (c.args.start + c.args.count) c.buffer-offsets.ensures.sound (omega arith) c.requires.within)
-
-pub loop-k-preserved : goal.loop-k-preserved
-loop-k-preserved g c =
-    let os = c.args.offsets.now in
-    let i = c.args.start + c.loop-k.k in
+pub returns-then-count-eq-WORD_BITS-clause-items : goal.returns-then-count-eq-WORD_BITS-clause-items
+returns-then-count-eq-WORD_BITS-clause-items g c =
     let number = g.O.NativeOrd.number in
-    let begin = number_at number c.buffer-offsets.result.now os i c.index-offsets-start.result c.buffer-offsets.ensures.values (omega arith) c.index-offsets-start.is in
-    let end = number_at number c.buffer-offsets.result.now os (i + 1) c.index-offsets-start-in-loop-k.result c.buffer-offsets.ensures.values (omega arith) c.index-offsets-start-in-loop-k.is in
-    record {
-      items = length_next number c.loop-k.lengths.items _ c.length_if.result _ c.args.word os c.args.start c.loop-k.k (number c.index-offsets-start.result) (number c.index-offsets-start-in-loop-k.result) (omega (arith, c.requires.in_word)) c.push_reserved.ensures.items c.length_if.ensures begin end (omega (arith, ints, begin, end, offsets_rise os i (i + 1) c.buffer-offsets.ensures.sound (omega arith) (omega arith))) c.loop-k.invariant.items;
-      len = omega (arith, c.push_reserved.ensures.len, c.loop-k.invariant.len);
-      capacity = omega (arith, c.push_reserved.ensures.capacity, c.loop-k.invariant.capacity);
-    }
+    let os = c.args.offsets.now in
+    let start = c.args.start in
+    let first = map (λ k. pos (word_length c.half_of-low.result os start k)) (range_with_len 0 32) in
+    let second = map (λ k. pos (word_length c.half_of-high.result os (start + 32) k)) (range_with_len 0 32) in
+    let joined = halves_of_lengths c.args.word c.half_of-low.result c.half_of-high.result os start 32 32 c.half_of-low.ensures c.half_of-high.ensures (omega arith) (omega arith) (λ some. omega arith) in
+    let all : 64 ≡ c.args.count = omega (arith, c.if-count-eq-WORD_BITS.true) in
+    c.append_half-then-count-eq-WORD_BITS.ensures.items
+    ∙ (ap (λ old. old ++ second) c.append_half.ensures.items ∙ (append_assoc (map number c.args.lengths.now.items) first second ∙ ap (λ new. map number c.args.lengths.now.items ++ new) (joined ∙ ap (λ n. map (λ k. pos (word_length c.args.word os start k)) (range_with_len 0 n)) all)))
+
+pub returns-else-count-eq-WORD_BITS-clause-items : goal.returns-else-count-eq-WORD_BITS-clause-items
+returns-else-count-eq-WORD_BITS-clause-items g c =
+    let number = g.O.NativeOrd.number in
+    let os = c.args.offsets.now in
+    let start = c.args.start in
+    let m = c.min-first.result in
+    let n = c.args.count - m in
+    let first = map (λ k. pos (word_length c.half_of-low.result os start k)) (range_with_len 0 m) in
+    let second = map (λ k. pos (word_length c.half_of-high.result os (start + m) k)) (range_with_len 0 n) in
+    let joined = halves_of_lengths c.args.word c.half_of-low.result c.half_of-high.result os start m n c.half_of-low.ensures c.half_of-high.ensures (omega (arith, c.min-first.ensures)) (omega (arith, c.min-first.ensures, c.requires.in_word)) (λ some. omega (arith, some, c.min-first.ensures)) in
+    let all : m + n ≡ c.args.count = omega (arith, c.min-first.ensures) in
+    c.append_half-else-count-eq-WORD_BITS-2.ensures.items
+    ∙ (ap (λ old. old ++ second) c.append_half-else-count-eq-WORD_BITS.ensures.items ∙ (append_assoc (map number c.args.lengths.now.items) first second ∙ ap (λ new. map number c.args.lengths.now.items ++ new) (joined ∙ ap (λ n. map (λ k. pos (word_length c.args.word os start k)) (range_with_len 0 n)) all)))

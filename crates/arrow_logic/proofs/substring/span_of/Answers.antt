@@ -1,5 +1,6 @@
-use Rattle.std.proofs.Common.{◌≡◌, ◌-◌, ◌∙◌, [], ap, arith, subst, sym, rules, SFits, w64, to_z, of_z}
+use Rattle.std.proofs.Common.{◌≡◌, ◌-◌, ◌∙◌, [], ap, arith, subst, sym, take, rules, SFits, w64, to_z, of_z}
 use Rattle.std.proofs.lemmas.Int.{to_z-of_z}
+use Rattle.std.proofs.lemmas.List.{take_rest}
 use Rattle.arrow_memory.specs.Sliced.{sliced}
 use Rattle.arrow_flat.specs.ByteRows.{byte_slots}
 use Rattle.arrow_flat.specs.Parts.{FitsRows}
@@ -24,13 +25,13 @@ returns-then-not-is_valid-clause-part g c =
 pub span_in-first-requires-clause-allowed : goal.span_in-first-requires-clause-allowed
 span_in-first-requires-clause-allowed g c =
     let values = c.args.rows.now.values in
-    let row = row_read values.offsets c.offsets.result.now values.bytes c.as_slice.result.now c.args.row c.start_end-begin.result.0 c.start_end-begin.result.1 c.offsets.ensures (c.as_slice.ensures ∙ c.values.ensures.same) c.start_end-begin.ensures.start c.start_end-begin.ensures.end c.requires.within in
+    let row = ap (take (c.start_end-begin.result.1 - c.start_end-begin.result.0)) (take_rest c.as_slice.result.now c.start_end-begin.result.0) ∙ row_read values.offsets c.offsets.result.now values.bytes c.as_slice.result.now c.args.row c.start_end-begin.result.0 c.start_end-begin.result.1 c.offsets.ensures (c.as_slice.ensures ∙ c.values.ensures.same) c.start_end-begin.ensures.start c.start_end-begin.ensures.end c.requires.within in
     subst g.K.ByteKind.Allows (sym row) (c.values.ensures.allowed c.args.row [] (omega (arith, length-pieces values.offsets values.bytes, c.requires.within)))
 
 pub span_in-first-requires-clause-by_bytes : goal.span_in-first-requires-clause-by_bytes
 span_in-first-requires-clause-by_bytes g c = λ told.
     let values = c.args.rows.now.values in
-    let row = row_read values.offsets c.offsets.result.now values.bytes c.as_slice.result.now c.args.row c.start_end-begin.result.0 c.start_end-begin.result.1 c.offsets.ensures (c.as_slice.ensures ∙ c.values.ensures.same) c.start_end-begin.ensures.start c.start_end-begin.ensures.end c.requires.within in
+    let row = ap (take (c.start_end-begin.result.1 - c.start_end-begin.result.0)) (take_rest c.as_slice.result.now c.start_end-begin.result.0) ∙ row_read values.offsets c.offsets.result.now values.bytes c.as_slice.result.now c.args.row c.start_end-begin.result.0 c.start_end-begin.result.1 c.offsets.ensures (c.as_slice.ensures ∙ c.values.ensures.same) c.start_end-begin.ensures.start c.start_end-begin.ensures.end c.requires.within in
     subst (IsCutByBytes g.K.Units.cut) (sym row) (c.requires.by_bytes told c.args.row [] (omega (arith, length-pieces values.offsets values.bytes, c.requires.within)))
 
 pub returns-clause-part : goal.returns-clause-part
@@ -39,5 +40,6 @@ returns-clause-part g c =
     let row = row_read values.offsets c.offsets.result.now values.bytes c.as_slice.result.now c.args.row c.start_end-begin.result.0 c.start_end-begin.result.1 c.offsets.ensures (c.as_slice.ensures ∙ c.values.ensures.same) c.start_end-begin.ensures.start c.start_end-begin.ensures.end c.requires.within in
     let fits : SFits w64 c.args.start = search rules in
     let start : to_z w64 (of_z w64 c.args.start) ≡ c.args.start = to_z-of_z w64 c.args.start fits in
+    let part = subst (λ xs. sliced (take (c.start_end-begin.result.1 - c.start_end-begin.result.0) xs) c.span_in-first.result.0 (c.span_in-first.result.1 - c.span_in-first.result.0) ≡ g.K.Units.cut (to_z w64 (of_z w64 c.args.start)) c.args.count (take (c.start_end-begin.result.1 - c.start_end-begin.result.0) xs)) (take_rest c.as_slice.result.now c.start_end-begin.result.0) c.span_in-first.ensures.part in
     let moved = part_moved c.as_slice.result.now values.bytes c.start_end-begin.result.0 c.start_end-begin.result.1 c.span_in-first.result.0 c.span_in-first.result.1 (c.as_slice.ensures ∙ c.values.ensures.same) c.span_in-first.ensures.rises c.span_in-first.ensures.within in
-    moved ∙ part_of_row (g.K.Units.cut c.args.start c.args.count) c.args.rows.now.validity values.offsets values.bytes c.args.row c.requires.within c.requires.fits c.is_valid.result _ _ c.is_valid.ensures.bit c.if-not-is_valid.false row (c.span_in-first.ensures.part ∙ ap (λ z. g.K.Units.cut z c.args.count (sliced c.as_slice.result.now c.start_end-begin.result.0 (c.start_end-begin.result.1 - c.start_end-begin.result.0))) start)
+    moved ∙ part_of_row (g.K.Units.cut c.args.start c.args.count) c.args.rows.now.validity values.offsets values.bytes c.args.row c.requires.within c.requires.fits c.is_valid.result _ _ c.is_valid.ensures.bit c.if-not-is_valid.false row (part ∙ ap (λ z. g.K.Units.cut z c.args.count (sliced c.as_slice.result.now c.start_end-begin.result.0 (c.start_end-begin.result.1 - c.start_end-begin.result.0))) start)
