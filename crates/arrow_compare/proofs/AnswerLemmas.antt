@@ -1,14 +1,13 @@
 -- Answers to the values of a dictionary, taken by its keys, and answers that are null.
-use Rattle.std.proofs.Common.{arith, ◌≡◌, ◌∙◌, pos, negsuc, Bool, true, false, not, Option, Some, None, List, [], ◌∷◌, length, map, refl, ap, subst, sym}
-use Rattle.std.specs.Prelude.{◌&&◌, ◌||◌, slice_index_or, unwrap_or, option_map}
-use Rattle.std.proofs.lemmas.List.{length-map}
+use Rattle.std.proofs.Common.{arith, ◌≡◌, ◌∙◌, pos, negsuc, Bool, true, false, not, Option, Some, None, List, [], ◌∷◌, length, map, refl, ap, sym}
+use Rattle.std.specs.Prelude.{slice_index_or, unwrap_or, option_map}
+use Rattle.std.proofs.Math.Bool.{and-false, and-true, or-false, or-true}
 use Rattle.std.proofs.lemmas.List.Elements.{All-tail}
 use Rattle.std.proofs.lemmas.Option.{slice_get-get_or, slice_get-map}
 use Rattle.arrow_types.specs.ArrowType.{ArrowType, boolean, plain}
 use Rattle.arrow_types.specs.Rows.{gather, gathered, mask, masked}
 use Rattle.arrow_types.specs.Slot.{Slot, Null, Boolean, Number, Dict}
 use Rattle.arrow_memory.specs.Bits.{both_bits, either_bits}
-use Rattle.arrow_flat.specs.Parts.{FitsRows}
 use Rattle.arrow_arrays.specs.Any.{any_array_rows, layout_of}
 use Rattle.arrow_arrays.specs.KeyedParts.{AreKeys, IsKey, KeyedParts, key_in, keys_in}
 use Rattle.arrow_arrays.specs.Layout.{keyed_item, rows}
@@ -22,7 +21,6 @@ use Rattle.arrow_compare.specs.Filled.{known_or}
 key_answer : (f h : Slot → Slot) → ((x : Slot) → f (Dict x) ≡ h (f x)) → f Null ≡ h Null → (xs : List Slot) (key : Slot) → IsKey (length xs) key → h (gathered (map f xs) (plain boolean) key) ≡ f (keyed_item xs (key_in key))
 key_answer f h named null xs (Number (pos n)) within =
     ap (λ o. h (unwrap_or o Null)) (slice_get-map f xs n ∙ ap (option_map f) (slice_get-get_or xs n Null within)) ∙ sym (named (slice_index_or xs n Null))
-key_answer f h named null xs (Number (negsuc n)) within = absurd within
 key_answer f h named null xs Null within = sym null
 key_answer f h named null xs key within = absurd within
 
@@ -43,49 +41,24 @@ none_unknown : (spare : Bool) (xs : List Bool) → map Boolean xs ≡ map (known
 none_unknown spare [] = refl
 none_unknown spare (x ∷ xs) = λ i. Boolean x ∷ none_unknown spare xs i
 
-and_true : (b : Bool) → b && true ≡ b
-and_true true = refl
-and_true false = refl
+unknown_false : (bits xs : List Bool) → map Boolean (both_bits xs bits) ≡ map (known_or false) (mask bits (map Boolean xs))
+unknown_false [] [] = refl
+unknown_false (true ∷ bits) (x ∷ xs) = λ i. Boolean (and-true x i) ∷ unknown_false bits xs i
+unknown_false (false ∷ bits) (x ∷ xs) = λ i. Boolean (and-false x i) ∷ unknown_false bits xs i
+unknown_false bits xs = refl
 
-and_false : (b : Bool) → b && false ≡ false
-and_false true = refl
-and_false false = refl
-
-or_false : (b : Bool) → b || false ≡ b
-or_false true = refl
-or_false false = refl
-
-or_true : (b : Bool) → b || true ≡ true
-or_true true = refl
-or_true false = refl
-
-unknown_false : (bits xs : List Bool) → length bits ≡ length xs → map Boolean (both_bits xs bits) ≡ map (known_or false) (mask bits (map Boolean xs))
-unknown_false [] [] fits = refl
-unknown_false [] (x ∷ xs) fits = absurd (omega (arith, fits))
-unknown_false (b ∷ bits) [] fits = absurd (omega (arith, fits))
-unknown_false (true ∷ bits) (x ∷ xs) fits =
-    λ i. Boolean (and_true x i) ∷ unknown_false bits xs (omega (arith, fits)) i
-unknown_false (false ∷ bits) (x ∷ xs) fits =
-    λ i. Boolean (and_false x i) ∷ unknown_false bits xs (omega (arith, fits)) i
-
-unknown_true : (bits xs : List Bool) → length bits ≡ length xs → map Boolean (either_bits xs (map not bits)) ≡ map (known_or true) (mask bits (map Boolean xs))
-unknown_true [] [] fits = refl
-unknown_true [] (x ∷ xs) fits = absurd (omega (arith, fits))
-unknown_true (b ∷ bits) [] fits = absurd (omega (arith, fits))
-unknown_true (true ∷ bits) (x ∷ xs) fits =
-    λ i. Boolean (or_false x i) ∷ unknown_true bits xs (omega (arith, fits)) i
-unknown_true (false ∷ bits) (x ∷ xs) fits =
-    λ i. Boolean (or_true x i) ∷ unknown_true bits xs (omega (arith, fits)) i
+unknown_true : (bits xs : List Bool) → map Boolean (either_bits xs (map not bits)) ≡ map (known_or true) (mask bits (map Boolean xs))
+unknown_true [] [] = refl
+unknown_true (true ∷ bits) (x ∷ xs) = λ i. Boolean (or-false x i) ∷ unknown_true bits xs i
+unknown_true (false ∷ bits) (x ∷ xs) = λ i. Boolean (or-true x i) ∷ unknown_true bits xs i
+unknown_true bits xs = refl
 
 -- the same of answers by what is stored and their validity
 pub none_null : (spare : Bool) (v : Option (List Bool)) (xs : List Bool) → None ≡ v → map Boolean xs ≡ map (known_or spare) (masked v (map Boolean xs))
-none_null spare v xs same =
-    subst (λ o. map Boolean xs ≡ map (known_or spare) (masked o (map Boolean xs))) same (none_unknown spare xs)
+none_null spare v xs same = rw (← same) (none_unknown spare xs)
 
-pub nulls_false : (v : Option (List Bool)) (bits xs : List Bool) → Some bits ≡ v → FitsRows v (length (map Boolean xs)) → map Boolean (both_bits xs bits) ≡ map (known_or false) (masked v (map Boolean xs))
-nulls_false v bits xs same fits =
-    subst (λ o. map Boolean (both_bits xs bits) ≡ map (known_or false) (masked o (map Boolean xs))) same (unknown_false bits xs (subst (λ o. FitsRows o (length (map Boolean xs))) (sym same) fits ∙ length-map xs Boolean))
+pub nulls_false : (v : Option (List Bool)) (bits xs : List Bool) → Some bits ≡ v → map Boolean (both_bits xs bits) ≡ map (known_or false) (masked v (map Boolean xs))
+nulls_false v bits xs same = rw (← same) (unknown_false bits xs)
 
-pub nulls_true : (v : Option (List Bool)) (bits xs : List Bool) → Some bits ≡ v → FitsRows v (length (map Boolean xs)) → map Boolean (either_bits xs (map not bits)) ≡ map (known_or true) (masked v (map Boolean xs))
-nulls_true v bits xs same fits =
-    subst (λ o. map Boolean (either_bits xs (map not bits)) ≡ map (known_or true) (masked o (map Boolean xs))) same (unknown_true bits xs (subst (λ o. FitsRows o (length (map Boolean xs))) (sym same) fits ∙ length-map xs Boolean))
+pub nulls_true : (v : Option (List Bool)) (bits xs : List Bool) → Some bits ≡ v → map Boolean (either_bits xs (map not bits)) ≡ map (known_or true) (masked v (map Boolean xs))
+nulls_true v bits xs same = rw (← same) (unknown_true bits xs)

@@ -1,5 +1,6 @@
 //! The laws of comparisons: each is the contract of a function over what is handed in, and says of the definitions that the
 //! kernels' contracts cite what a caller may replace by what. None makes an array.
+#![tactic(auto, using(crate::proofs::PairLemmas::laws, crate::proofs::ThroughLemmas::scalar_repeated, crate::proofs::TypeLemmas::listed))]
 
 ghost use Rattle.std.specs.Prelude.{◌≡◌, false, length, map, replicate, All};
 ghost use Rattle.arrow_types.specs.ArrowType.{ArrowType, logical};

@@ -3,7 +3,7 @@ use Rattle.std.proofs.Common.{◌≡◌, ◌∙◌, Bool, true, false, Option, S
 use Rattle.std.proofs.lemmas.List.{length-map}
 use Rattle.arrow_types.specs.Relation.{Relation, related}
 use Rattle.arrow_types.specs.Rows.{mask, masked}
-use Rattle.arrow_types.specs.Slot.{Slot, Null, Boolean, Number, DayTime, MonthDayNano, Text, Bytes}
+use Rattle.arrow_types.specs.Slot.{Slot, Null, Boolean}
 use Rattle.arrow_memory.specs.Bits.{both_bits}
 use Rattle.arrow_flat.specs.Parts.{FitsRows}
 use Rattle.arrow_flat.proofs.PartsLemmas.{length-masked}
@@ -14,30 +14,23 @@ use Rattle.arrow_logic.proofs.PairLemmas.{length-row_by_row}
 
 module _ (give : Slot → Slot → Slot) (left_null : (s : Slot) → give Null s ≡ Null) (right_null : (s : Slot) → give s Null ≡ Null) where
   left_masked : (vs : List Bool) (xs ys : List Slot) → row_by_row give (mask vs xs) ys ≡ mask vs (row_by_row give xs ys)
-  left_masked [] xs ys = refl
-  left_masked (b ∷ vs) [] ys = refl
-  left_masked (b ∷ vs) (x ∷ xs) [] = refl
   left_masked (true ∷ vs) (x ∷ xs) (y ∷ ys) = ap (λ zs. give x y ∷ zs) (left_masked vs xs ys)
   left_masked (false ∷ vs) (x ∷ xs) (y ∷ ys) = λ i. left_null y i ∷ left_masked vs xs ys i
+  left_masked vs xs ys = refl
 
   right_masked : (xs : List Slot) (ws : List Bool) (ys : List Slot) → row_by_row give xs (mask ws ys) ≡ mask ws (row_by_row give xs ys)
   right_masked [] [] ys = refl
-  right_masked [] (c ∷ ws) ys = refl
-  right_masked (x ∷ xs) [] ys = refl
-  right_masked (x ∷ xs) (c ∷ ws) [] = refl
   right_masked (x ∷ xs) (true ∷ ws) (y ∷ ys) = ap (λ zs. give x y ∷ zs) (right_masked xs ws ys)
   right_masked (x ∷ xs) (false ∷ ws) (y ∷ ys) = λ i. right_null x i ∷ right_masked xs ws ys i
+  right_masked xs ws ys = refl
 
   both_masked : (vs : List Bool) (xs : List Slot) (ws : List Bool) (ys : List Slot) → row_by_row give (mask vs xs) (mask ws ys) ≡ mask (both_bits vs ws) (row_by_row give xs ys)
-  both_masked [] xs ws ys = refl
   both_masked (b ∷ vs) [] [] ys = refl
-  both_masked (b ∷ vs) [] (c ∷ ws) ys = refl
-  both_masked (b ∷ vs) (x ∷ xs) [] ys = refl
-  both_masked (b ∷ vs) (x ∷ xs) (c ∷ ws) [] = refl
   both_masked (true ∷ vs) (x ∷ xs) (true ∷ ws) (y ∷ ys) = ap (λ zs. give x y ∷ zs) (both_masked vs xs ws ys)
   both_masked (true ∷ vs) (x ∷ xs) (false ∷ ws) (y ∷ ys) = λ i. right_null x i ∷ both_masked vs xs ws ys i
   both_masked (false ∷ vs) (x ∷ xs) (true ∷ ws) (y ∷ ys) = λ i. left_null y i ∷ both_masked vs xs ws ys i
   both_masked (false ∷ vs) (x ∷ xs) (false ∷ ws) (y ∷ ys) = λ i. left_null Null i ∷ both_masked vs xs ws ys i
+  both_masked vs xs ws ys = refl
 
   pub masked_rows : (v w : Option (List Bool)) (xs ys : List Slot) → row_by_row give (masked v xs) (masked w ys) ≡ masked (combined v w) (row_by_row give xs ys)
   masked_rows None None xs ys = refl
@@ -47,16 +40,11 @@ module _ (give : Slot → Slot → Slot) (left_null : (s : Slot) → give Null s
 
 -- so it is of a relation
 
-null_left : (op : Relation) (s : Slot) → related op Null s ≡ Null
+pub null_left : (op : Relation) (s : Slot) → related op Null s ≡ Null
 null_left op s = refl
 
 pub null_right : (op : Relation) (s : Slot) → related op s Null ≡ Null
-null_right op (Boolean x) = refl
-null_right op (Number n) = refl
-null_right op (DayTime days ms) = refl
-null_right op (MonthDayNano months days ns) = refl
-null_right op (Text bytes) = refl
-null_right op (Bytes bytes) = refl
+null_right op Null = refl
 null_right op s = refl
 
 -- of two arrays, from what is stored

@@ -2,10 +2,11 @@
 use Rattle.std.proofs.Common.{◌≡◌, ◌∙◌, ℕ, zero, suc, get_or, ◌<◌, Bool, true, false, Some, List, [], ◌∷◌, if◌then◌else◌, length, map, replicate, arith, ap, sym, refl}
 use Rattle.std.specs.Prelude.{Result, IfOk, slice_get}
 use Rattle.std.specs.Bool.{beq}
+use Rattle.std.specs.Cmp.{booleans_Decides}
 use Rattle.std.specs.Ordering.{bool_cmp}
 use Rattle.std.proofs.lemmas.List.{get_or-map, length-map}
 use Rattle.std.proofs.lemmas.Option.{slice_get-get_or}
-use Rattle.std.proofs.lemmas.Simd.{map-map}
+use Rattle.std.proofs.lemmas.Simd.{map-map, splat_is_map}
 use Rattle.arrow_types.specs.Relation.{Relation, bool_order, related}
 use Rattle.arrow_types.specs.Slot.{Slot, Boolean}
 use Rattle.arrow_logic.specs.RowByRow.{row_by_row}
@@ -15,10 +16,8 @@ use Rattle.arrow_memory.specs.Gathered.{AnswersBits}
 use Rattle.arrow_relate.proofs.WordLemmas.{answered_rows}
 
 pub read-row_by_row : {A B C : Type 0} (give : A → B → C) (xs : List A) (ys : List B) (i : ℕ) (x : A) (y : B) → slice_get xs i ≡ Some x → slice_get ys i ≡ Some y → slice_get (row_by_row give xs ys) i ≡ Some (give x y)
-read-row_by_row give [] ys i x y left right = cc
-read-row_by_row give (a ∷ xs) [] i x y left right = cc
-read-row_by_row give (a ∷ xs) (b ∷ ys) zero x y left right = cc
 read-row_by_row give (a ∷ xs) (b ∷ ys) (suc i) x y left right = read-row_by_row give xs ys i x y left right
+read-row_by_row give xs ys i x y left right = cc
 
 -- what a function makes of a member
 pub read_slot : {T : Type 0} (slot : T → Slot) (xs : List T) (row : ℕ) (x d : T) → row < length xs → x ≡ get_or xs row d → slice_get (map slot xs) row ≡ Some (slot x)
@@ -49,22 +48,19 @@ row_by_row-replicate give (x ∷ xs) y = ap (λ zs. give x y ∷ zs) (row_by_row
 
 -- what a function makes of each
 pub map-row_by_row : {A B C D : Type 0} (f : C → D) (give : A → B → C) (xs : List A) (ys : List B) → map f (row_by_row give xs ys) ≡ row_by_row (λ x y. f (give x y)) xs ys
-map-row_by_row f give [] ys = refl
-map-row_by_row f give (x ∷ xs) [] = refl
 map-row_by_row f give (x ∷ xs) (y ∷ ys) = ap (λ zs. f (give x y) ∷ zs) (map-row_by_row f give xs ys)
+map-row_by_row f give xs ys = refl
 
 -- what pairs of truth values give, as bits and as rows
 pub rows_of_pairs : (give : Bool → Bool → Bool) (by : Slot → Slot → Slot) → ((x y : Bool) → Boolean (give x y) ≡ by (Boolean x) (Boolean y)) → (xs ys : List Bool) → map Boolean (paired give xs ys) ≡ row_by_row by (map Boolean xs) (map Boolean ys)
-rows_of_pairs give by each [] ys = refl
-rows_of_pairs give by each (x ∷ xs) [] = refl
 rows_of_pairs give by each (x ∷ xs) (y ∷ ys) = (λ i. each x y i ∷ rows_of_pairs give by each xs ys i)
+rows_of_pairs give by each xs ys = refl
 
 -- the order of two truth values, as std has it
 pub order_of_bits : (x y : Bool) → bool_cmp x y ≡ bool_order x y
 order_of_bits true true = refl
-order_of_bits true false = refl
-order_of_bits false true = refl
 order_of_bits false false = refl
+order_of_bits x y = refl
 
 -- the same of each truth value and another one, from what it gives of each of the two
 pub rows_of_bits : (by : Slot → Slot) (unset set : Bool) → Boolean unset ≡ by (Boolean false) → Boolean set ≡ by (Boolean true) → (xs : List Bool) → map Boolean (map (λ bit. if bit then set else unset) xs) ≡ map by (map Boolean xs)
@@ -82,11 +78,6 @@ kept_bits false true differ is (false ∷ xs) = ap (λ rest. false ∷ rest) (ke
 kept_bits false false differ is xs = cc
 
 pub equal_bits : (unset set : Bool) → beq unset set ≡ true → (xs : List Bool) → replicate (length xs) set ≡ map (λ bit. if bit then set else unset) xs
-equal_bits true true same [] = refl
-equal_bits true true same (true ∷ xs) = ap (λ rest. true ∷ rest) (equal_bits true true same xs)
-equal_bits true true same (false ∷ xs) = ap (λ rest. true ∷ rest) (equal_bits true true same xs)
-equal_bits true false same xs = cc
-equal_bits false true same xs = cc
-equal_bits false false same [] = refl
-equal_bits false false same (true ∷ xs) = ap (λ rest. false ∷ rest) (equal_bits false false same xs)
-equal_bits false false same (false ∷ xs) = ap (λ rest. false ∷ rest) (equal_bits false false same xs)
+equal_bits unset set same xs =
+    let each : (bit : Bool) → set ≡ (if bit then set else unset) = elim [ true ↦ refl | false ↦ sym ((booleans_Decides unset set).0 same) ] in
+    splat_is_map xs (length xs) set refl ∙ (λ i. map (λ bit. each bit i) xs)

@@ -10,13 +10,13 @@ use Rattle.std.proofs.lemmas.Map.Text.{is_eq-slice_cmp}
 use Rattle.std.proofs.lemmas.Slice.Eq.{bytes_eq-Decides}
 use Rattle.arrow_types.specs.Logic.{finished_eq, finished_neq, negated}
 use Rattle.arrow_types.specs.NumberSlots.{equal_ints}
-use Rattle.arrow_types.specs.Relation.{related, eq, neq, holds, bool_order, byte_order, same}
+use Rattle.arrow_types.specs.Relation.{Relation, related, eq, neq, holds, bool_order, by_equality, byte_order, same}
 use Rattle.arrow_types.specs.SameTree.{same_by-decides}
 use Rattle.arrow_types.specs.Slot.{Slot, Null, Boolean, Number, DayTime, MonthDayNano, Bytes, Text}
 use Rattle.arrow_types.specs.StoredSlot.{slot_code}
 use Rattle.arrow_flat.proofs.StoredLemmas.{truth_values_same}
 use Rattle.arrow_relate.specs.Same.{differs, is_same}
-use Rattle.arrow_relate.proofs.NullLemmas.{null_right}
+use Rattle.arrow_relate.proofs.NullLemmas.{null_left, null_right}
 
 holds_eq : (o : Ordering) → holds eq o ≡ is_eq o
 holds_eq Less = refl
@@ -57,36 +57,26 @@ same_is : (s r : Slot) (b : Bool) → Decides b (s ≡ r) → same s r ≡ b
 same_is s r b decides = same_from_decides (same s r) b (same_by-decides slot_code s r) decides
 
 -- what equality answers of is no null
-null_left : (b : Bool) → Null ≡ Boolean b → ⊥
-null_left b is = cc
-
-left_value : (s r : Slot) (b : Bool) → related eq s r ≡ Boolean b → s ≡ Null → ⊥
-left_value s r b is none = null_left b (subst (λ t. related eq t r ≡ Boolean b) none is)
-
-right_value : (s r : Slot) (b : Bool) → related eq s r ≡ Boolean b → r ≡ Null → ⊥
-right_value s r b is none = null_left b (sym (null_right eq s) ∙ subst (λ t. related eq s t ≡ Boolean b) none is)
-
 pub finished_row : (p q : Bool) (s r : Slot) (b : Bool) → related eq s r ≡ Boolean b → finished_eq (Boolean b) p q ≡ is_same (if p then s else Null) (if q then r else Null)
 finished_row true true s r b is = ap Boolean (sym (same_is s r b (equality_decides s r b is)))
-finished_row true false s r b is = ap Boolean (sym (same_is s Null false (λ e. cc, λ e. absurd (left_value s r b is e))))
-finished_row false true s r b is = ap Boolean (sym (same_is Null r false (λ e. cc, λ e. absurd (right_value s r b is (sym e)))))
+finished_row true false s r b is = ap Boolean (sym (same_is s Null false (λ e. cc, λ e. cc (null_left eq r))))
+finished_row false true s r b is = ap Boolean (sym (same_is Null r false (λ e. cc, λ e. cc (null_right eq s))))
 finished_row false false s r b is = ap Boolean (sym (same_is Null Null true (λ e. refl, λ e. refl)))
 
 -- ---- the same of whether they are not
 
-neq_holds : (o : Ordering) → holds neq o ≡ not (holds eq o)
-neq_holds Less = refl
-neq_holds Equal = refl
-neq_holds Greater = refl
+-- a relation that holds exactly where another one does not
+pub turned : (op other : Relation) → ((o : Ordering) → holds op o ≡ not (holds other o)) → ((b : Bool) → by_equality op b ≡ negated (by_equality other b)) → (s r : Slot) → related op s r ≡ negated (related other s r)
+turned op other one alone (Number m) (Number n) = ap Boolean (one (int_cmp m n))
+turned op other one alone (Boolean a) (Boolean b) = ap Boolean (one (bool_order a b))
+turned op other one alone (Text a) (Text b) = ap Boolean (one (byte_order a b))
+turned op other one alone (Bytes a) (Bytes b) = ap Boolean (one (byte_order a b))
+turned op other one alone (DayTime d m) (DayTime e n) = alone _
+turned op other one alone (MonthDayNano m d n) (MonthDayNano k e l) = alone _
+turned op other one alone s r = refl
 
 pub neq_turned : (s r : Slot) → related neq s r ≡ negated (related eq s r)
-neq_turned (Number m) (Number n) = ap Boolean (neq_holds (int_cmp m n))
-neq_turned (Boolean a) (Boolean b) = ap Boolean (neq_holds (bool_order a b))
-neq_turned (Text a) (Text b) = ap Boolean (neq_holds (byte_order a b))
-neq_turned (Bytes a) (Bytes b) = ap Boolean (neq_holds (byte_order a b))
-neq_turned (DayTime d m) (DayTime other_d other_m) = refl
-neq_turned (MonthDayNano m d n) (MonthDayNano other_m other_d other_n) = refl
-neq_turned s r = refl
+neq_turned = turned neq eq (elim [ Less ↦ refl | Equal ↦ refl | Greater ↦ refl ]) (λ b. refl)
 
 -- what is turned to a truth value is the other one
 turned_back : (x : Slot) (b : Bool) → negated x ≡ Boolean b → x ≡ Boolean (not b)

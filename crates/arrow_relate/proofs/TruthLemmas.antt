@@ -16,33 +16,28 @@ relates op x y = holds op (bool_order x y)
 
 by_neq : (x y : Bool) → not (relates neq x y) ≡ relates eq x y
 by_neq true true = refl
-by_neq true false = refl
-by_neq false true = refl
 by_neq false false = refl
+by_neq x y = refl
 
 less_is : (x y : Bool) → not x && y ≡ relates lt x y
 less_is true true = refl
-less_is true false = refl
-less_is false true = refl
 less_is false false = refl
+less_is x y = refl
 
 at_most_is : (x y : Bool) → not x || y ≡ relates lt_eq x y
 at_most_is true true = refl
-at_most_is true false = refl
-at_most_is false true = refl
 at_most_is false false = refl
+at_most_is x y = refl
 
 more_is : (x y : Bool) → x && not y ≡ relates gt x y
 more_is true true = refl
-more_is true false = refl
-more_is false true = refl
 more_is false false = refl
+more_is x y = refl
 
 at_least_is : (x y : Bool) → x || not y ≡ relates gt_eq x y
 at_least_is true true = refl
-at_least_is true false = refl
-at_least_is false true = refl
 at_least_is false false = refl
+at_least_is x y = refl
 
 -- as numbers that are 0 or 1
 xor_is : (a b : ℕ) → a < 2 → b < 2 → ((a + b) % 2 == 1) ≡ relates neq (a == 1) (b == 1)

@@ -26,6 +26,7 @@ use arrow_types::error::Error;
 use std::alloc::Global;
 
 /// Whether each row is so related to the scalar, and null where the row is, or the scalar.
+#[tactic(auto, using(crate::proofs::KindLemmas::value_kind, crate::proofs::KindLemmas::value_relation))]
 pub(super) fn relate_scalar(
     alloc: Global,
     by: Relation,
@@ -45,6 +46,7 @@ pub(super) fn relate_scalar(
 }
 
 /// Whether each row is the scalar: of a null scalar, whether it is null. No row is null.
+#[tactic(auto, using(crate::proofs::KindLemmas::value_kind, crate::proofs::KindLemmas::value_relation))]
 pub(super) fn same_scalar(
     alloc: Global,
     lhs: &AnyArray,

@@ -13,4 +13,4 @@ returns-clause-kinds c one =
 pub returns-clause-has_relation : goal.returns-clause-has_relation
 returns-clause-has_relation c has =
     let op = relation_of c.args.by in
-    subst (KindHasRelation op) c.data_type.ensures.kind (kind_relation op (physical_type_of (any_array_type c.args.lhs.now)) has)
+    subst (KindHasRelation op) c.data_type.ensures.kind (kind_relation (physical_type_of (any_array_type c.args.lhs.now)) op has)
