@@ -1,22 +1,22 @@
 //! The laws: each is called at a concrete type, where its conditions are met by what was tested or answered. What a law says
 //! stands in its contract.
 
-ghost use Rattle.std.specs.Prelude.{◌≡◌, IsTrue};
-ghost use Rattle.arrow_arrays.specs.Any.{any_array_meaning, any_array_type};
+ghost use Rattle.std.specs.Prelude.{◌≡◌, IfOk, IsTrue, length};
+ghost use Rattle.arrow_arrays.specs.Any.{any_array_meaning, any_array_rows, any_array_type};
 ghost use Rattle.arrow_select.specs.Keys.{HasNoDictionary};
-ghost use Rattle.arrow_select.specs.Laws.{IsStructOrUnion};
+ghost use Rattle.arrow_select.specs.Laws.{IsStructOrUnion, selected_of};
 ghost use Rattle.arrow_types.specs.TypeOf.{type_of};
 
 use crate::arrays::{numbers, truths};
 use crate::lines::{Answer, Line, PLAIN, check_lines};
 use arrow_arrays::array::{AnyArray, are_within};
 use arrow_arrays::chunk::Chunk;
-use arrow_compare::comparison::can_eq;
+use arrow_compare::comparison::{can_eq, eq_and_validity};
 use arrow_compare::laws as compared;
 use arrow_logic::laws as logical;
 use arrow_relate::relation::Relation;
 use arrow_select::concatenate::concatenate;
-use arrow_select::filter::{build_filter, filter, filter_chunk};
+use arrow_select::filter::{Filter, build_filter, filter, filter_chunk};
 use arrow_select::if_then_else::if_then_else;
 use arrow_select::laws as selected;
 use arrow_select::take::take;
@@ -26,6 +26,7 @@ use arrow_text::given::{Array, Scalar};
 use arrow_text::piece::Piece;
 use arrow_text::scalar::read_scalar;
 use arrow_types::datatypes::DataType;
+use arrow_types::error::Error;
 use arrow_types::laws::{equals_both_ways, equals_itself, equals_through};
 use std::alloc::Global;
 
@@ -93,11 +94,12 @@ fn types(_alloc: Global, _name: &str, arrays: &[AnyArray]) -> Result<bool, Fault
     Ok(true)
 }
 
-/// Those of comparisons.
-fn comparisons(_alloc: Global, _name: &str, arrays: &[AnyArray]) -> Result<bool, Fault> {
-    let [lhs, rhs, predicate] = arrays else {
+/// Those of comparisons, of two arrays whose rows are the same where those of the third one are true.
+fn comparisons(alloc: Global, _name: &str, arrays: &[AnyArray]) -> Result<bool, Fault> {
+    let [lhs, rhs, wanted] = arrays else {
         return Err(Fault::Usage);
     };
+    let are_same = truths(wanted)?;
     compared::differs_is_negated_same(lhs, rhs);
     compared::same_is_no_null(lhs, rhs);
     compared::same_is_symmetric(lhs, rhs);
@@ -106,8 +108,14 @@ fn comparisons(_alloc: Global, _name: &str, arrays: &[AnyArray]) -> Result<bool,
     compared::lt_eq_is_negated_gt(lhs, rhs);
     compared::gt_eq_is_negated_lt(lhs, rhs);
     compared::nulled_by_itself(lhs);
-    compared::chosen_by_negated(truths(predicate)?, lhs, rhs);
-    Ok(true)
+    compared::chosen_by_negated(are_same, lhs, rhs);
+    let (left, right) = (lhs.data_type(), rhs.data_type());
+    compared::can_eq_has_equality(left);
+    let are_alike = *left == *right;
+    if !are_alike || lhs.len() != rhs.len() || !can_eq(left) {
+        return Err(Fault::Usage);
+    }
+    Ok(eq_and_validity(alloc, lhs, rhs)? == *are_same)
 }
 
 /// That of a scalar, beside numbers.
@@ -204,6 +212,17 @@ fn shifted(alloc: Global, _name: &str, arrays: &[AnyArray]) -> Result<bool, Faul
     }
 }
 
+/// The rows that a prepared filter keeps, asked for once more where memory is refused: the filter is then as it was.
+fn applied(prepared: &Filter, array: &AnyArray) -> Result<AnyArray, Error>
+    requires { length prepared.now ≡ length (any_array_rows array.now) }
+    ensures { IfOk result (λ kept. any_array_meaning kept ≡ selected_of prepared.now array.now) }
+{
+    match prepared.apply(array) {
+        Err(Error::OutOfMemory) => prepared.apply(array),
+        outcome => outcome,
+    }
+}
+
 /// They are filtered to the same rows, by a predicate and by a filter that was prepared of it, and refused alike; what is kept
 /// can be filtered again.
 fn filtered(alloc: Global, _name: &str, arrays: &[AnyArray]) -> Result<bool, Fault> {
@@ -219,7 +238,7 @@ fn filtered(alloc: Global, _name: &str, arrays: &[AnyArray]) -> Result<bool, Fau
     selected::kept_rows_fit(&kept.array);
     selected::filter_fits_alike(array, mask, &kept.array, other, mask);
     selected::apply_fits_alike(&prepared, array, &kept.array, &prepared, other);
-    let other_kept = Array::new(alloc, filter(alloc, other, mask)?)?;
+    let other_kept = Array::new(alloc, applied(&prepared, other)?)?;
     selected::filter_goes_by_rows(array, mask, &kept.array, other, mask, &other_kept.array);
     selected::apply_goes_by_rows(
         &prepared,
@@ -229,7 +248,7 @@ fn filtered(alloc: Global, _name: &str, arrays: &[AnyArray]) -> Result<bool, Fau
         other,
         &other_kept.array,
     );
-    Ok(true)
+    Ok(*other == *array && *other_kept.array == *kept.array)
 }
 
 /// They are taken to the same rows, those that are wanted, and refused alike.
@@ -261,11 +280,13 @@ fn chosen(alloc: Global, _name: &str, arrays: &[AnyArray]) -> Result<bool, Fault
         return Err(Fault::Usage);
     };
     let mask = truths(predicate)?;
-    if !are_equal(array, other) || !is_of_numbers(array) {
+    if !are_equal(array, other) {
         return Err(Fault::Usage);
     }
     let all = Array::new(alloc, if_then_else(alloc, mask, array, other)?)?;
-    selected::choice_fits_alike(mask, array, other, &all.array, mask, other, array);
+    if is_of_numbers(array) {
+        selected::choice_fits_alike(mask, array, other, &all.array, mask, other, array);
+    }
     let other_all = Array::new(alloc, if_then_else(alloc, mask, other, array)?)?;
     selected::choice_goes_by_rows(
         mask,
@@ -277,7 +298,7 @@ fn chosen(alloc: Global, _name: &str, arrays: &[AnyArray]) -> Result<bool, Fault
         array,
         &other_all.array,
     );
-    Ok(true)
+    Ok(*other_all.array == *all.array)
 }
 
 /// A batch is filtered to the same columns as itself.
@@ -312,13 +333,17 @@ fn equality(_alloc: Global, name: &str, arrays: &[AnyArray]) -> Result<bool, Fau
 }
 
 /// An array, one of the same rows, and one of others; predicates and indices; rows that are wanted.
-const LINES: [Line; 19] = [
+const LINES: [Line; 22] = [
     ["equal i32[1,_2,3] i32[9,1,_,3]@1+3", ""],
     ["different i32[1,_2,3] i32[3,2,_1]", ""],
     ["logic bool[t,_,f]", ""],
     ["types i32[1,_2,3]", ""],
     ["types union_sparse<i8,struct<fsb<1>>>[0:1,1:(x00)]", ""],
-    ["comparisons i32[1,_2,3] i32[3,2,_1] bool[t,_,f]", ""],
+    ["comparisons i32[1,_2,3,_] i32[1,2,_3,_9] bool[t,f,f,t]", ""],
+    [
+        r#"comparisons utf8["a",_,"","bc",_] utf8["z","a","",_"","bd",_"x"]@1+5 bool[t,f,f,f,t]"#,
+        "",
+    ],
     ["scalar i32[1,_2,3]", ""],
     ["selection i32[1,_2,3] bool[t,_,f] i32[2,_9,0]", ""],
     ["concatenate i32[1,_2,3] i32[9,1,_,3]@1+3", ""],
@@ -349,7 +374,15 @@ const LINES: [Line; 19] = [
         "",
     ],
     ["choice i32[1,_2,3] i32[9,1,_,3]@1+3 bool[t,_,f]", ""],
+    [
+        r#"choice struct<list<utf8>,dict<i8,utf8>>[(["a",_,"bc"],"x"),_,([],_),(_,&_)] struct<list<utf8>,dict<i8,utf8>>{validity=ttftt;values=list<utf8>{validity=ttttf;offsets=0,1,4,5,5,7;values=utf8["q","a",_"b","bc","d","e","f"]}|dict<i8,utf8>{keys=i8[0,2,1,_77,3];values=utf8["y","y","x",_"v"]}}@1+4 bool[t,_t,f,t]"#,
+        "",
+    ],
     ["chunk i32[1,_2,3] bool[t,_,f]", ""],
+    [
+        r#"chunk struct<list<utf8>,dict<i8,utf8>>{validity=ttftt;values=list<utf8>{validity=ttttf;offsets=0,1,4,5,5,7;values=utf8["q","a",_"b","bc","d","e","f"]}|dict<i8,utf8>{keys=i8[0,2,1,_77,3];values=utf8["y","y","x",_"v"]}}@1+4 bool[t,_t,f,t]"#,
+        "",
+    ],
 ];
 
 #[test]
