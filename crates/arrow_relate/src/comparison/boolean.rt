@@ -11,7 +11,7 @@ ghost use Rattle.arrow_flat.specs.Parts.{boolean_rows};
 ghost use Rattle.arrow_logic.specs.RowByRow.{row_by_row};
 ghost use Rattle.arrow_relate.specs.Same.{is_same, differs};
 ghost use Rattle.arrow_memory.specs.Words.{word_of};
-ghost use Rattle.arrow_relate.specs.Chunked.{AnswersByWords, TakesWords, answers_word};
+ghost use Rattle.arrow_relate.specs.Chunked.{AnswersByWords, Chunked, TakesWords, answers_word};
 
 use crate::fixed::{Equal, FixedRelation, Greater, GreaterOrEqual, Less, LessOrEqual, NotEqual};
 use crate::relation::Relation;
@@ -358,9 +358,28 @@ pub fn compare_op_scalar<F: Fn(u64, u64) -> u64>(
     ensures rows { IfOk result (λ array. AnswersByWords (F.post op) lhs.now rhs (boolean_rows array)) }
     ensures err { IsOkUnless result Error.OutOfMemory }
 {
-    let values = lhs.values();
-    let bits = Bitmap::collect_words(alloc, values.len(), |j| answer_at(&op, values, rhs, j))?;
+    let bits = bits_of_words(alloc, lhs.values(), rhs, &op)?;
     Ok(truths(bits, shared(lhs.validity())?))
+}
+
+/// The bits that `op` answers of the words of some bits and of a scalar. It is called once for each word.
+///
+/// # Requires
+/// `op` may be called on each word.
+///
+/// # Errors
+/// `OutOfMemory` where memory is refused.
+fn bits_of_words<F: Fn(u64, u64) -> u64>(
+    alloc: Global,
+    stored: &Bitmap,
+    scalar: bool,
+    op: &F,
+) -> Result<Bitmap, Error>
+    requires { TakesWords (F.pre op.now) stored.now scalar }
+    ensures ok { IfOk result (Chunked 64 (answers_word (F.post op.now) stored.now scalar) (length stored.now)) }
+    ensures err { IsOkUnless result Error.OutOfMemory }
+{
+    Bitmap::collect_words(alloc, stored.len(), |j| answer_at(op, stored, scalar, j))
 }
 
 /// What `op` answers to word `j` of some bits and a word of the scalar.

@@ -1,10 +1,14 @@
 //! Bits that a closure answers of chunks of eight values, eight bytes to a word.
 
-ghost use Rattle.std.specs.Prelude.{◌≡◌, ◌-◌, ◌*◌, ◌<◌, length, min, slice_index_or};
+ghost use Rattle.std.specs.Prelude.{◌≡◌, ◌-◌, ◌*◌, ◌<◌, length, min, slice_index_or, IfOk, IsOkUnless};
 ghost use Rattle.std.specs.Int.{div_ceil};
-ghost use Rattle.arrow_relate.specs.Chunked.{GathersBytes, TakesChunks, answers_chunk};
+ghost use Rattle.arrow_types.specs.declared.error.Error.{Error};
+ghost use Rattle.arrow_relate.specs.Chunked.{Chunked, GathersBytes, TakesChunks, answers_chunk};
 
+use arrow_memory::bitmap::Bitmap;
+use arrow_types::error::Error;
 use arrow_types::types::NativeType;
+use std::alloc::Global;
 
 /// The values of a chunk.
 const CHUNK: usize = 8;
@@ -25,11 +29,35 @@ macro_rules! eight {
     };
 }
 
+/// The bits that `op` answers of chunks of values and of copies of a scalar. It is called once for each chunk.
+///
+/// # Requires
+/// `op` may be called on each chunk.
+///
+/// # Errors
+/// `OutOfMemory` where memory is refused.
+pub(super) fn bits_of_chunks<T: NativeType, F: Fn([T; 8], [T; 8]) -> u8>(
+    alloc: Global,
+    stored: &[T],
+    scalar: T,
+    op: &F,
+) -> Result<Bitmap, Error>
+    requires { TakesChunks (F.pre op.now) T.zero stored.now scalar }
+    ensures ok { IfOk result (Chunked 8 (answers_chunk (F.post op.now) T.zero stored.now scalar) (length stored.now)) }
+    ensures err { IsOkUnless result Error.OutOfMemory }
+{
+    Bitmap::collect_words(
+        alloc,
+        stored.len(),
+        |j| word_of_chunks(stored, scalar, op, j),
+    )
+}
+
 /// What `op` answers of the eight chunks from chunk `8 * j` on, a byte each, as far as there are chunks.
 ///
 /// # Requires
 /// `op` may be called on each chunk, and there is chunk `8 * j`.
-pub(super) fn word_of_chunks<T: NativeType, F: Fn([T; 8], [T; 8]) -> u8>(
+fn word_of_chunks<T: NativeType, F: Fn([T; 8], [T; 8]) -> u8>(
     stored: &[T],
     scalar: T,
     op: &F,

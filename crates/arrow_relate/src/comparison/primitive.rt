@@ -1,17 +1,18 @@
 //! Relations of numbers, by value, and whether intervals are equal.
 
-ghost use Rattle.std.specs.Prelude.{◌≡◌, length, map, IfOk, IsOkUnless};
+ghost use Rattle.std.specs.Prelude.{◌≡◌, ◌<◌, Some, length, map, slice_get, IfOk, IsOkUnless};
 ghost use Rattle.arrow_types.specs.declared.error.Error.{Error};
 ghost use Rattle.arrow_types.specs.ArrowType.{boolean, plain};
 ghost use Rattle.arrow_types.specs.Relation.{related};
 ghost use Rattle.arrow_types.specs.Relation as relation;
 ghost use Rattle.arrow_relate.specs.Related.{relation_of};
+ghost use Rattle.arrow_types.specs.Slot.{Boolean};
 ghost use Rattle.arrow_flat.specs.Parts.{boolean_rows, rows_by};
 ghost use Rattle.arrow_logic.specs.RowByRow.{row_by_row};
 ghost use Rattle.arrow_relate.specs.Chunked.{AnswersChunks, TakesChunks};
 ghost use Rattle.arrow_relate.specs.Same.{is_same, differs};
 
-use crate::comparison::chunked::word_of_chunks;
+use crate::comparison::chunked::bits_of_chunks;
 use crate::fixed::{Equal, Greater, GreaterOrEqual, Less, LessOrEqual, NotEqual, Test};
 use crate::relation::Relation;
 use crate::stored::{
@@ -407,8 +408,7 @@ pub fn compare_op_scalar<T: NativeType, F: Fn([T; 8], [T; 8]) -> u8>(
     ensures rows { IfOk result (λ array. AnswersChunks (F.post op) T.zero lhs.now rhs (boolean_rows array)) }
     ensures err { IsOkUnless result Error.OutOfMemory }
 {
-    let values = lhs.values().as_slice();
-    let bits = Bitmap::collect_words(alloc, values.len(), |j| word_of_chunks(values, rhs, &op, j))?;
+    let bits = bits_of_chunks(alloc, lhs.values().as_slice(), rhs, &op)?;
     Ok(truths(bits, shared(lhs.validity())?))
 }
 
@@ -436,6 +436,14 @@ impl<T: NativeType, R: Test<T>> RelatedToScalar<R, T> for Buffer<T> {
         rhs: T,
     ) -> Result<Bitmap, Error> {
         let left = lhs.values().as_slice();
-        Bitmap::collect_bool(alloc, left.len(), |row| R::of(left[row], rhs))
+        Bitmap::collect_bool(alloc, left.len(), |row| is_related::<T, R>(left, rhs, row))
     }
+}
+
+/// Whether the relation holds of a value and another one.
+fn is_related<T: NativeType, R: Test<T>>(values: &[T], other: T, row: usize) -> bool
+    requires { row < length values.now }
+    ensures { slice_get (map (λ s. related R.op s (T.slot other)) (map T.slot values.now)) row ≡ Some (Boolean result) }
+{
+    R::of(values[row], other)
 }

@@ -1,0 +1,8 @@
+use Rattle.std.proofs.Common.{rules}
+use Rattle.std.proofs.lemmas.Result.{IfOk-weaker}
+use Rattle.arrow_relate.proofs.ChunkLemmas.{chunks_of_words}
+use Rattle.arrow_relate.proofs.comparison.chunked.bits_of_chunks.Goals as goal
+
+pub returns-clause-ok : goal.returns-clause-ok
+returns-clause-ok g c =
+    IfOk-weaker c.collect_words.result _ _ (λ bits answers. chunks_of_words _ _ _ bits (λ j word answered. search rules) answers) c.collect_words.ensures.ok
