@@ -93,7 +93,7 @@ impl Chunk {
     }
 }
 
-/// Whether all arrays are of one length.
+// Whether all arrays are of one length.
 fn are_columns(arrays: &[AnyArray]) -> bool
     ensures { IsTrue result ↔ AreColumns (map layout_of arrays.now) }
 {

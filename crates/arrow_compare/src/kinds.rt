@@ -13,7 +13,7 @@ use arrow_arrays::array::AnyArray;
 use arrow_flat::scalar::AnyScalar;
 use arrow_relate::relation::Relation;
 
-/// Shows that arrays of logically one type are of one kind, and that a relation compares it if it does the type.
+// Shows that arrays of logically one type are of one kind, and that a relation compares it if it does the type.
 pub(crate) fn have_one_kind(by: Relation, lhs: &AnyArray, rhs: &AnyArray)
     ensures kinds { logical (any_array_type lhs.now) ≡ logical (any_array_type rhs.now) → kind_of lhs.now ≡ kind_of rhs.now }
     ensures has_relation { HasRelation (relation_of by) (physical_type_of (any_array_type lhs.now)) → KindHasRelation (relation_of by) (kind_of lhs.now) }
@@ -23,7 +23,7 @@ pub(crate) fn have_one_kind(by: Relation, lhs: &AnyArray, rhs: &AnyArray)
     let _ = rhs.data_type();
 }
 
-/// Shows that the kind of a scalar follows from its data type.
+// Shows that the kind of a scalar follows from its data type.
 pub(crate) fn scalar_has_kind(scalar: &AnyScalar)
     ensures { kind_in (physical_type_of (meaning_of scalar.now).0) ≡ scalar_kind scalar.now }
 {

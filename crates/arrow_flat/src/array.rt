@@ -249,8 +249,8 @@ impl<V: Values> FlatArray<V> {
     }
 }
 
-/// Whether the same is stored in `len` rows from row `start` on as in others, but beneath nulls: each
-/// run of rows that are not null is compared at once.
+// Whether the same is stored in `len` rows from row `start` on as in others, but beneath nulls: each
+// run of rows that are not null is compared at once.
 fn equal_runs<V: Values>(
     values: &V,
     validity: &Option<Bitmap>,

@@ -305,10 +305,7 @@ pub fn binary_checked<T: NativeType, D: NativeType, F: Fn(T, D) -> Option<T>>(
     valid_where_set(alloc, made, &bits)
 }
 
-/// What the closure answers to the stored value of a row.
-///
-/// # Requires
-/// The row is there, and the closure may be called on each stored value.
+// What the closure answers to the stored value of a row.
 fn answer_at<I: NativeType, R, F: Fn(I) -> R>(op: &F, stored: &[I], row: usize) -> R
     requires within { row < length stored.now }
     requires callable { All (F.pre op.now) stored.now }
@@ -317,10 +314,7 @@ fn answer_at<I: NativeType, R, F: Fn(I) -> R>(op: &F, stored: &[I], row: usize) 
     op(stored[row])
 }
 
-/// What the closure answers to the stored values of a row of two arrays.
-///
-/// # Requires
-/// Both have as many rows, the row is there, and the closure may be called on the stored values of each.
+// What the closure answers to the stored values of a row of two arrays.
 fn answer_at_both<T: NativeType, D: NativeType, R, F: Fn(T, D) -> R>(
     op: &F,
     left: &[T],
@@ -335,7 +329,7 @@ fn answer_at_both<T: NativeType, D: NativeType, R, F: Fn(T, D) -> R>(
     op(left[row], right[row])
 }
 
-/// The value of an answer, the default where there is none, and whether there is one.
+// The value of an answer, the default where there is none, and whether there is one.
 fn parts<O: NativeType>(answer: Option<O>) -> (O, bool)
     ensures { result ≡ parts_of O.zero answer }
 {
@@ -345,13 +339,7 @@ fn parts<O: NativeType>(answer: Option<O>) -> (O, bool)
     }
 }
 
-/// An array of these values, null where another array is.
-///
-/// # Requires
-/// Arrays of the data type store values of `O`. The other array has as many rows.
-///
-/// # Errors
-/// `OutOfMemory` where memory is refused.
+// An array of these values, null where another array is.
 fn make_of_one<I: NativeType, O: NativeType>(
     alloc: Global,
     data_type: DataType,
@@ -369,13 +357,7 @@ fn make_of_one<I: NativeType, O: NativeType>(
     make(alloc, data_type, values, validity)
 }
 
-/// An array of these values, null where one of two others is.
-///
-/// # Requires
-/// Arrays of the data type store values of `T`. The other arrays have as many rows.
-///
-/// # Errors
-/// `OutOfMemory` where memory is refused.
+// An array of these values, null where one of two others is.
 fn make_of_two<T: NativeType, D: NativeType>(
     alloc: Global,
     data_type: DataType,
@@ -395,13 +377,7 @@ fn make_of_two<T: NativeType, D: NativeType>(
     make(alloc, data_type, values, validity)
 }
 
-/// The same array, null also where a bit is not set.
-///
-/// # Requires
-/// There is a bit for each row.
-///
-/// # Errors
-/// `OutOfMemory` where memory is refused.
+// The same array, null also where a bit is not set.
 fn valid_where_set<O: NativeType>(
     alloc: Global,
     array: PrimitiveArray<O>,
@@ -417,13 +393,7 @@ fn valid_where_set<O: NativeType>(
     Ok(array.with_validity(validity))
 }
 
-/// An array of these values. It takes the memory of one shared owner.
-///
-/// # Requires
-/// Arrays of the data type store values of `O`. A validity has a bit for each value.
-///
-/// # Errors
-/// `OutOfMemory` where that is refused.
+// An array of these values. It takes the memory of one shared owner.
 fn make<O: NativeType>(
     alloc: Global,
     data_type: DataType,

@@ -173,7 +173,7 @@ pub fn all(array: &BooleanArray) -> bool
     array.null_count() == 0 && array.values().unset_bits() == 0
 }
 
-/// Which of the 64 rows from row 64 j on are true, a bit each.
+// Which of the 64 rows from row 64 j on are true, a bit each.
 fn true_word(array: &BooleanArray, j: usize) -> u64
     ensures { (k : ℕ) → k < 64 → (bit_at result k == 1) ≡ selects (slice_index_or (boolean_rows array.now) (64 * j + k) Null) }
 {
@@ -184,14 +184,14 @@ fn true_word(array: &BooleanArray, j: usize) -> u64
     }
 }
 
-/// Whether an array is of the null type: then all rows are null, and no validity says so.
+// Whether an array is of the null type: then all rows are null, and no validity says so.
 fn is_of_nulls(input: &AnyArray) -> bool
     ensures { IsTrue result ↔ (kind_of input.now ≡ null_kind) }
 {
     matches!(input, AnyArray::Null(_))
 }
 
-/// What a connective makes of the rows of two arrays: of the values bit by bit, null where a side is null.
+// What a connective makes of the rows of two arrays: of the values bit by bit, null where a side is null.
 fn connect(
     alloc: Global,
     connective: Connective,
@@ -208,7 +208,7 @@ fn connect(
     Ok(truths(values, validity))
 }
 
-/// What a connective makes of each row and a truth value, or a null.
+// What a connective makes of each row and a truth value, or a null.
 fn connect_scalar(
     alloc: Global,
     connective: Connective,

@@ -111,7 +111,7 @@ pub fn all(array: &BooleanArray) -> bool
     boolean::all(array)
 }
 
-/// What a connective makes of the rows of two arrays: of the values bit by bit, and known where `known_rows` says so.
+// What a connective makes of the rows of two arrays: of the values bit by bit, and known where `known_rows` says so.
 fn connect(
     alloc: Global,
     connective: Connective,
@@ -131,7 +131,7 @@ fn connect(
     Ok(truths(values, validity))
 }
 
-/// The rows of two arrays that are known: none is said to be where neither has a validity. Of two with one it is one pass.
+// The rows of two arrays that are known: none is said to be where neither has a validity. Of two with one it is one pass.
 fn known_rows(
     alloc: Global,
     connective: Connective,
@@ -153,7 +153,7 @@ fn known_rows(
     }
 }
 
-/// The rows that a validity marks as valid, and those at which the other side decides; none where there is no validity.
+// The rows that a validity marks as valid, and those at which the other side decides; none where there is no validity.
 fn known_side(
     alloc: Global,
     connective: Connective,
@@ -173,7 +173,7 @@ fn known_side(
     }
 }
 
-/// What a connective makes of each row and a truth value, or a null.
+// What a connective makes of each row and a truth value, or a null.
 fn connect_scalar(
     alloc: Global,
     connective: Connective,

@@ -73,13 +73,7 @@ pub fn can_length(data_type: &DataType) -> bool
     matches!(data_type, DataType::Utf8 | DataType::LargeUtf8)
 }
 
-/// The lengths of the texts, as an array of this data type.
-///
-/// # Requires
-/// The data type is that of such numbers.
-///
-/// # Errors
-/// `OutOfMemory` where memory is refused.
+// The lengths of the texts, as an array of this data type.
 fn lengths_of<O: Offset>(
     alloc: Global,
     texts: &Utf8Array<O>,
@@ -100,10 +94,7 @@ fn lengths_of<O: Offset>(
     Ok(lengths)
 }
 
-/// How many bytes each row has, and 0 for each null: by one pass over the offsets, 64 rows at a time.
-///
-/// # Errors
-/// `OutOfMemory` where memory is refused.
+// How many bytes each row has, and 0 for each null: by one pass over the offsets, 64 rows at a time.
 fn stored_lengths<O: Offset>(alloc: Global, texts: &Utf8Array<O>) -> Result<Vec<O>, Error>
     ensures ok { IfOk result (λ lengths. map O.number lengths.items ≡ map pos (kept 0 length texts.now.validity (row_bytes texts.now.values))) }
     ensures err { IsOkUnless result Error.OutOfMemory }
@@ -123,7 +114,7 @@ fn stored_lengths<O: Offset>(alloc: Global, texts: &Utf8Array<O>) -> Result<Vec<
     Ok(lengths)
 }
 
-/// A bit for each of 64 rows from row `64 * j` on, set where the row is valid.
+// A bit for each of 64 rows from row `64 * j` on, set where the row is valid.
 fn word_of_rows(validity: Option<&Bitmap>, j: usize) -> u64
     ensures { HasBitsFrom (64 * j) (option_copied validity.entry) result }
 {
@@ -133,8 +124,8 @@ fn word_of_rows(validity: Option<&Bitmap>, j: usize) -> u64
     }
 }
 
-/// Appends how many bytes each of `count` rows from row `start` on has, and 0 where its bit of the word is not set. There
-/// is room for them. Those of a whole word are two halves with a count that is known when the program is compiled.
+// Appends how many bytes each of `count` rows from row `start` on has, and 0 where its bit of the word is not set. There
+// is room for them. Those of a whole word are two halves with a count that is known when the program is compiled.
 fn append_lengths<O: Offset>(
     lengths: &mut Vec<O>,
     offsets: &OffsetsBuffer<O>,
@@ -162,7 +153,7 @@ fn append_lengths<O: Offset>(
     }
 }
 
-/// The same of 32 rows at most, by half a word. No branch depends on a bit, so that several rows are measured at once.
+// The same of 32 rows at most, by half a word. No branch depends on a bit, so that several rows are measured at once.
 #[inline(always)]
 fn append_half<O: Offset>(
     lengths: &mut Vec<O>,
@@ -188,7 +179,7 @@ fn append_half<O: Offset>(
     }
 }
 
-/// 32 bits of a word.
+// 32 bits of a word.
 fn half_of(word: u64, first: usize) -> u32
     requires { first ≤ 32 }
     ensures { (k : ℕ) → k < 32 → (bit_at result k == 1) ≡ (bit_at word (first + k) == 1) }
@@ -196,7 +187,7 @@ fn half_of(word: u64, first: usize) -> u32
     ((word >> first) % 4_294_967_296) as u32
 }
 
-/// How long a row is that lies between these offsets: 0 where it is not valid.
+// How long a row is that lies between these offsets: 0 where it is not valid.
 fn length_if<O: Offset>(begin: O, end: O, is_valid: bool) -> O
     requires starts { pos 0 ≤ℤ O.number begin }
     requires rises { O.number begin ≤ℤ O.number end }

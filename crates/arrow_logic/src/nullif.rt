@@ -122,7 +122,7 @@ pub fn can_nullif(lhs: &DataType, rhs: &DataType) -> bool
     lhs == rhs && has_equality(lhs.to_physical_type())
 }
 
-/// Whether rows that lie so are numbers or intervals, and no floats.
+// Whether rows that lie so are numbers or intervals, and no floats.
 fn has_equality(physical_type: PhysicalType) -> bool
     ensures { IsTrue result ↔ (IsPrimitive physical_type × (IsFloat physical_type → ⊥)) }
 {
@@ -135,10 +135,7 @@ fn has_equality(physical_type: PhysicalType) -> bool
     }
 }
 
-/// Which rows are valid and equal what is stored of others: of nulls what lies beneath is not looked at.
-///
-/// # Errors
-/// `OutOfMemory` where memory is refused.
+// Which rows are valid and equal what is stored of others: of nulls what lies beneath is not looked at.
 fn equal_rows<T: NativeType>(
     alloc: Global,
     stored: &[T],
@@ -156,13 +153,7 @@ fn equal_rows<T: NativeType>(
     }
 }
 
-/// The rows of an array, null also where a bit is set. Its values are shared.
-///
-/// # Requires
-/// There is a bit for each row.
-///
-/// # Errors
-/// `OutOfMemory` where memory is refused.
+// The rows of an array, null also where a bit is set. Its values are shared.
 fn null_where<T: NativeType>(
     alloc: Global,
     array: &PrimitiveArray<T>,
@@ -176,13 +167,7 @@ fn null_where<T: NativeType>(
     Ok(array.clone()?.with_validity(Some(valid)))
 }
 
-/// Which rows are valid where those become null whose bit is set.
-///
-/// # Requires
-/// A validity has as many bits.
-///
-/// # Errors
-/// `OutOfMemory` where memory is refused.
+// Which rows are valid where those become null whose bit is set.
 fn valid_unless(alloc: Global, validity: Option<&Bitmap>, nulls: &Bitmap) -> Result<Bitmap, Error>
     requires { FitsRows (option_copied validity) (length nulls.now) }
     ensures ok { IfOk result (λ bits. bits ≡ valid_but (option_copied validity.entry) nulls.now) }
@@ -195,7 +180,7 @@ fn valid_unless(alloc: Global, validity: Option<&Bitmap>, nulls: &Bitmap) -> Res
     }
 }
 
-/// The rows of an array of a primitive layout.
+// The rows of an array of a primitive layout.
 fn as_primitive(array: &AnyArray) -> &AnyPrimitive
     requires { IsPrimitive (physical_type_of (any_array_type array.now)) }
     ensures array_type { any_type result.now ≡ any_array_type array.now }
@@ -209,7 +194,7 @@ fn as_primitive(array: &AnyArray) -> &AnyPrimitive
     }
 }
 
-/// The value of a scalar of a primitive layout.
+// The value of a scalar of a primitive layout.
 fn as_primitive_scalar(scalar: &AnyScalar) -> &AnyPrimitiveScalar
     requires { IsPrimitive (physical_type_of (meaning_of scalar.now).0) }
     ensures scalar_type { any_scalar_type result.now ≡ (meaning_of scalar.now).0 }
@@ -245,7 +230,7 @@ fn as_primitive_scalar(scalar: &AnyScalar) -> &AnyPrimitiveScalar
     }
 }
 
-/// [`primitive_nullif`] of arrays of any element type.
+// [`primitive_nullif`] of arrays of any element type.
 fn any_nullif(alloc: Global, lhs: &AnyPrimitive, rhs: &AnyPrimitive) -> Result<AnyPrimitive, Error>
     requires types { any_type lhs.now ≡ any_type rhs.now }
     requires lengths { length (any_rows lhs.now) ≡ length (any_rows rhs.now) }
@@ -270,7 +255,7 @@ fn any_nullif(alloc: Global, lhs: &AnyPrimitive, rhs: &AnyPrimitive) -> Result<A
     }
 }
 
-/// [`primitive_nullif_scalar`] of an array and a scalar of any element type.
+// [`primitive_nullif_scalar`] of an array and a scalar of any element type.
 fn any_nullif_scalar(
     alloc: Global,
     lhs: &AnyPrimitive,
@@ -299,7 +284,7 @@ fn any_nullif_scalar(
     }
 }
 
-/// Arrays of one data type have one element type.
+// Arrays of one data type have one element type.
 fn have_one_element(lhs: &AnyPrimitive, rhs: &AnyPrimitive)
     requires { any_type lhs.now ≡ any_type rhs.now }
     ensures { element_of lhs.now ≡ element_of rhs.now }
@@ -308,7 +293,7 @@ fn have_one_element(lhs: &AnyPrimitive, rhs: &AnyPrimitive)
     let _ = rhs.data_type();
 }
 
-/// An array and a scalar of one data type have one element type.
+// An array and a scalar of one data type have one element type.
 fn have_one_scalar_element(lhs: &AnyPrimitive, rhs: &AnyPrimitiveScalar)
     requires { any_type lhs.now ≡ any_scalar_type rhs.now }
     ensures { element_of lhs.now ≡ scalar_element rhs.now }
@@ -317,7 +302,7 @@ fn have_one_scalar_element(lhs: &AnyPrimitive, rhs: &AnyPrimitiveScalar)
     let _ = rhs.data_type();
 }
 
-/// [`primitive_nullif`] where the right array is known to have the element type.
+// [`primitive_nullif`] where the right array is known to have the element type.
 fn nullif_elements<T: AnyElement>(
     alloc: Global,
     lhs: &PrimitiveArray<T>,
@@ -332,7 +317,7 @@ fn nullif_elements<T: AnyElement>(
     T::to_any(&primitive_nullif(alloc, lhs, T::of_any(rhs))?)
 }
 
-/// [`primitive_nullif_scalar`] where the array is known to have the element type.
+// [`primitive_nullif_scalar`] where the array is known to have the element type.
 fn nullif_value<T: AnyElement>(
     alloc: Global,
     lhs: &AnyPrimitive,

@@ -85,10 +85,7 @@ pub fn can_substring(data_type: &DataType) -> bool
     )
 }
 
-/// The parts of rows of one kind.
-///
-/// # Errors
-/// `OutOfMemory` where memory is refused.
+// The parts of rows of one kind.
 fn parts_of<O: Offset, K: Units>(
     alloc: Global,
     rows: &FlatArray<ByteRows<O, K>>,
@@ -108,10 +105,7 @@ fn parts_of<O: Offset, K: Units>(
     Ok(FlatArray::<ByteRows<O, K>>::new(data_type, offsets, bytes, validity))
 }
 
-/// Where the parts end, and their bytes, one behind the other. There is room for the bytes of all rows from the first on.
-///
-/// # Errors
-/// `OutOfMemory` where memory is refused.
+// Where the parts end, and their bytes, one behind the other. There is room for the bytes of all rows from the first on.
 fn copy_parts<O: Offset, K: Units>(
     alloc: Global,
     rows: &FlatArray<ByteRows<O, K>>,
@@ -131,10 +125,7 @@ fn copy_parts<O: Offset, K: Units>(
     }
 }
 
-/// The same, by bytes where that is known to do.
-///
-/// # Errors
-/// `OutOfMemory` where memory is refused.
+// The same, by bytes where that is known to do.
 #[inline(always)]
 fn copy_parts_by<O: Offset, K: Units>(
     alloc: Global,
@@ -165,7 +156,7 @@ fn copy_parts_by<O: Offset, K: Units>(
     Ok((ends.into_buffer()?, bytes))
 }
 
-/// Whether each unit of the rows is known to be a byte: one pass over their bytes, where these are few.
+// Whether each unit of the rows is known to be a byte: one pass over their bytes, where these are few.
 fn have_bytes_as_units<O: Offset, K: Units>(rows: &FlatArray<ByteRows<O, K>>) -> bool
     ensures { IsTrue result → All (IsCutByBytes K.cut) (row_bytes rows.now.values) }
 {
@@ -178,7 +169,7 @@ fn have_bytes_as_units<O: Offset, K: Units>(rows: &FlatArray<ByteRows<O, K>>) ->
     K::are_bytes(&rows.values().as_slice()[first..end])
 }
 
-/// Where the bytes of the part of a row lie: nowhere of a null.
+// Where the bytes of the part of a row lie: nowhere of a null.
 #[inline(always)]
 fn span_of<O: Offset, K: Units>(
     rows: &FlatArray<ByteRows<O, K>>,

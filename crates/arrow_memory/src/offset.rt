@@ -324,7 +324,7 @@ impl<O: Offset> Offsets<O> {
     }
 }
 
-/// The last of some offsets.
+// The last of some offsets.
 fn last<O: Offset>(offsets: &[O]) -> &O
     requires { 0 < length offsets.now }
     ensures { O.number result.now ≡ slice_index_or (map O.number offsets.now) (length offsets.now - 1) (pos 0) }
@@ -332,8 +332,8 @@ fn last<O: Offset>(offsets: &[O]) -> &O
     &offsets[offsets.len() - 1]
 }
 
-/// Appends the offsets of `len` rows from row `start` on, counted on from `to`. There is room for
-/// them.
+// Appends the offsets of `len` rows from row `start` on, counted on from `to`. There is room for
+// them.
 fn append_rows<O: Offset>(
     offsets: &mut Vec<O>,
     to: O,
@@ -352,8 +352,8 @@ fn append_rows<O: Offset>(
     append_shifted(offsets, &values[start + 1..start + 1 + len], from, to);
 }
 
-/// Appends offsets, counted on from `to` where they were counted on from `from`. There is room for
-/// them.
+// Appends offsets, counted on from `to` where they were counted on from `from`. There is room for
+// them.
 fn append_shifted<O: Offset>(offsets: &mut Vec<O>, rows: &[O], from: O, to: O)
     requires room { vec_len offsets.old + length rows.now ≤ vec_capacity offsets.old }
     requires starts { pos 0 ≤ℤ O.number from }
@@ -368,7 +368,7 @@ fn append_shifted<O: Offset>(offsets: &mut Vec<O>, rows: &[O], from: O, to: O)
     shift(&mut offsets[done..], from, to);
 }
 
-/// Counts offsets on from `to` where they were counted on from `from`.
+// Counts offsets on from `to` where they were counted on from `from`.
 fn shift<O: Offset>(offsets: &mut [O], from: O, to: O)
     requires starts { pos 0 ≤ℤ O.number from }
     requires not_negative { pos 0 ≤ℤ O.number to }
@@ -380,8 +380,8 @@ fn shift<O: Offset>(offsets: &mut [O], from: O, to: O)
     }
 }
 
-/// Whether the items of the rows whose bit is set end at the greatest offset at most, counted on from
-/// `last`. They are counted only where those of all rows may pass it.
+// Whether the items of the rows whose bit is set end at the greatest offset at most, counted on from
+// `last`. They are counted only where those of all rows may pass it.
 fn valid_rows_fit<O: Offset>(
     last: &O,
     other: &OffsetsBuffer<O>,
@@ -403,7 +403,7 @@ fn valid_rows_fit<O: Offset>(
     O::from_usize(place + items).is_some()
 }
 
-/// How many items the rows have whose bit is set, of `len` rows from row `start` on.
+// How many items the rows have whose bit is set, of `len` rows from row `start` on.
 fn count_valid_items<O: Offset>(
     other: &OffsetsBuffer<O>,
     validity: &Bitmap,
@@ -424,7 +424,7 @@ fn count_valid_items<O: Offset>(
     items
 }
 
-/// How many items a row has: none where it is not valid.
+// How many items a row has: none where it is not valid.
 fn count_items_of<O: Offset>(other: &OffsetsBuffer<O>, row: usize, is_valid: bool) -> usize
     requires { row + 1 < length other.now }
     ensures { result ≡ valid_length is_valid other.now row }
@@ -433,8 +433,8 @@ fn count_items_of<O: Offset>(other: &OffsetsBuffer<O>, row: usize, is_valid: boo
     if is_valid { end - begin } else { 0 }
 }
 
-/// Appends where the rows end whose bit is set, and empty rows for the others, a word of bits at a
-/// time: `len` rows from row `start` on, counted on from `last`. There is room for them.
+// Appends where the rows end whose bit is set, and empty rows for the others, a word of bits at a
+// time: `len` rows from row `start` on, counted on from `last`. There is room for them.
 fn append_valid_rows<O: Offset>(
     offsets: &mut Vec<O>,
     last: O,
@@ -462,8 +462,8 @@ fn append_valid_rows<O: Offset>(
     }
 }
 
-/// Appends where `count` rows from row `start` on end, by the bits of a word, and answers the last of
-/// these offsets. There is room for them.
+// Appends where `count` rows from row `start` on end, by the bits of a word, and answers the last of
+// these offsets. There is room for them.
 fn append_word_of_rows<O: Offset>(
     offsets: &mut Vec<O>,
     last: O,
@@ -489,8 +489,8 @@ fn append_word_of_rows<O: Offset>(
     write_word_of_rows(offsets.slice_mut(done..), last, other, start, word)
 }
 
-/// Writes where rows from row `start` on end, by the bits of a word, and answers the last of these offsets.
-/// No test depends on a bit.
+// Writes where rows from row `start` on end, by the bits of a word, and answers the last of these offsets.
+// No test depends on a bit.
 fn write_word_of_rows<O: Offset>(
     ends: &mut [O],
     last: O,
@@ -519,14 +519,14 @@ fn write_word_of_rows<O: Offset>(
     last
 }
 
-/// Where a row begins that ends at `next`: there too, where it is not valid.
+// Where a row begins that ends at `next`: there too, where it is not valid.
 fn begin_of<O: Offset>(begin: O, next: O, is_valid: bool) -> O
     ensures { O.number result ≡ (if is_valid then O.number begin else O.number next) }
 {
     if is_valid { begin } else { next }
 }
 
-/// Whether numbers are offsets.
+// Whether numbers are offsets.
 fn are_offsets<O: Offset>(offsets: &[O]) -> bool
     ensures { IsTrue result ↔ AreOffsets (map O.number offsets.now) }
 {

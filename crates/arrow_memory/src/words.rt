@@ -12,7 +12,7 @@ use logic::{Second, combine};
 /// The bits of a word.
 pub const WORD_BITS: usize = 64;
 
-/// The word whose bit k is `bits[k]`, with zeros above.
+// The word whose bit k is `bits[k]`, with zeros above.
 pub(crate) fn pack(bits: &[bool]) -> u64
     requires { length bits.now ≤ 64 }
     ensures { result ≡ word_of bits.now }
@@ -24,14 +24,14 @@ pub(crate) fn pack(bits: &[bool]) -> u64
     word
 }
 
-/// A word, or 0 past the last.
+// A word, or 0 past the last.
 fn word_at(words: &[u64], index: usize) -> u64
     ensures { result ≡ slice_index words.now index }
 {
     words.get(index).copied().unwrap_or(0)
 }
 
-/// How many bits are set below a place, in the word of that place.
+// How many bits are set below a place, in the word of that place.
 fn count_ones_below(words: &[u64], place: usize) -> usize
     ensures { result ≡ set_count (bits_in words.now (place - place % 64) (place % 64)) }
 {
@@ -39,7 +39,7 @@ fn count_ones_below(words: &[u64], place: usize) -> usize
     (word_at(words, place / WORD_BITS) & below).count_ones() as usize
 }
 
-/// How many bits are set from `start` up to `end`.
+// How many bits are set from `start` up to `end`.
 pub(crate) fn count_ones(words: &[u64], start: usize, end: usize) -> usize
     requires ordered { start ≤ end }
     requires within { end ≤ 64 * length words.now }
@@ -52,7 +52,7 @@ pub(crate) fn count_ones(words: &[u64], start: usize, end: usize) -> usize
     ones - count_ones_below(words, start)
 }
 
-/// The word whose bits are the 64 from a place on, with zeros past the last word.
+// The word whose bits are the 64 from a place on, with zeros past the last word.
 pub(crate) fn word_from(words: &[u64], place: usize) -> u64
     ensures { result ≡ word_of (bits_in words.now place 64) }
 {
@@ -64,7 +64,7 @@ pub(crate) fn word_from(words: &[u64], place: usize) -> u64
     low | word_at(words, place / WORD_BITS + 1) << (WORD_BITS - shift)
 }
 
-/// The same of 64 bits that the words hold: it reads no more words than these lie in, and tests for no end.
+// The same of 64 bits that the words hold: it reads no more words than these lie in, and tests for no end.
 #[inline(always)]
 pub(crate) fn word_within(words: &[u64], place: usize) -> u64
     requires { place + 64 ≤ 64 * length words.now }
@@ -78,7 +78,7 @@ pub(crate) fn word_within(words: &[u64], place: usize) -> u64
     low | words[place / WORD_BITS + 1] << (WORD_BITS - shift)
 }
 
-/// How many of the lowest `count` bits of a word are equal to `bit`, up to the first that is not.
+// How many of the lowest `count` bits of a word are equal to `bit`, up to the first that is not.
 pub(crate) fn low_run(word: u64, count: usize, bit: bool) -> usize
     requires { count ≤ 64 }
     ensures { IsLowRun word count bit result }
@@ -87,7 +87,7 @@ pub(crate) fn low_run(word: u64, count: usize, bit: bool) -> usize
     count.min(others.trailing_zeros() as usize)
 }
 
-/// The first `count` bits from a place on as a word, with zeros above.
+// The first `count` bits from a place on as a word, with zeros above.
 pub(crate) fn bits_from(words: &[u64], place: usize, count: usize) -> u64
     requires { count ≤ 64 }
     ensures { result ≡ word_of (bits_in words.now place count) }
@@ -95,7 +95,7 @@ pub(crate) fn bits_from(words: &[u64], place: usize, count: usize) -> u64
     low_word(word_from(words, place), count)
 }
 
-/// The lowest `count` bits of a word, with zeros above.
+// The lowest `count` bits of a word, with zeros above.
 pub(crate) fn low_word(word: u64, count: usize) -> u64
     requires { count ≤ 64 }
     ensures { result ≡ word_of (low_bits word count) }
@@ -107,7 +107,7 @@ pub(crate) fn low_word(word: u64, count: usize) -> u64
     }
 }
 
-/// The 64 bits across two words, from bit `shift` of the low one on.
+// The 64 bits across two words, from bit `shift` of the low one on.
 pub(crate) fn across(low: u64, high: u64, shift: usize) -> u64
     requires { shift < 64 }
     ensures { result ≡ bit_or (low / 2 ^ shift) (high * 2 ^ (64 - shift) % 2 ^ 64) }
@@ -116,7 +116,7 @@ pub(crate) fn across(low: u64, high: u64, shift: usize) -> u64
     low >> shift | high << 1 << (WORD_BITS - 1 - shift)
 }
 
-/// A word of so many equal bits, with zeros above.
+// A word of so many equal bits, with zeros above.
 pub(crate) fn equal_bits(count: usize, bit: bool) -> u64
     requires { count ≤ 64 }
     ensures { result ≡ word_of (replicate count bit) }
@@ -130,7 +130,7 @@ pub(crate) fn equal_bits(count: usize, bit: bool) -> u64
     }
 }
 
-/// Puts the `count` bits of a word behind the first `place` ones. What the last word holds behind them is zeros.
+// Puts the `count` bits of a word behind the first `place` ones. What the last word holds behind them is zeros.
 pub(crate) fn append_word(words: &mut Vec<u64>, place: usize, word: u64, count: usize)
     requires full { length words.old.items ≡ div_ceil place 64 }
     requires in_word { count ≤ 64 }
@@ -149,7 +149,7 @@ pub(crate) fn append_word(words: &mut Vec<u64>, place: usize, word: u64, count: 
     }
 }
 
-/// The same where the last word has room for the bits.
+// The same where the last word has room for the bits.
 #[inline(always)]
 pub(crate) fn append_within(words: &mut Vec<u64>, place: usize, word: u64, count: usize)
     requires full { length words.old.items ≡ div_ceil place 64 }
@@ -161,8 +161,8 @@ pub(crate) fn append_within(words: &mut Vec<u64>, place: usize, word: u64, count
     words[place / WORD_BITS] |= word << (place % WORD_BITS);
 }
 
-/// Puts `count` words of the bits from place `from` of others behind those that are there, with zeros past the
-/// last of the others.
+// Puts `count` words of the bits from place `from` of others behind those that are there, with zeros past the
+// last of the others.
 fn append_words(words: &mut Vec<u64>, others: &[u64], from: usize, count: usize)
     requires part { from + 64 * count < 64 * length others.now + 64 }
     requires room { vec_len words.old + count ≤ vec_capacity words.old }
@@ -184,7 +184,7 @@ fn append_words(words: &mut Vec<u64>, others: &[u64], from: usize, count: usize)
     }
 }
 
-/// Fills the last word with the bits from place `from` of others behind the first `place` ones.
+// Fills the last word with the bits from place `from` of others behind the first `place` ones.
 fn fill_word(words: &mut Vec<u64>, place: usize, others: &[u64], from: usize)
     requires full { length words.old.items ≡ div_ceil place 64 }
     ensures long { length words.new.items ≡ length words.old.items }
@@ -197,7 +197,7 @@ fn fill_word(words: &mut Vec<u64>, place: usize, others: &[u64], from: usize)
     }
 }
 
-/// Clears what the last word holds behind the first `len` bits.
+// Clears what the last word holds behind the first `len` bits.
 fn clear_behind(words: &mut Vec<u64>, len: usize)
     requires full { length words.old.items ≡ div_ceil len 64 }
     ensures long { length words.new.items ≡ length words.old.items }
@@ -209,7 +209,7 @@ fn clear_behind(words: &mut Vec<u64>, len: usize)
     }
 }
 
-/// Puts `len` bits from place `from` of others behind the first `place` ones. Those of one word go as a word.
+// Puts `len` bits from place `from` of others behind the first `place` ones. Those of one word go as a word.
 #[inline(always)]
 pub(crate) fn append_bits(
     words: &mut Vec<u64>,
@@ -233,8 +233,8 @@ pub(crate) fn append_bits(
     }
 }
 
-/// The same of more bits than a word has: whole words of the others from where the last word is filled, of which the
-/// last one is cut.
+// The same of more bits than a word has: whole words of the others from where the last word is filled, of which the
+// last one is cut.
 #[inline(never)]
 fn append_more(words: &mut Vec<u64>, place: usize, others: &[u64], from: usize, len: usize)
     requires many { 64 < len }
@@ -255,7 +255,7 @@ fn append_more(words: &mut Vec<u64>, place: usize, others: &[u64], from: usize, 
     clear_behind(words, place + len);
 }
 
-/// Puts a bit so many times behind the first `place` bits.
+// Puts a bit so many times behind the first `place` bits.
 pub(crate) fn append_equal(words: &mut Vec<u64>, place: usize, count: usize, bit: bool)
     requires full { length words.old.items ≡ div_ceil place 64 }
     requires room { div_ceil (place + count) 64 ≤ vec_capacity words.old }
@@ -275,7 +275,7 @@ pub(crate) fn append_equal(words: &mut Vec<u64>, place: usize, count: usize, bit
     append_word(words, place + done, equal_bits(tail, bit), tail);
 }
 
-/// Puts `count` words of equal bits behind those that are there.
+// Puts `count` words of equal bits behind those that are there.
 fn append_equal_words(words: &mut Vec<u64>, count: usize, bit: bool)
     requires { vec_len words.old + count ≤ vec_capacity words.old }
     ensures long { length words.new.items ≡ length words.old.items + count }

@@ -91,13 +91,7 @@ pub fn finish_neq_validities(
     finish::<NotEqual>(alloc, out, lhs, rhs)
 }
 
-/// Answers to rows, from those to what is stored of them and from the validity of both sides. A null of `out` stays.
-///
-/// # Requires
-/// Each validity has a bit for each row.
-///
-/// # Errors
-/// `OutOfMemory` where memory is refused.
+// Answers to rows, from those to what is stored of them and from the validity of both sides. A null of `out` stays.
 pub(crate) fn finish<E: Sameness>(
     alloc: Global,
     out: BooleanArray,
@@ -115,13 +109,7 @@ pub(crate) fn finish<E: Sameness>(
     Ok(truths(bits, shared(out.validity())?))
 }
 
-/// The bits of what was compared, each with whether its row of both sides is valid. Without validities they are shared.
-///
-/// # Requires
-/// A validity has a bit for each row.
-///
-/// # Errors
-/// `OutOfMemory` where memory is refused.
+// The bits of what was compared, each with whether its row of both sides is valid. Without validities they are shared.
 fn finished_bits<E: Sameness>(
     alloc: Global,
     stored: &Bitmap,
@@ -143,10 +131,7 @@ fn finished_bits<E: Sameness>(
     )
 }
 
-/// The answers to the 64 rows from row `64 * j` on, where `stored` has those to what is stored.
-///
-/// # Requires
-/// Each validity has a bit for each row.
+// The answers to the 64 rows from row `64 * j` on, where `stored` has those to what is stored.
 fn finished_word<E: Sameness>(
     stored: &Bitmap,
     lhs: &Option<Bitmap>,
@@ -160,7 +145,7 @@ fn finished_word<E: Sameness>(
     E::finished_word(stored.word(j), valid_word(lhs, j), valid_word(rhs, j))
 }
 
-/// Which of the 64 rows from row `64 * j` on are valid, a bit each.
+// Which of the 64 rows from row `64 * j` on are valid, a bit each.
 fn valid_word(validity: &Option<Bitmap>, j: usize) -> u64
     ensures { (len k : ℕ) → FitsRows validity.now len → k < 64 → 64 * j + k < len → (bit_at result k == 1) ≡ valid_at validity.now (64 * j + k) }
 {

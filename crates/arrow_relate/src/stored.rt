@@ -59,13 +59,7 @@ pub(crate) trait RelatedToScalar<R: FixedRelation, S>: Values {
         ensures err { IsOkUnless result Error.OutOfMemory };
 }
 
-/// Whether a relation holds of each row of both sides, and null where one of the two is.
-///
-/// # Requires
-/// Both have as many rows.
-///
-/// # Errors
-/// `OutOfMemory` where memory is refused.
+// Whether a relation holds of each row of both sides, and null where one of the two is.
 pub(crate) fn relate_by<R: FixedRelation, V: RelatedBy<R>>(
     alloc: Global,
     lhs: &FlatArray<V>,
@@ -81,13 +75,7 @@ pub(crate) fn relate_by<R: FixedRelation, V: RelatedBy<R>>(
     Ok(truths(bits, either))
 }
 
-/// Whether a relation holds of each row and a scalar, and null where the row is.
-///
-/// # Requires
-/// The scalar is one of the kind.
-///
-/// # Errors
-/// `OutOfMemory` where memory is refused.
+// Whether a relation holds of each row and a scalar, and null where the row is.
 pub(crate) fn relate_scalar_by<R: FixedRelation, V: RelatedToScalar<R, S>, S>(
     alloc: Global,
     lhs: &FlatArray<V>,
@@ -103,14 +91,8 @@ pub(crate) fn relate_scalar_by<R: FixedRelation, V: RelatedToScalar<R, S>, S>(
     Ok(truths(bits, validity))
 }
 
-/// Whether the rows of both sides are the same, or whether they differ: two nulls are the same, and a null and a value are
-/// not. No row is null.
-///
-/// # Requires
-/// Both have as many rows.
-///
-/// # Errors
-/// `OutOfMemory` where memory is refused.
+// Whether the rows of both sides are the same, or whether they differ: two nulls are the same, and a null and a value are
+// not. No row is null.
 pub(crate) fn same_by<E: Sameness, V: RelatedBy<E>>(
     alloc: Global,
     lhs: &FlatArray<V>,
@@ -127,13 +109,7 @@ pub(crate) fn same_by<E: Sameness, V: RelatedBy<E>>(
     finish::<E>(alloc, truths(bits, None), left, right)
 }
 
-/// Whether each row is the scalar, or whether it differs from it: a null does. No row is null.
-///
-/// # Requires
-/// The scalar is one of the kind.
-///
-/// # Errors
-/// `OutOfMemory` where memory is refused.
+// Whether each row is the scalar, or whether it differs from it: a null does. No row is null.
 pub(crate) fn same_scalar_by<E: Sameness, V: RelatedToScalar<E, S>, S>(
     alloc: Global,
     lhs: &FlatArray<V>,

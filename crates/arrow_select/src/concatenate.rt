@@ -46,7 +46,7 @@ pub fn concatenate(alloc: Global, arrays: &[&AnyArray]) -> Result<AnyArray, Erro
     join_arrays(alloc, arrays)
 }
 
-/// Whether all arrays are of the first one's type.
+// Whether all arrays are of the first one's type.
 fn have_one_type(arrays: &[&AnyArray], first: &AnyArray) -> bool
     ensures { MatchBool result (All (λ t. t ≡ any_array_type first.now) (types_in arrays.now)) (HasOther (any_array_type first.now) (types_in arrays.now)) }
 {
@@ -58,7 +58,7 @@ fn have_one_type(arrays: &[&AnyArray], first: &AnyArray) -> bool
     true
 }
 
-/// Whether two arrays are of one data type.
+// Whether two arrays are of one data type.
 pub(crate) fn is_of_type(array: &AnyArray, other: &AnyArray) -> bool
     ensures { IsTrue result ↔ (any_array_type array.now ≡ any_array_type other.now) }
 {

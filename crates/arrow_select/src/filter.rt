@@ -85,7 +85,7 @@ pub fn filter_chunk(
     Ok(chunk)
 }
 
-/// The rows of each column at which the mask is set.
+// The rows of each column at which the mask is set.
 fn filter_columns(
     alloc: Global,
     columns: &[AnyArray],

@@ -70,8 +70,8 @@ pub fn if_then_else(
     chosen_rows(alloc, predicate, lhs, rhs)
 }
 
-/// The rows that the predicate chooses of two arrays of one data type: of numbers, intervals and truth values by words,
-/// and of others by runs.
+// The rows that the predicate chooses of two arrays of one data type: of numbers, intervals and truth values by words,
+// and of others by runs.
 fn chosen_rows(
     alloc: Global,
     predicate: &BooleanArray,
@@ -103,7 +103,7 @@ fn chosen_rows(
     }
 }
 
-/// The same by a growable over both arrays that has no row yet.
+// The same by a growable over both arrays that has no row yet.
 fn chosen_by_runs(
     growable: AnyGrowable,
     predicate: &BooleanArray,
@@ -123,7 +123,7 @@ fn chosen_by_runs(
     growable.as_box()
 }
 
-/// Appends the rows that the predicate chooses, by the growable of the arrays' kind, which is found once.
+// Appends the rows that the predicate chooses, by the growable of the arrays' kind, which is found once.
 fn append_by_kind(
     growable: &mut AnyGrowable,
     predicate: &BooleanArray,
@@ -151,7 +151,7 @@ fn append_by_kind(
     }
 }
 
-/// Appends the rows that the predicate chooses, a run of rows of one array or of nulls at a time.
+// Appends the rows that the predicate chooses, a run of rows of one array or of nulls at a time.
 fn append_chosen<'a, G: Growable<'a>>(
     growable: &mut G,
     predicate: &BooleanArray,
@@ -172,7 +172,7 @@ fn append_chosen<'a, G: Growable<'a>>(
     Ok(())
 }
 
-/// Appends rows of the first array that is bound, of the second one, or nulls.
+// Appends rows of the first array that is bound, of the second one, or nulls.
 #[inline(always)]
 fn append_run<'a, G: Growable<'a>>(
     growable: &mut G,
@@ -219,7 +219,7 @@ pub fn if_then_else_ranges(
     Ok(ranges)
 }
 
-/// The side of a row of a predicate, null or not.
+// The side of a row of a predicate, null or not.
 fn side_number(truth: Option<bool>) -> usize
     ensures { result ≡ side_of (truth_slot truth) }
 {

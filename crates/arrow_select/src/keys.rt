@@ -6,7 +6,7 @@ ghost use Rattle.arrow_select.specs.Keys.{HasNoDictionary, HasNoKeys};
 
 use arrow_arrays::array::AnyArray;
 
-/// Shows that each of several arrays holds no dictionary, if its type holds none.
+// Shows that each of several arrays holds no dictionary, if its type holds none.
 pub(crate) fn show_all_no_keys(arrays: &[&AnyArray])
     ensures { All (λ array. HasNoDictionary (any_array_type array.now) → HasNoKeys (layout_of array.now)) arrays.now }
 {
@@ -15,8 +15,8 @@ pub(crate) fn show_all_no_keys(arrays: &[&AnyArray])
     }
 }
 
-/// Shows that an array holds no dictionary, if its type holds none, by a walk down to the arrays without
-/// children: what kind of array each child is follows from its data type.
+// Shows that an array holds no dictionary, if its type holds none, by a walk down to the arrays without
+// children: what kind of array each child is follows from its data type.
 #[cycle(keys)]
 fn show_no_keys(array: &AnyArray)
     ensures { HasNoDictionary (any_array_type array.now) → HasNoKeys (layout_of array.now) }
@@ -53,7 +53,7 @@ fn show_no_keys(array: &AnyArray)
     }
 }
 
-/// Shows the same of the children of an array.
+// Shows the same of the children of an array.
 #[cycle(keys)]
 fn show_no_keys_in(children: &[AnyArray])
     ensures { All (λ child. HasNoDictionary (any_array_type child) → HasNoKeys (layout_of child)) children.now }

@@ -12,11 +12,8 @@ use std::alloc::Global;
 /// How many bytes a span is copied as where it has no more: two moves.
 const BLOCK: usize = 32;
 
-/// The bytes of the spans, each from its first byte up to its end. There is room for `total`, and for a block more, from the
-/// first on.
-///
-/// # Errors
-/// `OutOfMemory` where memory is refused.
+// The bytes of the spans, each from its first byte up to its end. There is room for `total`, and for a block more, from the
+// first on.
 pub(crate) fn copy_spans(
     alloc: Global,
     from: &[u8],

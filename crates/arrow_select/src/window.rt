@@ -45,7 +45,7 @@ pub fn shift(alloc: Global, array: &AnyArray, offset: i64) -> Result<AnyArray, E
     rows_between(growable, array, front, distance - front)
 }
 
-/// What [`append_between`] appends, by a growable over the array that has no row yet.
+// What [`append_between`] appends, by a growable over the array that has no row yet.
 fn rows_between(
     growable: AnyGrowable,
     array: &AnyArray,
@@ -65,8 +65,8 @@ fn rows_between(
     growable.as_box()
 }
 
-/// Appends `front` null slots, then rows, and then `behind` null slots: as many as the array has. The
-/// rows are those from row `behind` on.
+// Appends `front` null slots, then rows, and then `behind` null slots: as many as the array has. The
+// rows are those from row `behind` on.
 fn append_between(
     growable: &mut AnyGrowable,
     array: &AnyArray,

@@ -20,7 +20,7 @@ pub fn read_validity(alloc: Global, piece: Piece<'_>) -> Result<Option<Bitmap>, 
     }
 }
 
-/// The bits of letters in brackets, and slices of them, one after the other, as `tft*3@1+2`.
+// The bits of letters in brackets, and slices of them, one after the other, as `tft*3@1+2`.
 pub(crate) fn letters_between(
     alloc: Global,
     piece: Piece<'_>,
@@ -34,7 +34,7 @@ pub(crate) fn letters_between(
     }
 }
 
-/// The bits of letters, of which slices are taken.
+// The bits of letters, of which slices are taken.
 fn sliced_letters(
     alloc: Global,
     letters: Piece<'_>,
@@ -48,7 +48,7 @@ fn sliced_letters(
     Ok(bits)
 }
 
-/// Where a slice of so many rows begins and how long it is, as `1+2`.
+// Where a slice of so many rows begins and how long it is, as `1+2`.
 pub(crate) fn slice_within(piece: Piece<'_>, rows: usize) -> Result<(usize, usize), Fault>
     ensures { IfOk result (λ slice. slice.0 + slice.1 ≤ rows) }
 {
@@ -61,7 +61,7 @@ pub(crate) fn slice_within(piece: Piece<'_>, rows: usize) -> Result<(usize, usiz
     Ok((offset, len))
 }
 
-/// The bits of letters: a `t` is set, and a letter may be repeated, as `t*64`.
+// The bits of letters: a `t` is set, and a letter may be repeated, as `t*64`.
 fn bits_of(alloc: Global, letters: Piece<'_>) -> Result<Bitmap, Fault> {
     let mut bits = MutableBitmap::new(alloc);
     let mut last = None;
@@ -81,12 +81,12 @@ fn bits_of(alloc: Global, letters: Piece<'_>) -> Result<Bitmap, Fault> {
     Ok(bits.into_bitmap()?)
 }
 
-/// A number with one more digit behind it; none where no number has begun, or where it is too large.
+// A number with one more digit behind it; none where no number has begun, or where it is too large.
 fn counted(count: Option<u32>, digit: char) -> Option<u32> {
     count?.checked_mul(10)?.checked_add(digit.to_digit(10)?)
 }
 
-/// Appends a bit, if there is one, as often as it is said.
+// Appends a bit, if there is one, as often as it is said.
 fn push_letter(
     bits: &mut MutableBitmap,
     bit: Option<bool>,

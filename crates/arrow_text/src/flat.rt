@@ -87,7 +87,7 @@ impl Source<'_, '_> {
     }
 }
 
-/// An array of a kind that has no children.
+// An array of a kind that has no children.
 pub(crate) fn flat_array(
     alloc: Global,
     data_type: &DataType,
@@ -107,7 +107,7 @@ pub(crate) fn flat_array(
     }
 }
 
-/// Nulls.
+// Nulls.
 fn nulls(
     alloc: Global,
     data_type: &DataType,
@@ -118,7 +118,7 @@ fn nulls(
     boxed(alloc, AnyArray::Null(array))
 }
 
-/// How many nulls there are, which nothing is stored beneath.
+// How many nulls there are, which nothing is stored beneath.
 fn count_of_nulls(rows: &[Piece<'_>]) -> Result<usize, Fault> {
     for row in rows {
         if row.text() != "_" {
@@ -128,7 +128,7 @@ fn count_of_nulls(rows: &[Piece<'_>]) -> Result<usize, Fault> {
     Ok(rows.len())
 }
 
-/// Truth values.
+// Truth values.
 fn booleans(
     alloc: Global,
     data_type: &DataType,
@@ -140,7 +140,7 @@ fn booleans(
     boxed(alloc, AnyArray::Boolean(array))
 }
 
-/// A bit for each row: not set where nothing is stored.
+// A bit for each row: not set where nothing is stored.
 fn bits_of(alloc: Global, rows: &[Piece<'_>]) -> Result<Bitmap, Fault> {
     let mut bits = MutableBitmap::new(alloc);
     for row in rows {
@@ -149,7 +149,7 @@ fn bits_of(alloc: Global, rows: &[Piece<'_>]) -> Result<Bitmap, Fault> {
     Ok(bits.into_bitmap()?)
 }
 
-/// The truth value that is stored in a row; false where nothing is.
+// The truth value that is stored in a row; false where nothing is.
 fn truth_of(row: Piece<'_>) -> Result<bool, Fault> {
     match row.stored() {
         Some(stored) => stored.truth(),
@@ -178,7 +178,7 @@ macro_rules! of_element {
     };
 }
 
-/// A primitive array.
+// A primitive array.
 fn primitives(
     alloc: Global,
     data_type: &DataType,
@@ -188,7 +188,7 @@ fn primitives(
     of_element!(of, numbers(alloc, data_type, source))
 }
 
-/// A primitive array of one element type.
+// A primitive array of one element type.
 fn numbers<T: Element + AnyElement>(
     alloc: Global,
     data_type: &DataType,
@@ -200,7 +200,7 @@ fn numbers<T: Element + AnyElement>(
     boxed(alloc, AnyArray::Primitive(T::to_any(&array)?))
 }
 
-/// What is stored in each row, some of which may be null.
+// What is stored in each row, some of which may be null.
 fn elements_of<T: Element>(
     alloc: Global,
     rows: &[Piece<'_>],
@@ -213,7 +213,7 @@ fn elements_of<T: Element>(
     Ok(Buffer::from_vec(alloc, values)?)
 }
 
-/// Texts or bytes.
+// Texts or bytes.
 fn byte_rows<O: AnyOffset + Integer, K: AnyRows>(
     alloc: Global,
     data_type: &DataType,
@@ -226,7 +226,7 @@ fn byte_rows<O: AnyOffset + Integer, K: AnyRows>(
     boxed(alloc, K::to_any(&array)?)
 }
 
-/// The bytes of all rows, and where each row ends: none where nothing is stored.
+// The bytes of all rows, and where each row ends: none where nothing is stored.
 fn bytes_of<O: AnyOffset>(
     alloc: Global,
     rows: &[Piece<'_>],
@@ -241,7 +241,7 @@ fn bytes_of<O: AnyOffset>(
     Ok((offsets_of(alloc, &lengths)?, bytes))
 }
 
-/// Appends the bytes that are stored in a row.
+// Appends the bytes that are stored in a row.
 fn push_stored(bytes: &mut Vec<u8>, row: Piece<'_>) -> Result<(), Fault> {
     match row.stored() {
         Some(stored) => push_bytes(bytes, stored),
@@ -249,7 +249,7 @@ fn push_stored(bytes: &mut Vec<u8>, row: Piece<'_>) -> Result<(), Fault> {
     }
 }
 
-/// Rows of so many bytes each.
+// Rows of so many bytes each.
 fn fixed_bytes(
     alloc: Global,
     data_type: &DataType,
@@ -261,7 +261,7 @@ fn fixed_bytes(
     boxed(alloc, AnyArray::FixedSizeBinary(array))
 }
 
-/// The bytes of all rows, so many each: zeros where nothing is stored.
+// The bytes of all rows, so many each: zeros where nothing is stored.
 fn bytes_of_size(alloc: Global, size: usize, rows: &[Piece<'_>]) -> Result<Buffer<u8>, Fault> {
     let mut bytes = Vec::new(alloc);
     for row in rows {
@@ -270,7 +270,7 @@ fn bytes_of_size(alloc: Global, size: usize, rows: &[Piece<'_>]) -> Result<Buffe
     Ok(Buffer::from_vec(alloc, bytes)?)
 }
 
-/// Appends the bytes of a row, which has so many: zeros where nothing is stored.
+// Appends the bytes of a row, which has so many: zeros where nothing is stored.
 fn push_of_size(bytes: &mut Vec<u8>, row: Piece<'_>, size: usize) -> Result<(), Fault> {
     let Some(stored) = row.stored() else {
         return push_often(bytes, 0, size);

@@ -132,18 +132,18 @@ impl Element for u64 {
     }
 }
 
-/// The two parts of a text that a colon parts.
+// The two parts of a text that a colon parts.
 fn halves(piece: Piece<'_>) -> Result<(Piece<'_>, Piece<'_>), Fault> {
     piece.parted(':').ok_or(piece.fault())
 }
 
-/// The two numbers of a text that a colon parts.
+// The two numbers of a text that a colon parts.
 fn pair<S: Integer, T: Integer>(piece: Piece<'_>) -> Result<(S, T), Fault> {
     let (first, second) = halves(piece)?;
     Ok((first.integer()?, second.integer()?))
 }
 
-/// Appends two numbers, parted by a colon.
+// Appends two numbers, parted by a colon.
 fn write_pair<S: Display + Drop, T: Display + Drop>(
     out: &mut String,
     first: S,
@@ -191,7 +191,7 @@ impl Element for months_days_ns {
     }
 }
 
-/// Appends a number behind a colon.
+// Appends a number behind a colon.
 fn write_tail(out: &mut String, last: i64) -> Result<(), Fault> {
     Ok(write!(out, ":{last}")?)
 }

@@ -114,7 +114,7 @@ impl<'a> Parts<'a> {
     }
 }
 
-/// A part's name, and the part.
+// A part's name, and the part.
 fn named<'a>(piece: Piece<'a>) -> Result<(&'a str, Piece<'a>), Fault> {
     match piece.parted('=') {
         Some((name, part)) => Ok((name.text(), part)),
@@ -132,7 +132,7 @@ pub fn read_offsets<O: Integer>(alloc: Global, piece: Piece<'_>) -> Result<Vec<O
     Ok(offsets)
 }
 
-/// The array that a constructor makes of these parts: that of the data type, or one that is named.
+// The array that a constructor makes of these parts: that of the data type, or one that is named.
 #[cycle(parts)]
 pub(crate) fn array_of_parts(
     alloc: Global,
@@ -159,7 +159,7 @@ pub(crate) fn array_of_parts(
     }
 }
 
-/// The kind of arrays whose constructor is called.
+// The kind of arrays whose constructor is called.
 fn kind_in(data_type: &DataType, parts: &Parts<'_>) -> Result<PhysicalType, Fault> {
     match parts.get("kind") {
         Some(word) => kind_of(word),
@@ -167,18 +167,18 @@ fn kind_in(data_type: &DataType, parts: &Parts<'_>) -> Result<PhysicalType, Faul
     }
 }
 
-/// The kind of arrays that a word names.
+// The kind of arrays that a word names.
 pub(crate) fn kind_of(word: Piece<'_>) -> Result<PhysicalType, Fault> {
     find(&KINDS, word.text()).copied().ok_or(word.fault())
 }
 
-/// The child.
+// The child.
 #[cycle(parts)]
 fn child_of(alloc: Global, parts: &Parts<'_>, depth: usize) -> Result<Box<AnyArray>, Fault> {
     nested_array(alloc, parts.part("values")?, depth)
 }
 
-/// The children, parted by bars.
+// The children, parted by bars.
 #[cycle(parts)]
 fn children_of(alloc: Global, parts: &Parts<'_>, depth: usize) -> Result<Vec<AnyArray>, Fault> {
     let items = parts.part("values")?.items(alloc, '|')?;
@@ -189,7 +189,7 @@ fn children_of(alloc: Global, parts: &Parts<'_>, depth: usize) -> Result<Vec<Any
     Ok(children)
 }
 
-/// Lists or maps.
+// Lists or maps.
 #[cycle(parts)]
 fn list_of(
     alloc: Global,
@@ -210,7 +210,7 @@ fn list_of(
     )
 }
 
-/// The offsets of lists or maps: of 64 bits where the lists are large.
+// The offsets of lists or maps: of 64 bits where the lists are large.
 fn any_offsets(
     alloc: Global,
     kind: PhysicalType,
@@ -222,7 +222,7 @@ fn any_offsets(
     }
 }
 
-/// Lists of a fixed size.
+// Lists of a fixed size.
 #[cycle(parts)]
 fn fixed_list_of(
     alloc: Global,
@@ -234,7 +234,7 @@ fn fixed_list_of(
     fixed_list_array(alloc, data_type, values, parts.validity(alloc)?)
 }
 
-/// Structs.
+// Structs.
 #[cycle(parts)]
 fn struct_of(
     alloc: Global,
@@ -246,7 +246,7 @@ fn struct_of(
     struct_array(alloc, data_type, children, parts.validity(alloc)?)
 }
 
-/// Unions: with offsets where these are given.
+// Unions: with offsets where these are given.
 #[cycle(parts)]
 fn union_of(
     alloc: Global,
@@ -260,12 +260,12 @@ fn union_of(
     union_array(alloc, data_type, types, children, offsets)
 }
 
-/// A buffer of numbers.
+// A buffer of numbers.
 fn buffer_of<T: Integer>(alloc: Global, piece: Piece<'_>) -> Result<Buffer<T>, Fault> {
     Ok(Buffer::from_vec(alloc, read_offsets(alloc, piece)?)?)
 }
 
-/// A buffer of numbers, where they are given.
+// A buffer of numbers, where they are given.
 fn optional_buffer_of<T: Integer>(
     alloc: Global,
     piece: Option<Piece<'_>>,
@@ -276,7 +276,7 @@ fn optional_buffer_of<T: Integer>(
     }
 }
 
-/// Dictionaries.
+// Dictionaries.
 #[cycle(parts)]
 fn dictionary_of(
     alloc: Global,

@@ -26,12 +26,12 @@ pub fn read_array(alloc: Global, piece: Piece<'_>) -> Result<Box<AnyArray>, Faul
     nested_array(alloc, piece, DEEPEST)
 }
 
-/// An array in a box of its own: what owns a box is proved faster than what owns an array.
+// An array in a box of its own: what owns a box is proved faster than what owns an array.
 pub(crate) fn boxed(alloc: Global, array: AnyArray) -> Result<Box<AnyArray>, Fault> {
     Ok(Box::new(alloc, array)?)
 }
 
-/// The array that a text says, whose parts nest at most so deep.
+// The array that a text says, whose parts nest at most so deep.
 #[cycle(parts)]
 pub(crate) fn nested_array(
     alloc: Global,
@@ -45,7 +45,7 @@ pub(crate) fn nested_array(
     }
 }
 
-/// The slices of an array, one after the other.
+// The slices of an array, one after the other.
 fn take_slices(mut array: Box<AnyArray>, slices: &[Piece<'_>]) -> Result<Box<AnyArray>, Fault> {
     for slice in slices {
         take_slice(&mut array, *slice)?;
@@ -53,14 +53,14 @@ fn take_slices(mut array: Box<AnyArray>, slices: &[Piece<'_>]) -> Result<Box<Any
     Ok(array)
 }
 
-/// Keeps a part of the rows.
+// Keeps a part of the rows.
 fn take_slice(array: &mut AnyArray, slice: Piece<'_>) -> Result<(), Fault> {
     let (offset, len) = slice_within(slice, array.len())?;
     array.slice(offset, len);
     Ok(())
 }
 
-/// The array that a text without slices says.
+// The array that a text without slices says.
 #[cycle(parts)]
 fn whole_array(alloc: Global, body: Piece<'_>, depth: usize) -> Result<Box<AnyArray>, Fault> {
     if depth == 0 {
@@ -72,7 +72,7 @@ fn whole_array(alloc: Global, body: Piece<'_>, depth: usize) -> Result<Box<AnyAr
     }
 }
 
-/// The array of a type and parts.
+// The array of a type and parts.
 #[cycle(parts)]
 fn array_by_parts(
     alloc: Global,
@@ -84,7 +84,7 @@ fn array_by_parts(
     array_of_parts(alloc, &data_type, parts, depth)
 }
 
-/// The array of a type and rows, behind which a question mark asks for a validity.
+// The array of a type and rows, behind which a question mark asks for a validity.
 fn array_by_rows(alloc: Global, body: Piece<'_>) -> Result<Box<AnyArray>, Fault> {
     let unmarked = body.strip_suffix("?");
     let body = unmarked.unwrap_or(body);
@@ -94,7 +94,7 @@ fn array_by_rows(alloc: Global, body: Piece<'_>) -> Result<Box<AnyArray>, Fault>
     array_of_rows(alloc, &data_type, &rows, unmarked.is_some(), DEEPEST)
 }
 
-/// An array of these rows, with a validity where a row is null or one is asked for.
+// An array of these rows, with a validity where a row is null or one is asked for.
 #[cycle(rows)]
 fn array_of_rows(
     alloc: Global,
@@ -134,7 +134,7 @@ fn array_of_rows(
     }
 }
 
-/// Lists of an item, or maps of entries.
+// Lists of an item, or maps of entries.
 #[cycle(rows)]
 fn lists(
     alloc: Global,
@@ -158,7 +158,7 @@ fn lists(
     )
 }
 
-/// The offsets of rows of these lengths: of 64 bits where the lists are large.
+// The offsets of rows of these lengths: of 64 bits where the lists are large.
 fn any_offsets_of(
     alloc: Global,
     kind: PhysicalType,
@@ -170,7 +170,7 @@ fn any_offsets_of(
     }
 }
 
-/// Lists of these parts, or maps.
+// Lists of these parts, or maps.
 pub(crate) fn list_array(
     alloc: Global,
     data_type: &DataType,
@@ -192,7 +192,7 @@ pub(crate) fn list_array(
     }
 }
 
-/// The items of all rows, and how many each row has: none where nothing is stored.
+// The items of all rows, and how many each row has: none where nothing is stored.
 fn items_in<'a>(alloc: Global, rows: &[Piece<'a>]) -> Result<(Vec<Piece<'a>>, Vec<usize>), Fault> {
     let (mut items, mut lengths) = (Vec::new(alloc), Vec::new(alloc));
     for row in rows {
@@ -203,7 +203,7 @@ fn items_in<'a>(alloc: Global, rows: &[Piece<'a>]) -> Result<(Vec<Piece<'a>>, Ve
     Ok((items, lengths))
 }
 
-/// Appends the items of a row: none where nothing is stored.
+// Appends the items of a row: none where nothing is stored.
 fn push_items<'a>(alloc: Global, row: Piece<'a>, items: &mut Vec<Piece<'a>>) -> Result<(), Fault> {
     match row.stored() {
         Some(stored) => push_rows(alloc, stored.between("[", "]")?, items),
@@ -211,7 +211,7 @@ fn push_items<'a>(alloc: Global, row: Piece<'a>, items: &mut Vec<Piece<'a>>) -> 
     }
 }
 
-/// The offsets of rows of these lengths.
+// The offsets of rows of these lengths.
 pub(crate) fn offsets_of<O: Offset>(
     alloc: Global,
     lengths: &[usize],
@@ -223,7 +223,7 @@ pub(crate) fn offsets_of<O: Offset>(
     Ok(offsets.into_buffer()?)
 }
 
-/// Lists of so many items each.
+// Lists of so many items each.
 #[cycle(rows)]
 fn fixed_lists(
     alloc: Global,
@@ -244,7 +244,7 @@ fn fixed_lists(
     )
 }
 
-/// Lists of a fixed size of these parts.
+// Lists of a fixed size of these parts.
 pub(crate) fn fixed_list_array(
     alloc: Global,
     data_type: &DataType,
@@ -255,7 +255,7 @@ pub(crate) fn fixed_list_array(
     boxed(alloc, AnyArray::FixedSizeList(array))
 }
 
-/// The items of all rows: null slots where nothing is stored.
+// The items of all rows: null slots where nothing is stored.
 fn items_of_size<'a>(
     alloc: Global,
     rows: &[Piece<'a>],
@@ -268,7 +268,7 @@ fn items_of_size<'a>(
     Ok(items)
 }
 
-/// Appends the items of a row, which has so many: null slots where nothing is stored.
+// Appends the items of a row, which has so many: null slots where nothing is stored.
 fn push_of_size<'a>(
     alloc: Global,
     row: Piece<'a>,
@@ -287,7 +287,7 @@ fn push_of_size<'a>(
     }
 }
 
-/// Structs of fields.
+// Structs of fields.
 #[cycle(rows)]
 fn structs(
     alloc: Global,
@@ -307,7 +307,7 @@ fn structs(
     )
 }
 
-/// The arrays of fields, each of its own rows.
+// The arrays of fields, each of its own rows.
 #[cycle(rows)]
 fn children_of(
     alloc: Global,
@@ -323,12 +323,12 @@ fn children_of(
     Ok(children)
 }
 
-/// Appends a child out of its box.
+// Appends a child out of its box.
 pub(crate) fn push_child(children: &mut Vec<AnyArray>, child: Box<AnyArray>) -> Result<(), Fault> {
     Ok(children.push(Box::into_inner(child))?)
 }
 
-/// Structs of these parts.
+// Structs of these parts.
 pub(crate) fn struct_array(
     alloc: Global,
     data_type: &DataType,
@@ -339,7 +339,7 @@ pub(crate) fn struct_array(
     boxed(alloc, AnyArray::Struct(array))
 }
 
-/// The rows of each of so many fields.
+// The rows of each of so many fields.
 fn columns_of<'a>(
     alloc: Global,
     rows: &[Piece<'a>],
@@ -352,7 +352,7 @@ fn columns_of<'a>(
     Ok(columns)
 }
 
-/// The rows of one field of so many: null slots where nothing is stored.
+// The rows of one field of so many: null slots where nothing is stored.
 fn column_of<'a>(
     alloc: Global,
     rows: &[Piece<'a>],
@@ -366,7 +366,7 @@ fn column_of<'a>(
     Ok(column)
 }
 
-/// The row of one field of so many: a null slot where nothing is stored.
+// The row of one field of so many: a null slot where nothing is stored.
 fn item_of<'a>(
     alloc: Global,
     row: Piece<'a>,
@@ -383,7 +383,7 @@ fn item_of<'a>(
     }
 }
 
-/// The type ids of a union's fields: 0, 1, 2, .. where the type has none.
+// The type ids of a union's fields: 0, 1, 2, .. where the type has none.
 fn ids_of(alloc: Global, fields: &[Field], ids: &Option<Vec<i32>>) -> Result<Vec<i32>, Fault> {
     let mut found = Vec::new(alloc);
     match ids {
@@ -397,7 +397,7 @@ fn ids_of(alloc: Global, fields: &[Field], ids: &Option<Vec<i32>>) -> Result<Vec
     Ok(found)
 }
 
-/// The type id of each row of a union, and the row of its field.
+// The type id of each row of a union, and the row of its field.
 fn ids_and_rows<'a>(
     alloc: Global,
     ids: &[i32],
@@ -410,7 +410,7 @@ fn ids_and_rows<'a>(
     Ok(found)
 }
 
-/// The type id of a row, and the row of its field. The null slot is that of the first field.
+// The type id of a row, and the row of its field. The null slot is that of the first field.
 fn id_and_row<'a>(ids: &[i32], row: Piece<'a>) -> Result<(i8, Piece<'a>), Fault> {
     let (id, item) = match row.stored() {
         None => (ids.first().copied().ok_or(row.fault())?, row),
@@ -425,7 +425,7 @@ fn id_and_row<'a>(ids: &[i32], row: Piece<'a>) -> Result<(i8, Piece<'a>), Fault>
     }
 }
 
-/// What a field of a union holds: a row for each row of the union in a sparse one, and its own rows in a dense one.
+// What a field of a union holds: a row for each row of the union in a sparse one, and its own rows in a dense one.
 fn variant_of<'a>(
     alloc: Global,
     id: i32,
@@ -443,7 +443,7 @@ fn variant_of<'a>(
     Ok(column)
 }
 
-/// What each field of a union holds.
+// What each field of a union holds.
 fn variants_of<'a>(
     alloc: Global,
     ids: &[i32],
@@ -457,7 +457,7 @@ fn variants_of<'a>(
     Ok(columns)
 }
 
-/// Unions of fields, with type ids or without, of a mode.
+// Unions of fields, with type ids or without, of a mode.
 #[cycle(rows)]
 fn unions(
     alloc: Global,
@@ -474,7 +474,7 @@ fn unions(
     union_of_rows(alloc, data_type, mode, &rows, children)
 }
 
-/// Unions of these rows, whose fields hold these children.
+// Unions of these rows, whose fields hold these children.
 fn union_of_rows(
     alloc: Global,
     data_type: &DataType,
@@ -487,7 +487,7 @@ fn union_of_rows(
     union_array(alloc, data_type, types, children, offsets)
 }
 
-/// Where each row of a dense union lies; nothing of a sparse one.
+// Where each row of a dense union lies; nothing of a sparse one.
 fn offsets_in(
     alloc: Global,
     mode: UnionMode,
@@ -499,7 +499,7 @@ fn offsets_in(
     }
 }
 
-/// Unions of these parts.
+// Unions of these parts.
 pub(crate) fn union_array(
     alloc: Global,
     data_type: &DataType,
@@ -511,7 +511,7 @@ pub(crate) fn union_array(
     boxed(alloc, AnyArray::Union(array))
 }
 
-/// The type ids of rows.
+// The type ids of rows.
 fn types_of(alloc: Global, rows: &[(i8, Piece<'_>)]) -> Result<Buffer<i8>, Fault> {
     let mut types = Vec::new(alloc);
     for (id, _) in rows {
@@ -520,7 +520,7 @@ fn types_of(alloc: Global, rows: &[(i8, Piece<'_>)]) -> Result<Buffer<i8>, Fault
     Ok(Buffer::from_vec(alloc, types)?)
 }
 
-/// Where in its field each row of a dense union lies: behind the rows of the same field before it.
+// Where in its field each row of a dense union lies: behind the rows of the same field before it.
 fn places_of(alloc: Global, rows: &[(i8, Piece<'_>)]) -> Result<Buffer<i32>, Fault> {
     let mut places = Vec::new(alloc);
     for (i, (id, _)) in rows.iter().enumerate() {
@@ -533,7 +533,7 @@ fn places_of(alloc: Global, rows: &[(i8, Piece<'_>)]) -> Result<Buffer<i32>, Fau
     Ok(Buffer::from_vec(alloc, places)?)
 }
 
-/// Dictionaries whose values are the rows' own, in the order in which they come first.
+// Dictionaries whose values are the rows' own, in the order in which they come first.
 #[cycle(rows)]
 fn dictionaries(
     alloc: Global,
@@ -550,7 +550,7 @@ fn dictionaries(
     dictionary_array(alloc, data_type, &keys, values)
 }
 
-/// Dictionaries of these values, and of the keys that an array of integers holds.
+// Dictionaries of these values, and of the keys that an array of integers holds.
 pub(crate) fn dictionary_array(
     alloc: Global,
     data_type: &DataType,
@@ -561,7 +561,7 @@ pub(crate) fn dictionary_array(
     boxed(alloc, AnyArray::Dictionary(array))
 }
 
-/// The keys that an array of integers holds, which share what is stored.
+// The keys that an array of integers holds, which share what is stored.
 fn keys_in(array: &AnyArray) -> Result<AnyKeys, Fault> {
     match array {
         AnyArray::Primitive(AnyPrimitive::Int8(keys)) => Ok(AnyKeys::Int8(keys.clone()?)),
@@ -576,13 +576,13 @@ fn keys_in(array: &AnyArray) -> Result<AnyKeys, Fault> {
     }
 }
 
-/// What stands in a row of a dictionary, if the text says it: the value, before which an ampersand may stand.
+// What stands in a row of a dictionary, if the text says it: the value, before which an ampersand may stand.
 fn value_in(row: Piece<'_>) -> Option<Piece<'_>> {
     let stored = row.stored()?;
     Some(stored.strip_prefix("&").unwrap_or(stored))
 }
 
-/// The values of rows, each once, in the order in which they come first.
+// The values of rows, each once, in the order in which they come first.
 fn values_in<'a>(alloc: Global, rows: &[Piece<'a>]) -> Result<Vec<Piece<'a>>, Fault> {
     let mut values = Vec::new(alloc);
     for row in rows {
@@ -593,7 +593,7 @@ fn values_in<'a>(alloc: Global, rows: &[Piece<'a>]) -> Result<Vec<Piece<'a>>, Fa
     Ok(values)
 }
 
-/// Appends a value that does not stand there yet.
+// Appends a value that does not stand there yet.
 fn push_once<'a>(values: &mut Vec<Piece<'a>>, value: Piece<'a>) -> Result<(), Fault> {
     match place_of(values, value) {
         Some(_) => Ok(()),
@@ -601,7 +601,7 @@ fn push_once<'a>(values: &mut Vec<Piece<'a>>, value: Piece<'a>) -> Result<(), Fa
     }
 }
 
-/// Where a value stands, if it does.
+// Where a value stands, if it does.
 fn place_of(values: &[Piece<'_>], value: Piece<'_>) -> Option<usize> {
     for (place, other) in values.iter().enumerate() {
         if other.text() == value.text() {
@@ -611,7 +611,7 @@ fn place_of(values: &[Piece<'_>], value: Piece<'_>) -> Option<usize> {
     None
 }
 
-/// The keys of rows, as an array of their type: too many values for it are refused.
+// The keys of rows, as an array of their type: too many values for it are refused.
 fn key_array(
     alloc: Global,
     of: IntegerType,
@@ -627,7 +627,7 @@ fn key_array(
     array_of_keys(alloc, of, text.as_str(), is_marked)
 }
 
-/// Keys of a type, as rows are written.
+// Keys of a type, as rows are written.
 fn array_of_keys(
     alloc: Global,
     of: IntegerType,
@@ -640,7 +640,7 @@ fn array_of_keys(
     flat_array(alloc, &data_type, kind, Source::Rows(&rows, is_marked))
 }
 
-/// How many values the keys of a type can name.
+// How many values the keys of a type can name.
 fn most_of(of: IntegerType) -> usize {
     match of {
         IntegerType::Int8 => 1 << 7,
@@ -654,7 +654,7 @@ fn most_of(of: IntegerType) -> usize {
     }
 }
 
-/// Appends the keys of rows, as the rows of their array are written.
+// Appends the keys of rows, as the rows of their array are written.
 fn write_keys(text: &mut String, values: &[Piece<'_>], rows: &[Piece<'_>]) -> Result<(), Fault> {
     for (i, row) in rows.iter().enumerate() {
         push_text(text, if i > 0 { "," } else { "" })?;
@@ -664,7 +664,7 @@ fn write_keys(text: &mut String, values: &[Piece<'_>], rows: &[Piece<'_>]) -> Re
     Ok(())
 }
 
-/// Appends the place of a row's value among all, if the row stores one.
+// Appends the place of a row's value among all, if the row stores one.
 fn push_key(text: &mut String, values: &[Piece<'_>], row: Piece<'_>) -> Result<(), Fault> {
     match value_in(row) {
         Some(value) => show(text, place_of(values, value).unwrap_or(0)),

@@ -16,7 +16,7 @@ pub fn rows_in<'a>(alloc: Global, piece: Piece<'a>) -> Result<Vec<Piece<'a>>, Fa
     Ok(rows)
 }
 
-/// Appends the rows that a text says.
+// Appends the rows that a text says.
 pub(crate) fn push_rows<'a>(
     alloc: Global,
     piece: Piece<'a>,
@@ -30,7 +30,7 @@ pub(crate) fn push_rows<'a>(
     Ok(())
 }
 
-/// A row, and how often it is said.
+// A row, and how often it is said.
 fn row_and_count<'a>(alloc: Global, item: Piece<'a>) -> Result<(Piece<'a>, usize), Fault> {
     let parts = item.split(alloc, '*')?;
     match parts.as_slice() {
@@ -40,7 +40,7 @@ fn row_and_count<'a>(alloc: Global, item: Piece<'a>) -> Result<(Piece<'a>, usize
     }
 }
 
-/// Appends an item so often.
+// Appends an item so often.
 pub(crate) fn push_often<T: Copy>(items: &mut Vec<T>, item: T, count: usize) -> Result<(), Fault> {
     if count > MOST {
         return Err(Fault::Usage);
@@ -111,7 +111,7 @@ pub fn push_bytes(bytes: &mut Vec<u8>, piece: Piece<'_>) -> Result<(), Fault> {
     }
 }
 
-/// Appends a byte for each pair of digits to the base of 16.
+// Appends a byte for each pair of digits to the base of 16.
 fn push_pairs(bytes: &mut Vec<u8>, digits: Piece<'_>) -> Result<(), Fault> {
     let mut first = None;
     for digit in digits.text().chars() {
@@ -131,7 +131,7 @@ fn push_pairs(bytes: &mut Vec<u8>, digits: Piece<'_>) -> Result<(), Fault> {
     }
 }
 
-/// Appends the characters of a text that stood in quotes.
+// Appends the characters of a text that stood in quotes.
 fn push_quoted(bytes: &mut Vec<u8>, quoted: Piece<'_>) -> Result<(), Fault> {
     let mut is_escaped = false;
     for byte in quoted.text().bytes() {

@@ -19,7 +19,7 @@ pub fn read_scalar(alloc: Global, piece: Piece<'_>) -> Result<Box<AnyScalar>, Fa
     scalar_of(alloc, piece, DEEPEST)
 }
 
-/// A scalar whose parts nest at most so deep.
+// A scalar whose parts nest at most so deep.
 #[cycle(scalar)]
 fn scalar_of(alloc: Global, piece: Piece<'_>, depth: usize) -> Result<Box<AnyScalar>, Fault> {
     if depth == 0 {
@@ -34,13 +34,13 @@ fn scalar_of(alloc: Global, piece: Piece<'_>, depth: usize) -> Result<Box<AnySca
     }
 }
 
-/// A scalar of the type that a text says, and a row.
+// A scalar of the type that a text says, and a row.
 fn typed_row(alloc: Global, head: Piece<'_>, row: Piece<'_>) -> Result<Box<AnyScalar>, Fault> {
     let data_type = boxed_type(alloc, head)?;
     scalar_of_row(alloc, &data_type, row, DEEPEST)
 }
 
-/// A scalar of the type that a text says, and parts.
+// A scalar of the type that a text says, and parts.
 #[cycle(scalar)]
 fn typed_parts(
     alloc: Global,
@@ -52,12 +52,12 @@ fn typed_parts(
     scalar_of_parts(alloc, &data_type, parts, depth)
 }
 
-/// What a row stores, unless it is null.
+// What a row stores, unless it is null.
 fn value_of<'a>(row: Piece<'a>) -> Option<Piece<'a>> {
     if row.is_null() { None } else { Some(row) }
 }
 
-/// A scalar of a type and a row.
+// A scalar of a type and a row.
 fn scalar_of_row(
     alloc: Global,
     data_type: &DataType,
@@ -77,12 +77,12 @@ fn scalar_of_row(
     }
 }
 
-/// A scalar in a box of its own.
+// A scalar in a box of its own.
 fn boxed(alloc: Global, scalar: AnyScalar) -> Result<Box<AnyScalar>, Fault> {
     Ok(Box::new(alloc, scalar)?)
 }
 
-/// A scalar of a dictionary.
+// A scalar of a dictionary.
 fn dictionary(
     alloc: Global,
     data_type: &DataType,
@@ -93,7 +93,7 @@ fn dictionary(
     boxed(alloc, AnyScalar::Dictionary(scalar))
 }
 
-/// A scalar that has no other one inside.
+// A scalar that has no other one inside.
 fn flat_scalar(
     alloc: Global,
     data_type: &DataType,
@@ -113,7 +113,7 @@ fn flat_scalar(
     }
 }
 
-/// A truth value.
+// A truth value.
 fn truth(alloc: Global, value: Option<Piece<'_>>) -> Result<Box<AnyScalar>, Fault> {
     let value = match value {
         Some(value) => Some(value.truth()?),
@@ -122,7 +122,7 @@ fn truth(alloc: Global, value: Option<Piece<'_>>) -> Result<Box<AnyScalar>, Faul
     boxed(alloc, AnyScalar::Boolean(BooleanScalar::new(value)))
 }
 
-/// Bytes.
+// Bytes.
 fn bytes(alloc: Global, value: Option<Piece<'_>>, is_large: bool) -> Result<Box<AnyScalar>, Fault> {
     let value = bytes_of(alloc, value)?;
     match is_large {
@@ -134,7 +134,7 @@ fn bytes(alloc: Global, value: Option<Piece<'_>>, is_large: bool) -> Result<Box<
     }
 }
 
-/// The bytes of a value.
+// The bytes of a value.
 fn bytes_of(alloc: Global, value: Option<Piece<'_>>) -> Result<Option<Vec<u8>>, Fault> {
     match value {
         Some(value) => read_bytes(alloc, value).map(Some),
@@ -142,7 +142,7 @@ fn bytes_of(alloc: Global, value: Option<Piece<'_>>) -> Result<Option<Vec<u8>>, 
     }
 }
 
-/// A text.
+// A text.
 fn text(alloc: Global, value: Option<Piece<'_>>, is_large: bool) -> Result<Box<AnyScalar>, Fault> {
     let value = text_of(alloc, value)?;
     match is_large {
@@ -151,7 +151,7 @@ fn text(alloc: Global, value: Option<Piece<'_>>, is_large: bool) -> Result<Box<A
     }
 }
 
-/// The characters of a value.
+// The characters of a value.
 fn text_of(alloc: Global, value: Option<Piece<'_>>) -> Result<Option<String>, Fault> {
     let Some(value) = value else {
         return Ok(None);
@@ -162,7 +162,7 @@ fn text_of(alloc: Global, value: Option<Piece<'_>>) -> Result<Option<String>, Fa
     }
 }
 
-/// An element of a type that is known when the program runs.
+// An element of a type that is known when the program runs.
 fn number(
     alloc: Global,
     data_type: &DataType,
@@ -186,7 +186,7 @@ macro_rules! any_scalar {
     };
 }
 
-/// The same, outside a box.
+// The same, outside a box.
 fn any_number(
     data_type: &DataType,
     of: PrimitiveType,
@@ -199,7 +199,7 @@ fn any_number(
     )
 }
 
-/// An element.
+// An element.
 fn element<T: Element>(
     data_type: &DataType,
     value: Option<Piece<'_>>,
@@ -209,7 +209,7 @@ fn element<T: Element>(
     Ok(PrimitiveScalar::<T>::try_new(data_type, value)?)
 }
 
-/// The element that a text says, where there is one.
+// The element that a text says, where there is one.
 fn optional_element<T: Element>(value: Option<Piece<'_>>) -> Result<Option<T>, Fault> {
     match value {
         Some(value) => T::read(value).map(Some),
@@ -217,7 +217,7 @@ fn optional_element<T: Element>(value: Option<Piece<'_>>) -> Result<Option<T>, F
     }
 }
 
-/// A scalar by its value as it is: of a dictionary a scalar, or an element of a kind that is named.
+// A scalar by its value as it is: of a dictionary a scalar, or an element of a kind that is named.
 #[cycle(scalar)]
 fn scalar_of_parts(
     alloc: Global,
@@ -238,7 +238,7 @@ fn scalar_of_parts(
     }
 }
 
-/// An element of a kind that is named.
+// An element of a kind that is named.
 fn number_of_kind(
     alloc: Global,
     data_type: &DataType,

@@ -17,7 +17,7 @@ pub fn read_type(alloc: Global, piece: Piece<'_>) -> Result<DataType, Fault> {
     type_of(alloc, piece, DEEPEST)
 }
 
-/// The same in a box.
+// The same in a box.
 pub(crate) fn boxed_type(alloc: Global, piece: Piece<'_>) -> Result<Box<DataType>, Fault> {
     Ok(Box::new(alloc, read_type(alloc, piece)?)?)
 }
@@ -32,7 +32,7 @@ pub fn find<'a, T>(table: &'a [(&str, T)], word: &str) -> Option<&'a T> {
     None
 }
 
-/// The type that a word says alone.
+// The type that a word says alone.
 fn flat_type(word: &str) -> Option<DataType> {
     match word {
         "null" => Some(DataType::Null),
@@ -58,7 +58,7 @@ fn flat_type(word: &str) -> Option<DataType> {
     }
 }
 
-/// The word of a type, with the bracket behind it where it has parts.
+// The word of a type, with the bracket behind it where it has parts.
 fn word(data_type: &DataType) -> &'static str {
     match data_type {
         DataType::Null => "null",
@@ -192,7 +192,7 @@ const FORMS: [(&str, Form); 19] = [
     ("decimal256", Form::Decimal(Bits::Of256)),
 ];
 
-/// The type that a text says, nested at most so deep.
+// The type that a text says, nested at most so deep.
 #[cycle(read_type)]
 fn type_of(alloc: Global, piece: Piece<'_>, depth: usize) -> Result<DataType, Fault> {
     if depth == 0 {
@@ -207,7 +207,7 @@ fn type_of(alloc: Global, piece: Piece<'_>, depth: usize) -> Result<DataType, Fa
     }
 }
 
-/// The type that a word makes of parts.
+// The type that a word makes of parts.
 #[cycle(read_type)]
 fn type_of_parts(
     alloc: Global,
@@ -232,7 +232,7 @@ fn type_of_parts(
     }
 }
 
-/// A field: a type that may stand behind a name, and before an exclamation mark where no row is null.
+// A field: a type that may stand behind a name, and before an exclamation mark where no row is null.
 #[cycle(read_type)]
 fn field_of(alloc: Global, piece: Piece<'_>, depth: usize) -> Result<Field, Fault> {
     let (piece, is_nullable) = without_mark(piece);
@@ -241,7 +241,7 @@ fn field_of(alloc: Global, piece: Piece<'_>, depth: usize) -> Result<Field, Faul
     Ok(Field::new(name, type_of(alloc, of, depth)?, is_nullable))
 }
 
-/// A field without the exclamation mark behind it, and whether rows may be null: where none stood there.
+// A field without the exclamation mark behind it, and whether rows may be null: where none stood there.
 fn without_mark(piece: Piece<'_>) -> (Piece<'_>, bool) {
     match piece.strip_suffix("!") {
         Some(piece) => (piece, false),
@@ -249,7 +249,7 @@ fn without_mark(piece: Piece<'_>) -> (Piece<'_>, bool) {
     }
 }
 
-/// The name of a field, and its type.
+// The name of a field, and its type.
 fn name_and_type<'a>(alloc: Global, piece: Piece<'a>) -> Result<(&'a str, Piece<'a>), Fault> {
     let parts = piece.split(alloc, ':')?;
     match parts.as_slice() {
@@ -259,7 +259,7 @@ fn name_and_type<'a>(alloc: Global, piece: Piece<'a>) -> Result<(&'a str, Piece<
     }
 }
 
-/// The fields that stand behind one another, each of which may have its type id before it where it is one of a union.
+// The fields that stand behind one another, each of which may have its type id before it where it is one of a union.
 #[cycle(read_type)]
 fn fields_of(
     alloc: Global,
@@ -275,13 +275,13 @@ fn fields_of(
     Ok(fields)
 }
 
-/// A struct of fields.
+// A struct of fields.
 #[cycle(read_type)]
 fn struct_of(alloc: Global, parts: &[Piece<'_>], depth: usize) -> Result<DataType, Fault> {
     Ok(DataType::Struct(fields_of(alloc, parts, false, depth)?))
 }
 
-/// A union of fields.
+// A union of fields.
 #[cycle(read_type)]
 fn union_of(
     alloc: Global,
@@ -293,7 +293,7 @@ fn union_of(
     Ok(DataType::Union(fields, ids_of(alloc, parts)?, mode))
 }
 
-/// The type ids that stand before fields, if some do.
+// The type ids that stand before fields, if some do.
 fn ids_of(alloc: Global, parts: &[Piece<'_>]) -> Result<Option<Vec<i32>>, Fault> {
     let mut ids = Vec::new(alloc);
     for part in parts {
@@ -304,7 +304,7 @@ fn ids_of(alloc: Global, parts: &[Piece<'_>]) -> Result<Option<Vec<i32>>, Fault>
     Ok(if ids.is_empty() { None } else { Some(ids) })
 }
 
-/// What stands before a field as its type id: a text that begins as a number does.
+// What stands before a field as its type id: a text that begins as a number does.
 fn id_of(piece: Piece<'_>) -> Option<Piece<'_>> {
     let (id, _) = piece.parted(':')?;
     match id.text().bytes().next() {
@@ -313,7 +313,7 @@ fn id_of(piece: Piece<'_>) -> Option<Piece<'_>> {
     }
 }
 
-/// A field without the type id before it.
+// A field without the type id before it.
 fn without_id(piece: Piece<'_>) -> Piece<'_> {
     match (id_of(piece), piece.parted(':')) {
         (Some(_), Some((_, field))) => field,
@@ -321,7 +321,7 @@ fn without_id(piece: Piece<'_>) -> Piece<'_> {
     }
 }
 
-/// Lists of any number of items.
+// Lists of any number of items.
 #[cycle(read_type)]
 fn list_of(alloc: Global, of: Lists, item: Piece<'_>, depth: usize) -> Result<DataType, Fault> {
     let item = Box::new(alloc, field_of(alloc, item, depth)?)?;
@@ -333,7 +333,7 @@ fn list_of(alloc: Global, of: Lists, item: Piece<'_>, depth: usize) -> Result<Da
     })
 }
 
-/// Lists of so many items each.
+// Lists of so many items each.
 #[cycle(read_type)]
 fn fixed_list_of(
     alloc: Global,
@@ -346,7 +346,7 @@ fn fixed_list_of(
     Ok(DataType::FixedSizeList(item, size))
 }
 
-/// A dictionary: the type of its keys and that of its values.
+// A dictionary: the type of its keys and that of its values.
 #[cycle(read_type)]
 fn dictionary_of(
     alloc: Global,
@@ -360,7 +360,7 @@ fn dictionary_of(
     Ok(DataType::Dictionary(keys, values, is_ordered))
 }
 
-/// A type by a name of its own, with metadata or none.
+// A type by a name of its own, with metadata or none.
 #[cycle(read_type)]
 fn extension_of(
     alloc: Global,
@@ -375,7 +375,7 @@ fn extension_of(
     Ok(DataType::Extension(name, inner, metadata))
 }
 
-/// The characters of a text, if there is one.
+// The characters of a text, if there is one.
 fn optional_text(alloc: Global, piece: Option<Piece<'_>>) -> Result<Option<String>, Fault> {
     match piece {
         Some(piece) => Ok(Some(String::from_str(alloc, piece.text())?)),
@@ -383,7 +383,7 @@ fn optional_text(alloc: Global, piece: Option<Piece<'_>>) -> Result<Option<Strin
     }
 }
 
-/// A type of a unit or of sizes, as `time32<ms>`, `timestamp<s,UTC>` or `decimal<10,2>`.
+// A type of a unit or of sizes, as `time32<ms>`, `timestamp<s,UTC>` or `decimal<10,2>`.
 fn measured(
     alloc: Global,
     form: Form,
@@ -400,7 +400,7 @@ fn measured(
     }
 }
 
-/// A type of a unit of time, in no time zone.
+// A type of a unit of time, in no time zone.
 fn time_of(of: Times, unit: Piece<'_>) -> Result<DataType, Fault> {
     let unit = unit_of(unit)?;
     Ok(match of {
@@ -411,14 +411,14 @@ fn time_of(of: Times, unit: Piece<'_>) -> Result<DataType, Fault> {
     })
 }
 
-/// Points in time, in a time zone.
+// Points in time, in a time zone.
 fn zoned(alloc: Global, unit: Piece<'_>, zone: Piece<'_>) -> Result<DataType, Fault> {
     let unit = unit_of(unit)?;
     let zone = String::from_str(alloc, zone.text())?;
     Ok(DataType::Timestamp(unit, Some(zone)))
 }
 
-/// What an interval counts.
+// What an interval counts.
 fn interval_of(unit: Piece<'_>) -> Result<DataType, Fault> {
     match find(&INTERVALS, unit.text()) {
         Some(unit) => Ok(DataType::Interval(*unit)),
@@ -426,12 +426,12 @@ fn interval_of(unit: Piece<'_>) -> Result<DataType, Fault> {
     }
 }
 
-/// Bytes of a fixed size.
+// Bytes of a fixed size.
 fn bytes_of(size: Piece<'_>) -> Result<DataType, Fault> {
     Ok(DataType::FixedSizeBinary(size.integer()?))
 }
 
-/// Decimals of so many bits.
+// Decimals of so many bits.
 fn decimal_of(bits: Bits, precision: Piece<'_>, scale: Piece<'_>) -> Result<DataType, Fault> {
     let precision = precision.integer()?;
     let scale = scale.integer()?;
@@ -441,7 +441,7 @@ fn decimal_of(bits: Bits, precision: Piece<'_>, scale: Piece<'_>) -> Result<Data
     })
 }
 
-/// A unit of time.
+// A unit of time.
 fn unit_of(piece: Piece<'_>) -> Result<TimeUnit, Fault> {
     find(&UNITS, piece.text()).copied().ok_or(piece.fault())
 }
@@ -451,7 +451,7 @@ pub fn write_type(out: &mut String, data_type: &DataType) -> Result<(), Fault> {
     push_type(out, data_type, DEEPEST)
 }
 
-/// The word of a value in a table.
+// The word of a value in a table.
 pub(crate) fn word_of<T: PartialEq>(table: &[(&'static str, T)], value: &T) -> &'static str {
     for (word, other) in table {
         if other == value {
@@ -461,7 +461,7 @@ pub(crate) fn word_of<T: PartialEq>(table: &[(&'static str, T)], value: &T) -> &
     ""
 }
 
-/// Appends a data type that nests at most so deep: what it says before its children, these, and a bracket.
+// Appends a data type that nests at most so deep: what it says before its children, these, and a bracket.
 #[cycle(push_type)]
 fn push_type(out: &mut String, data_type: &DataType, depth: usize) -> Result<(), Fault> {
     if depth == 0 {
@@ -483,7 +483,7 @@ fn push_type(out: &mut String, data_type: &DataType, depth: usize) -> Result<(),
     }
 }
 
-/// Appends a field, and what stands behind it.
+// Appends a field, and what stands behind it.
 #[cycle(push_type)]
 fn push_field(out: &mut String, field: &Field, end: &str, depth: usize) -> Result<(), Fault> {
     push_name(out, field.name())?;
@@ -492,7 +492,7 @@ fn push_field(out: &mut String, field: &Field, end: &str, depth: usize) -> Resul
     push_text(out, end)
 }
 
-/// Appends fields, with their type ids where there are some, and closes the bracket.
+// Appends fields, with their type ids where there are some, and closes the bracket.
 #[cycle(push_type)]
 fn push_fields(
     out: &mut String,
@@ -508,12 +508,12 @@ fn push_fields(
     push_text(out, ">")
 }
 
-/// Appends a text.
+// Appends a text.
 pub(crate) fn push_text(out: &mut String, text: &str) -> Result<(), Fault> {
     Ok(out.push_str(text)?)
 }
 
-/// Appends a value and what stands behind it.
+// Appends a value and what stands behind it.
 pub(crate) fn push_before<T: Display + Drop>(
     out: &mut String,
     value: T,
@@ -522,7 +522,7 @@ pub(crate) fn push_before<T: Display + Drop>(
     Ok(write!(out, "{value}{text}")?)
 }
 
-/// Appends the type id of a field, where there are some.
+// Appends the type id of a field, where there are some.
 fn push_id(out: &mut String, ids: &Option<Vec<i32>>, place: usize) -> Result<(), Fault> {
     match ids {
         Some(ids) => push_before(out, ids.get(place).copied().unwrap_or(-1), ":"),
@@ -530,7 +530,7 @@ fn push_id(out: &mut String, ids: &Option<Vec<i32>>, place: usize) -> Result<(),
     }
 }
 
-/// Appends a field's name, unless it is that of a field without one.
+// Appends a field's name, unless it is that of a field without one.
 fn push_name(out: &mut String, name: &str) -> Result<(), Fault> {
     if name == ITEM {
         return Ok(());
@@ -538,7 +538,7 @@ fn push_name(out: &mut String, name: &str) -> Result<(), Fault> {
     push_before(out, name, ":")
 }
 
-/// Appends a word, and the parts of a data type that are none themselves.
+// Appends a word, and the parts of a data type that are none themselves.
 fn push_head(out: &mut String, data_type: &DataType) -> Result<(), Fault> {
     push_text(out, word(data_type))?;
     match data_type {
@@ -557,13 +557,13 @@ fn push_head(out: &mut String, data_type: &DataType) -> Result<(), Fault> {
     }
 }
 
-/// Appends two sizes.
+// Appends two sizes.
 fn push_both(out: &mut String, precision: usize, scale: usize) -> Result<(), Fault> {
     push_before(out, precision, ",")?;
     push_before(out, scale, ">")
 }
 
-/// Appends the unit of points in time, and their time zone where they have one.
+// Appends the unit of points in time, and their time zone where they have one.
 fn push_timestamp(out: &mut String, unit: TimeUnit, zone: &Option<String>) -> Result<(), Fault> {
     let unit = word_of(&UNITS, &unit);
     match zone {
@@ -575,7 +575,7 @@ fn push_timestamp(out: &mut String, unit: TimeUnit, zone: &Option<String>) -> Re
     }
 }
 
-/// Appends the name of an extension, and its metadata where it has some.
+// Appends the name of an extension, and its metadata where it has some.
 fn push_named(out: &mut String, name: &str, metadata: &Option<String>) -> Result<(), Fault> {
     push_before(out, name, ",")?;
     match metadata {

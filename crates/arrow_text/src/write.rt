@@ -47,7 +47,7 @@ pub fn write_array(out: &mut String, array: &AnyArray) -> Result<(), Fault> {
     write_items(out, array, (0, array.len()), DEEPEST)
 }
 
-/// Appends rows from one on to another, in brackets.
+// Appends rows from one on to another, in brackets.
 #[cycle(written)]
 fn write_items(
     out: &mut String,
@@ -64,7 +64,7 @@ fn write_items(
     Ok(out.push(']')?)
 }
 
-/// Appends row `i`, which so many keys of dictionaries name.
+// Appends row `i`, which so many keys of dictionaries name.
 #[cycle(written)]
 fn write_row(
     out: &mut String,
@@ -91,7 +91,7 @@ fn write_row(
     }
 }
 
-/// Appends a null, and an ampersand for each key that names it.
+// Appends a null, and an ampersand for each key that names it.
 fn write_null(out: &mut String, keys: usize) -> Result<(), Fault> {
     for _ in 0..keys {
         out.push('&')?;
@@ -99,13 +99,13 @@ fn write_null(out: &mut String, keys: usize) -> Result<(), Fault> {
     Ok(out.push('_')?)
 }
 
-/// The key of a row of a dictionary, if there is one.
+// The key of a row of a dictionary, if there is one.
 fn key_of(array: &DictionaryArray, i: usize) -> Option<usize> {
     let keys = array.keys();
     if i < keys.len() { keys.key(i) } else { None }
 }
 
-/// The items of a row of a list or a map, and where they lie among those of all rows.
+// The items of a row of a list or a map, and where they lie among those of all rows.
 fn items_of(array: &AnyArray, i: usize) -> Option<(&AnyArray, (usize, usize))> {
     match array {
         AnyArray::List(array) if i < array.len() => {
@@ -122,7 +122,7 @@ fn items_of(array: &AnyArray, i: usize) -> Option<(&AnyArray, (usize, usize))> {
     }
 }
 
-/// Appends a row of an array without children, which is not null.
+// Appends a row of an array without children, which is not null.
 fn write_flat(out: &mut String, array: &AnyArray, i: usize) -> Result<(), Fault> {
     match array {
         AnyArray::Boolean(array) if i < array.len() => write_truth(out, array.value(i)),
@@ -136,7 +136,7 @@ fn write_flat(out: &mut String, array: &AnyArray, i: usize) -> Result<(), Fault>
     }
 }
 
-/// Appends `t` or `f`.
+// Appends `t` or `f`.
 fn write_truth(out: &mut String, truth: bool) -> Result<(), Fault> {
     Ok(out.push(if truth { 't' } else { 'f' })?)
 }
@@ -161,12 +161,12 @@ macro_rules! of_any {
     };
 }
 
-/// Appends an element.
+// Appends an element.
 fn write_any_number(out: &mut String, array: &AnyPrimitive, i: usize) -> Result<(), Fault> {
     of_any!(AnyPrimitive, array, array => write_number(out, array, i))
 }
 
-/// The same of one element type.
+// The same of one element type.
 fn write_number<T: Element>(
     out: &mut String,
     array: &PrimitiveArray<T>,
@@ -179,7 +179,7 @@ fn write_number<T: Element>(
     }
 }
 
-/// Appends a text in quotes, with a backslash before each quote and backslash, and `\n` for a line feed.
+// Appends a text in quotes, with a backslash before each quote and backslash, and `\n` for a line feed.
 fn write_text(out: &mut String, text: &str) -> Result<(), Fault> {
     out.push('"')?;
     for c in text.chars() {
@@ -202,7 +202,7 @@ pub fn write_bytes(out: &mut String, bytes: &[u8]) -> Result<(), Fault> {
     Ok(())
 }
 
-/// Appends the row of each field of a struct.
+// Appends the row of each field of a struct.
 #[cycle(written)]
 fn write_struct(
     out: &mut String,
@@ -218,7 +218,7 @@ fn write_struct(
     Ok(out.push(')')?)
 }
 
-/// Appends the type id of a row of a union, and the row of its field.
+// Appends the type id of a row of a union, and the row of its field.
 #[cycle(written)]
 fn write_variant(
     out: &mut String,
@@ -263,7 +263,7 @@ pub fn write_scalar(out: &mut String, scalar: &AnyScalar) -> Result<(), Fault> {
     Ok(out.push(')')?)
 }
 
-/// Appends the row of a scalar, which so many keys of dictionaries name.
+// Appends the row of a scalar, which so many keys of dictionaries name.
 fn write_value(
     out: &mut String,
     scalar: &AnyScalar,
@@ -283,7 +283,7 @@ fn write_value(
     }
 }
 
-/// Appends the row of a scalar that has no other one inside, which is not null.
+// Appends the row of a scalar that has no other one inside, which is not null.
 fn write_flat_value(out: &mut String, scalar: &AnyScalar) -> Result<(), Fault> {
     match scalar {
         AnyScalar::Boolean(scalar) => write_truth(out, scalar.value() == Some(true)),
@@ -298,7 +298,7 @@ fn write_flat_value(out: &mut String, scalar: &AnyScalar) -> Result<(), Fault> {
     }
 }
 
-/// Appends an element.
+// Appends an element.
 fn write_element<T: Element>(out: &mut String, scalar: &PrimitiveScalar<T>) -> Result<(), Fault> {
     match scalar.value() {
         Some(value) => value.write(out),

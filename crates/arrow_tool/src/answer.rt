@@ -75,7 +75,7 @@ impl fmt::Display for Answer {
     }
 }
 
-/// Prints ranges, with a space between two.
+// Prints ranges, with a space between two.
 fn write_ranges<W: fmt::Write>(
     f: &mut fmt::Formatter<W>,
     ranges: &[(usize, usize)],
@@ -86,7 +86,7 @@ fn write_ranges<W: fmt::Write>(
     Ok(())
 }
 
-/// Prints ranges and their sides, with a space between two.
+// Prints ranges and their sides, with a space between two.
 fn write_side_ranges<W: fmt::Write>(
     f: &mut fmt::Formatter<W>,
     ranges: &[(usize, usize, usize)],
@@ -97,7 +97,7 @@ fn write_side_ranges<W: fmt::Write>(
     Ok(())
 }
 
-/// What stands before a range.
+// What stands before a range.
 fn space_before(i: usize) -> &'static str {
     if i == 0 { "" } else { " " }
 }

@@ -96,7 +96,7 @@ impl Command {
     }
 }
 
-/// The array of truth values that is the only argument, if it is one.
+// The array of truth values that is the only argument, if it is one.
 fn only_boolean<'a>(arguments: &'a [Literal<'_>]) -> Option<&'a BooleanArray> {
     let [argument] = arguments else {
         return None;
@@ -104,7 +104,7 @@ fn only_boolean<'a>(arguments: &'a [Literal<'_>]) -> Option<&'a BooleanArray> {
     as_boolean(argument)
 }
 
-/// The array of truth values that an argument is, if it is one.
+// The array of truth values that an argument is, if it is one.
 fn as_boolean<'a>(argument: &'a Literal<'_>) -> Option<&'a BooleanArray> {
     let Literal::Array(array) = argument else {
         return None;

@@ -90,7 +90,7 @@ impl Session {
     }
 }
 
-/// Writes all bytes, in as many writes as the writer asks for.
+// Writes all bytes, in as many writes as the writer asks for.
 fn write_all<W: Sink>(writer: &mut W, bytes: &[u8]) -> Result<(), RunFault>
     requires { W.has_failed writer.old ≡ false }
     ensures write { (result ≡ Err RunFault.Write) ↔ (W.has_failed writer.new ≡ true) }
@@ -107,7 +107,7 @@ fn write_all<W: Sink>(writer: &mut W, bytes: &[u8]) -> Result<(), RunFault>
     Ok(())
 }
 
-/// Reads to the end of the input, and answers each line that a line feed ends.
+// Reads to the end of the input, and answers each line that a line feed ends.
 fn answer_lines<R: Source, W: Sink>(
     session: &mut Session,
     reader: &mut R,

@@ -6,7 +6,7 @@ use crate::literals::{Literal, ReadError};
 use crate::text::split_outside_quotes;
 use std::alloc::{AllocError, Global};
 
-/// The answer to a line without its end, or none to a blank line.
+// The answer to a line without its end, or none to a blank line.
 pub(crate) fn answer_to(alloc: Global, line: &[u8]) -> Result<Option<Answer>, AllocError> {
     let line = match Line::read(alloc, line) {
         Ok(Some(line)) => line,
@@ -48,13 +48,13 @@ impl Line<'_> {
     }
 }
 
-/// Whether a word can be a command's name.
+// Whether a word can be a command's name.
 fn is_name(word: &str) -> bool {
     word.bytes()
         .all(|byte| byte == b'_' || byte.is_ascii_lowercase())
 }
 
-/// The arguments that these words are. No word stands between two spaces.
+// The arguments that these words are. No word stands between two spaces.
 fn read_arguments<'a>(alloc: Global, words: &[&'a str]) -> Result<Vec<Literal<'a>>, ReadError> {
     let mut arguments = Vec::new(alloc);
     for word in words {

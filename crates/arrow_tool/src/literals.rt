@@ -111,13 +111,13 @@ impl Literal<'_> {
     }
 }
 
-/// Whether this is an optional minus sign and digits.
+// Whether this is an optional minus sign and digits.
 fn is_number(word: &str) -> bool {
     let digits = word.strip_prefix('-').unwrap_or(word);
     !digits.is_empty() && digits.bytes().all(|byte| byte.is_ascii_digit())
 }
 
-/// What stands between an array's opening and its closing bracket.
+// What stands between an array's opening and its closing bracket.
 fn elements_of<'a>(word: &'a str, opening: &str) -> Option<&'a str> {
     word.strip_prefix(opening)?.strip_suffix(']')
 }
@@ -147,7 +147,7 @@ impl Element for bool {
     }
 }
 
-/// An array of Int32.
+// An array of Int32.
 fn read_numbers(alloc: Global, elements: &str) -> Result<WrittenArray, ReadError> {
     let (values, validity) = read_elements(alloc, elements)?;
     let values = Buffer::from_vec(alloc, values)?;
@@ -155,7 +155,7 @@ fn read_numbers(alloc: Global, elements: &str) -> Result<WrittenArray, ReadError
     Ok(WrittenArray::new(AnyArray::Primitive(AnyPrimitive::Int32(array))))
 }
 
-/// An array of Boolean.
+// An array of Boolean.
 fn read_truths(alloc: Global, elements: &str) -> Result<WrittenArray, ReadError> {
     let (values, validity) = read_elements(alloc, elements)?;
     let values = Bitmap::from_bools(alloc, &values)?;
@@ -163,7 +163,7 @@ fn read_truths(alloc: Global, elements: &str) -> Result<WrittenArray, ReadError>
     Ok(WrittenArray::new(AnyArray::Boolean(array)))
 }
 
-/// Elements parted by commas: their values, and a validity where one of them is null.
+// Elements parted by commas: their values, and a validity where one of them is null.
 fn read_elements<T: Element>(
     alloc: Global,
     elements: &str,
@@ -181,7 +181,7 @@ fn read_elements<T: Element>(
     Ok((values, validity_of(alloc, &validity)?))
 }
 
-/// An element's value, and whether it is valid. A null may name the value beneath it.
+// An element's value, and whether it is valid. A null may name the value beneath it.
 fn read_element<T: Element>(element: &str) -> Option<(T, bool)> {
     match element.strip_prefix('_') {
         None => Some((T::read(element)?, true)),
@@ -190,7 +190,7 @@ fn read_element<T: Element>(element: &str) -> Option<(T, bool)> {
     }
 }
 
-/// A bitmap of these bits, where one of them is not set.
+// A bitmap of these bits, where one of them is not set.
 fn validity_of(alloc: Global, bits: &[bool]) -> Result<Option<Bitmap>, ReadError> {
     if !bits.contains(&false) {
         return Ok(None);
@@ -198,7 +198,7 @@ fn validity_of(alloc: Global, bits: &[bool]) -> Result<Option<Bitmap>, ReadError
     Ok(Some(Bitmap::from_bools(alloc, bits)?))
 }
 
-/// An array of Utf8: its texts stand in quotes, and a null names none beneath it.
+// An array of Utf8: its texts stand in quotes, and a null names none beneath it.
 fn read_texts(alloc: Global, elements: &str) -> Result<WrittenArray, ReadError> {
     let mut offsets = Offsets::<i32>::with_capacity(alloc, 0)?;
     let mut texts = String::new(alloc);
@@ -207,7 +207,7 @@ fn read_texts(alloc: Global, elements: &str) -> Result<WrittenArray, ReadError> 
     written_texts(alloc, offsets, texts, &validity)
 }
 
-/// Appends texts, as offsets, bytes and bits of a validity.
+// Appends texts, as offsets, bytes and bits of a validity.
 fn push_texts(
     alloc: Global,
     elements: &str,
@@ -229,7 +229,7 @@ fn push_texts(
     Ok(())
 }
 
-/// An array of texts.
+// An array of texts.
 fn written_texts(
     alloc: Global,
     offsets: Offsets<i32>,
@@ -243,7 +243,7 @@ fn written_texts(
     Ok(WrittenArray::new(AnyArray::Utf8(array)))
 }
 
-/// Appends the text that an element in quotes stands for.
+// Appends the text that an element in quotes stands for.
 fn push_text(texts: &mut String, element: &str) -> Result<(), ReadError> {
     let quoted = element
         .strip_prefix('"')
@@ -330,7 +330,7 @@ impl fmt::Display for Row<'_> {
     }
 }
 
-/// Prints a text in quotes, with a backslash before each quote and backslash, and `\n` for a line feed.
+// Prints a text in quotes, with a backslash before each quote and backslash, and `\n` for a line feed.
 fn write_text<W: fmt::Write>(f: &mut fmt::Formatter<W>, text: &str) -> fmt::Result {
     f.write_str("\"")?;
     for c in text.chars() {

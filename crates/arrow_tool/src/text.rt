@@ -2,8 +2,8 @@
 
 use std::alloc::{AllocError, Global};
 
-/// The pieces of a text between the separators that stand outside quotes. Within quotes, a backslash and
-/// what follows it stand together.
+// The pieces of a text between the separators that stand outside quotes. Within quotes, a backslash and
+// what follows it stand together.
 pub(crate) fn split_outside_quotes<'a>(
     alloc: Global,
     text: &'a str,

@@ -79,10 +79,7 @@ type Run = (
 /// answers, and what it writes where there is room.
 type Ending<'a> = (&'a [u8], bool, usize, Outcome, &'a str);
 
-/// Whether a run ends as it is wanted, where so many bytes are read and written at a time.
-///
-/// # Errors
-/// `AllocError` where memory was refused, to the test or to the run, which says so.
+// Whether a run ends as it is wanted, where so many bytes are read and written at a time.
 fn ends_so(alloc: Global, wanted: Ending<'_>, step: usize) -> Result<bool, AllocError> {
     let (input, fails, room, outcome, output) = wanted;
     let mut writer = Output {
@@ -107,7 +104,7 @@ fn ends_so(alloc: Global, wanted: Ending<'_>, step: usize) -> Result<bool, Alloc
     Ok(false)
 }
 
-/// The same of a run by its name.
+// The same of a run by its name.
 fn is_right(alloc: Global, wanted: &Run, step: usize) -> Result<bool, AllocError> {
     let (_, input, times, fails, room, outcome, output) = *wanted;
     let input = input.repeat(alloc, times)?;
@@ -115,8 +112,8 @@ fn is_right(alloc: Global, wanted: &Run, step: usize) -> Result<bool, AllocError
     ends_so(alloc, (&input, fails, room, outcome, &output), step)
 }
 
-/// Whether a run that was refused a request for memory says so: by a fault after whole lines of the output, or by one line in
-/// the place of an answer. A stream that fails does so all the same, a writer anywhere.
+// Whether a run that was refused a request for memory says so: by a fault after whole lines of the output, or by one line in
+// the place of an answer. A stream that fails does so all the same, a writer anywhere.
 fn is_out_of_memory(outcome: Outcome, output: &[u8], wanted: Outcome, whole: &str) -> bool {
     let Ok(output) = str::from_utf8(output) else {
         return false;
@@ -131,7 +128,7 @@ fn is_out_of_memory(outcome: Outcome, output: &[u8], wanted: Outcome, whole: &st
     }
 }
 
-/// Whether one line tells of refused memory in the place of an answer, and all others are as they are wanted.
+// Whether one line tells of refused memory in the place of an answer, and all others are as they are wanted.
 fn is_refused_once(output: &str, whole: &str) -> bool {
     let Some((before, behind)) = output.split_once("error OutOfMemory\n") else {
         return false;
@@ -262,7 +259,7 @@ const LINES: [(&str, &str); 20] = [
 /// Room for the output of these lines.
 const LITTLE: usize = 1000;
 
-/// Appends what a part of a line is answered where it stands alone, and tells whether it is refused.
+// Appends what a part of a line is answered where it stands alone, and tells whether it is refused.
 fn append_answer(alloc: Global, line: &[u8], output: &mut String) -> Result<bool, AllocError> {
     let mut writer = Output {
         bytes: Vec::with_capacity(alloc, LITTLE)?,
@@ -285,8 +282,8 @@ fn append_answer(alloc: Global, line: &[u8], output: &mut String) -> Result<bool
     }
 }
 
-/// Whether an input that ends, and a reader that fails, behind each byte of the lines is answered as far as it goes, and a writer
-/// that is full behind each byte of the answers has these bytes.
+// Whether an input that ends, and a reader that fails, behind each byte of the lines is answered as far as it goes, and a writer
+// that is full behind each byte of the answers has these bytes.
 fn ends_anywhere(alloc: Global, step: usize) -> Result<bool, AllocError> {
     let mut input = Vec::new(alloc);
     let mut output = String::new(alloc);
@@ -316,7 +313,7 @@ fn ends_anywhere(alloc: Global, step: usize) -> Result<bool, AllocError> {
     Ok(is_right)
 }
 
-/// The same of one input and the part of its last line, behind lines that have their output, one of which is refused or none.
+// The same of one input and the part of its last line, behind lines that have their output, one of which is refused or none.
 fn ends_behind(
     alloc: Global,
     input: &[u8],
@@ -332,7 +329,7 @@ fn ends_behind(
     Ok(ends_so(alloc, ended, step)? & ends_so(alloc, failed, step)?)
 }
 
-/// Whether a line longer than all that is read at once is answered between two others, and left where the reader fails in it.
+// Whether a line longer than all that is read at once is answered between two others, and left where the reader fails in it.
 fn ends_behind_long(alloc: Global, step: usize) -> Result<bool, AllocError> {
     let items = "7,".repeat(alloc, 50_000)?;
     let mut input = String::new(alloc);

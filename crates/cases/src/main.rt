@@ -7,7 +7,7 @@ use std::alloc::Global;
 use std::io;
 use std::io::{BufWriter, Read, Write};
 
-/// Appends the answer to a line, and answers whether a call has its name.
+// Appends the answer to a line, and answers whether a call has its name.
 fn answer(alloc: Global, line: &str, out: &mut String) -> Result<bool, Fault> {
     let call = Call::read(alloc, line)?;
     Ok(
@@ -17,7 +17,7 @@ fn answer(alloc: Global, line: &str, out: &mut String) -> Result<bool, Fault> {
     )
 }
 
-/// What stands for a line: the line itself where it is a comment, and otherwise its answer.
+// What stands for a line: the line itself where it is a comment, and otherwise its answer.
 fn answer_line(alloc: Global, line: &str, out: &mut String) -> Result<(), Fault> {
     out.clear();
     if line.is_empty() || line.starts_with('#') {

@@ -28,7 +28,7 @@ pub(crate) enum OfArray {
     Validity,
 }
 
-/// The calls that take an array.
+// The calls that take an array.
 pub(crate) fn of_array(
     alloc: Global,
     method: OfArray,
@@ -39,7 +39,7 @@ pub(crate) fn of_array(
     write_of_array(method, &*array.array, out)
 }
 
-/// The same of an array that is lent.
+// The same of an array that is lent.
 fn write_of_array(method: OfArray, array: &AnyArray, out: &mut String) -> Result<(), Fault> {
     match method {
         OfArray::Clone => write_made(out, cloned(array)),
@@ -63,7 +63,7 @@ pub(crate) enum OfArrayAt {
     StartEnd,
 }
 
-/// The calls that take an array and a number.
+// The calls that take an array and a number.
 pub(crate) fn of_array_at(
     alloc: Global,
     method: OfArrayAt,
@@ -76,7 +76,7 @@ pub(crate) fn of_array_at(
     write_of_array_at(method, &*array.array, i, out)
 }
 
-/// The same of an array that is lent.
+// The same of an array that is lent.
 fn write_of_array_at(
     method: OfArrayAt,
     array: &AnyArray,
@@ -92,12 +92,12 @@ fn write_of_array_at(
     }
 }
 
-/// A clone of the array, or that memory was refused.
+// A clone of the array, or that memory was refused.
 fn cloned(array: &AnyArray) -> Result<AnyArray, Error> {
     Ok(array.clone()?)
 }
 
-/// Whether a row is no null.
+// Whether a row is no null.
 fn is_valid(array: &AnyArray, i: usize, out: &mut String) -> Result<(), Fault> {
     if i < array.len() {
         show(out, array.is_valid(i))
@@ -106,13 +106,13 @@ fn is_valid(array: &AnyArray, i: usize, out: &mut String) -> Result<(), Fault> {
     }
 }
 
-/// Whether two arrays are equal.
+// Whether two arrays are equal.
 pub(crate) fn eq(alloc: Global, call: &Call<'_>, out: &mut String) -> Result<(), Fault> {
     let pair = call.pair(alloc)?;
     show(out, *pair.left == *pair.right)
 }
 
-/// A part of an array, which is kept of it.
+// A part of an array, which is kept of it.
 pub(crate) fn slice(alloc: Global, call: &Call<'_>, out: &mut String) -> Result<(), Fault> {
     call.takes(3)?;
     let (offset, len) = call.range(1)?;
@@ -120,7 +120,7 @@ pub(crate) fn slice(alloc: Global, call: &Call<'_>, out: &mut String) -> Result<
     slice_within(&mut *array.array, offset, len, out)
 }
 
-/// The same, if the part is within the array.
+// The same, if the part is within the array.
 fn slice_within(
     array: &mut AnyArray,
     offset: usize,
@@ -132,7 +132,7 @@ fn slice_within(
     write_array(out, array)
 }
 
-/// A part of an array, which is made of it.
+// A part of an array, which is made of it.
 pub(crate) fn sliced(alloc: Global, call: &Call<'_>, out: &mut String) -> Result<(), Fault> {
     call.takes(3)?;
     let (offset, len) = call.range(1)?;
@@ -141,7 +141,7 @@ pub(crate) fn sliced(alloc: Global, call: &Call<'_>, out: &mut String) -> Result
     write_made(out, Ok(array.into_inner().sliced(offset, len)))
 }
 
-/// Argument 0, a type of which there are arrays.
+// Argument 0, a type of which there are arrays.
 fn carried(alloc: Global, call: &Call<'_>) -> Result<DataType, Fault>
     ensures { IfOk result (λ data_type. IsCarried (type_of data_type)) }
 {
@@ -153,13 +153,13 @@ fn carried(alloc: Global, call: &Call<'_>) -> Result<DataType, Fault>
     }
 }
 
-/// An array without rows.
+// An array without rows.
 pub(crate) fn new_empty(alloc: Global, call: &Call<'_>, out: &mut String) -> Result<(), Fault> {
     call.takes(1)?;
     write_made(out, new_empty_array(alloc, carried(alloc, call)?))
 }
 
-/// An array of null slots.
+// An array of null slots.
 pub(crate) fn new_null(alloc: Global, call: &Call<'_>, out: &mut String) -> Result<(), Fault> {
     call.takes(2)?;
     let len = call.integer(1)?;

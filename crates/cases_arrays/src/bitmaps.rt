@@ -10,7 +10,7 @@ use arrow_text::write::{show, write_bits};
 use arrow_types::error::Error;
 use std::alloc::Global;
 
-/// Appends the bitmap that a call made, if it was not refused.
+// Appends the bitmap that a call made, if it was not refused.
 pub(crate) fn write_made_bits(
     out: &mut String,
     outcome: Result<Bitmap, Error>,
@@ -32,7 +32,7 @@ pub(crate) enum OfBitmap {
     UnsetBits,
 }
 
-/// The calls that take a bitmap.
+// The calls that take a bitmap.
 pub(crate) fn of_bitmap(
     alloc: Global,
     method: OfBitmap,
@@ -50,13 +50,13 @@ pub(crate) fn of_bitmap(
     }
 }
 
-/// A clone of the bitmap.
+// A clone of the bitmap.
 fn clone(bits: &Bitmap, out: &mut String) -> Result<(), Fault> {
     let copy = bits.clone()?;
     write_bits(out, &copy)
 }
 
-/// The same bits, packed from a list of truth values.
+// The same bits, packed from a list of truth values.
 fn from_bools(alloc: Global, bits: &Bitmap, out: &mut String) -> Result<(), Fault> {
     let mut truths = Vec::new(alloc);
     for i in 0..bits.len() {
@@ -65,13 +65,13 @@ fn from_bools(alloc: Global, bits: &Bitmap, out: &mut String) -> Result<(), Faul
     write_made_bits(out, Bitmap::from_bools(alloc, &truths))
 }
 
-/// So many bits that are not set.
+// So many bits that are not set.
 pub(crate) fn new_zeroed(alloc: Global, call: &Call<'_>, out: &mut String) -> Result<(), Fault> {
     call.takes(1)?;
     write_made_bits(out, Bitmap::new_zeroed(alloc, call.integer(0)?))
 }
 
-/// So many bits that are equal to a truth value.
+// So many bits that are equal to a truth value.
 pub(crate) fn new_constant(alloc: Global, call: &Call<'_>, out: &mut String) -> Result<(), Fault> {
     call.takes(2)?;
     let value = call.argument(0)?.truth()?;
@@ -85,7 +85,7 @@ pub(crate) enum OfBitmapAt {
     Word,
 }
 
-/// The calls that take a bitmap and a number.
+// The calls that take a bitmap and a number.
 pub(crate) fn of_bitmap_at(
     alloc: Global,
     method: OfBitmapAt,
@@ -111,7 +111,7 @@ pub(crate) enum OfBitmapPart {
     Sliced,
 }
 
-/// The calls that take a bitmap and two numbers.
+// The calls that take a bitmap and two numbers.
 pub(crate) fn of_bitmap_part(
     alloc: Global,
     method: OfBitmapPart,
@@ -129,7 +129,7 @@ pub(crate) fn of_bitmap_part(
     }
 }
 
-/// A part of a bitmap, which is kept of it.
+// A part of a bitmap, which is kept of it.
 fn slice(bits: Bitmap, offset: usize, len: usize, out: &mut String) -> Result<(), Fault> {
     check_within(offset, len, bits.len())?;
     let mut part = bits;
@@ -137,13 +137,13 @@ fn slice(bits: Bitmap, offset: usize, len: usize, out: &mut String) -> Result<()
     write_bits(out, &part)
 }
 
-/// A part of a bitmap, which is made of it.
+// A part of a bitmap, which is made of it.
 fn sliced(bits: Bitmap, offset: usize, len: usize, out: &mut String) -> Result<(), Fault> {
     check_within(offset, len, bits.len())?;
     write_bits(out, &bits.sliced(offset, len))
 }
 
-/// A bit, and where the run of such bits ends.
+// A bit, and where the run of such bits ends.
 fn run_at(bits: &Bitmap, start: usize, end: usize, out: &mut String) -> Result<(), Fault> {
     check_below(start, end)?;
     check_within(end, 0, bits.len())?;
@@ -151,13 +151,13 @@ fn run_at(bits: &Bitmap, start: usize, end: usize, out: &mut String) -> Result<(
     show_both(out, bit, run_end)
 }
 
-/// The runs of a part of a bitmap, one after the other.
+// The runs of a part of a bitmap, one after the other.
 fn runs(bits: &Bitmap, start: usize, len: usize, out: &mut String) -> Result<(), Fault> {
     check_within(start, len, bits.len())?;
     write_runs(bits, start, len, out)
 }
 
-/// Each run of set bits among `len` bits from `start` on, and the count of the others before it; `none` of no bit.
+// Each run of set bits among `len` bits from `start` on, and the count of the others before it; `none` of no bit.
 fn write_runs(bits: &Bitmap, start: usize, len: usize, out: &mut String) -> Result<(), Fault>
     requires { start + len ≤ length bits.now }
 {
@@ -178,7 +178,7 @@ fn write_runs(bits: &Bitmap, start: usize, len: usize, out: &mut String) -> Resu
     Ok(())
 }
 
-/// That two bitmaps have as many bits.
+// That two bitmaps have as many bits.
 fn check_alike(left: &Bitmap, right: &Bitmap) -> Result<(), Fault>
     ensures { OnOk result (length left.now ≡ length right.now) }
 {
@@ -198,7 +198,7 @@ pub(crate) enum OfBitmaps {
     Or,
 }
 
-/// The calls that take two bitmaps.
+// The calls that take two bitmaps.
 pub(crate) fn of_bitmaps(
     alloc: Global,
     method: OfBitmaps,
@@ -211,7 +211,7 @@ pub(crate) fn of_bitmaps(
     write_of_bitmaps(alloc, method, &left, &right, out)
 }
 
-/// The same of bitmaps that are lent.
+// The same of bitmaps that are lent.
 fn write_of_bitmaps(
     alloc: Global,
     method: OfBitmaps,
@@ -230,7 +230,7 @@ fn write_of_bitmaps(
     }
 }
 
-/// Whether parts of two bitmaps are equal.
+// Whether parts of two bitmaps are equal.
 pub(crate) fn equal_range(alloc: Global, call: &Call<'_>, out: &mut String) -> Result<(), Fault> {
     call.takes(5)?;
     let start = call.integer(1)?;

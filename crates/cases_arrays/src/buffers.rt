@@ -14,13 +14,13 @@ use std::alloc::Global;
 /// How many bytes are copied as a block.
 const BLOCK: usize = 32;
 
-/// The first argument, a buffer: the values of an array, null rows too.
+// The first argument, a buffer: the values of an array, null rows too.
 fn read_values(alloc: Global, call: &Call<'_>) -> Result<Buffer<i32>, Fault> {
     let array = call.array(alloc, 0)?;
     values_of(&*array.array)
 }
 
-/// The values of an array.
+// The values of an array.
 fn values_of(array: &AnyArray) -> Result<Buffer<i32>, Fault> {
     match array {
         AnyArray::Primitive(AnyPrimitive::Int32(array)) => Ok(array.values().clone()?),
@@ -37,7 +37,7 @@ pub(crate) enum OfBuffer {
     Len,
 }
 
-/// The calls that take a buffer.
+// The calls that take a buffer.
 pub(crate) fn of_buffer(
     alloc: Global,
     method: OfBuffer,
@@ -54,20 +54,20 @@ pub(crate) fn of_buffer(
     }
 }
 
-/// A clone of the buffer.
+// A clone of the buffer.
 fn clone(values: &Buffer<i32>, out: &mut String) -> Result<(), Fault> {
     let copy = values.clone()?;
     write_values(out, &copy)
 }
 
-/// The same values, of a `Vec` of their own.
+// The same values, of a `Vec` of their own.
 fn from_vec(alloc: Global, values: &Buffer<i32>, out: &mut String) -> Result<(), Fault> {
     let values = Vec::from_slice(alloc, values.as_slice())?;
     let moved = Buffer::from_vec(alloc, values)?;
     write_values(out, &moved)
 }
 
-/// A part of a buffer, which is kept of it.
+// A part of a buffer, which is kept of it.
 pub(crate) fn slice(alloc: Global, call: &Call<'_>, out: &mut String) -> Result<(), Fault> {
     call.takes(3)?;
     let (offset, len) = call.range(1)?;
@@ -77,7 +77,7 @@ pub(crate) fn slice(alloc: Global, call: &Call<'_>, out: &mut String) -> Result<
     write_values(out, &values)
 }
 
-/// A part of a buffer, which is made of it.
+// A part of a buffer, which is made of it.
 pub(crate) fn sliced(alloc: Global, call: &Call<'_>, out: &mut String) -> Result<(), Fault> {
     call.takes(3)?;
     let (offset, len) = call.range(1)?;
@@ -86,7 +86,7 @@ pub(crate) fn sliced(alloc: Global, call: &Call<'_>, out: &mut String) -> Result
     write_values(out, &values.sliced(offset, len))
 }
 
-/// Appends the values, as an array of them is written.
+// Appends the values, as an array of them is written.
 fn write_values(out: &mut String, values: &Buffer<i32>) -> Result<(), Fault> {
     out.push_str("i32[")?;
     for (i, value) in values.as_slice().iter().enumerate() {
@@ -98,7 +98,7 @@ fn write_values(out: &mut String, values: &Buffer<i32>) -> Result<(), Fault> {
     Ok(out.push(']')?)
 }
 
-/// Bytes behind others, with room for a block of them.
+// Bytes behind others, with room for a block of them.
 pub(crate) fn append_span(alloc: Global, call: &Call<'_>, out: &mut String) -> Result<(), Fault> {
     call.takes(4)?;
     let (start, end) = call.range(2)?;
@@ -107,7 +107,7 @@ pub(crate) fn append_span(alloc: Global, call: &Call<'_>, out: &mut String) -> R
     append(&mut bytes, &from, start, end, out)
 }
 
-/// The same of bytes that are lent.
+// The same of bytes that are lent.
 fn append(
     bytes: &mut Vec<u8>,
     from: &[u8],

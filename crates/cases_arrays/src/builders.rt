@@ -16,19 +16,19 @@ use arrow_types::types::Offset;
 use std::alloc::Global;
 use std::fmt::Display;
 
-/// Arguments 1 and 2 of a step that has no more, where a part begins and how long it is.
+// Arguments 1 and 2 of a step that has no more, where a part begins and how long it is.
 fn range(step: &Call<'_>) -> Result<(usize, usize), Fault> {
     step.takes(3)?;
     step.range(1)
 }
 
-/// Appends a value and a space, if the step takes no argument.
+// Appends a value and a space, if the step takes no argument.
 fn show_alone<T: Display + Drop>(out: &mut String, step: &Call<'_>, value: T) -> Result<(), Fault> {
     step.takes(0)?;
     Ok(write!(out, "{value} ")?)
 }
 
-/// Appends a refusal's name, where a step was refused.
+// Appends a refusal's name, where a step was refused.
 fn write_refusal(out: &mut String, outcome: Result<(), Error>) -> Result<(), Fault> {
     match outcome {
         Ok(()) => Ok(()),
@@ -57,7 +57,7 @@ const BITS_STEPS: [(&str, BitsStep); 6] = [
     ("push_word", BitsStep::PushWord),
 ];
 
-/// Bits that are appended, and the bitmap at the end. A first step makes them.
+// Bits that are appended, and the bitmap at the end. A first step makes them.
 pub(crate) fn bits(alloc: Global, call: &Call<'_>, out: &mut String) -> Result<(), Fault> {
     let Some((first, steps)) = call.arguments.split_first() else {
         return Err(Fault::Usage);
@@ -67,7 +67,7 @@ pub(crate) fn bits(alloc: Global, call: &Call<'_>, out: &mut String) -> Result<(
     write_made_bits(out, bits.into_bitmap())
 }
 
-/// No bits: `new()`, or `with_capacity(8)`.
+// No bits: `new()`, or `with_capacity(8)`.
 fn new_bits(alloc: Global, piece: Piece<'_>) -> Result<MutableBitmap, Fault> {
     let step = piece.step(alloc)?;
     match step.name {
@@ -80,13 +80,13 @@ fn new_bits(alloc: Global, piece: Piece<'_>) -> Result<MutableBitmap, Fault> {
     }
 }
 
-/// The only argument of a step, a number.
+// The only argument of a step, a number.
 fn only(step: &Call<'_>) -> Result<usize, Fault> {
     step.takes(1)?;
     step.integer(0)
 }
 
-/// The steps on bits, one after the other.
+// The steps on bits, one after the other.
 fn bits_steps(
     alloc: Global,
     bits: &mut MutableBitmap,
@@ -99,7 +99,7 @@ fn bits_steps(
     Ok(())
 }
 
-/// One step on bits, and what it prints.
+// One step on bits, and what it prints.
 fn bits_step(
     alloc: Global,
     bits: &mut MutableBitmap,
@@ -113,7 +113,7 @@ fn bits_step(
     }
 }
 
-/// A step of a kind on bits, and what it prints.
+// A step of a kind on bits, and what it prints.
 fn take_bits_step(
     alloc: Global,
     kind: BitsStep,
@@ -131,14 +131,14 @@ fn take_bits_step(
     }
 }
 
-/// Appends a bit.
+// Appends a bit.
 fn push_bit(bits: &mut MutableBitmap, step: &Call<'_>, out: &mut String) -> Result<(), Fault> {
     step.takes(1)?;
     let bit = step.argument(0)?.truth()?;
     write_refusal(out, bits.push(bit))
 }
 
-/// Appends a bit so often.
+// Appends a bit so often.
 fn push_often(bits: &mut MutableBitmap, step: &Call<'_>, out: &mut String) -> Result<(), Fault> {
     step.takes(2)?;
     let additional = step.integer(0)?;
@@ -146,7 +146,7 @@ fn push_often(bits: &mut MutableBitmap, step: &Call<'_>, out: &mut String) -> Re
     write_refusal(out, bits.extend_constant(additional, bit))
 }
 
-/// Appends a part of a bitmap.
+// Appends a part of a bitmap.
 fn extend_from_bitmap(
     alloc: Global,
     bits: &mut MutableBitmap,
@@ -159,7 +159,7 @@ fn extend_from_bitmap(
     write_refusal(out, bits.extend_from_bitmap(&source, start, len))
 }
 
-/// Appends the lowest bits of a word.
+// Appends the lowest bits of a word.
 fn push_word(bits: &mut MutableBitmap, step: &Call<'_>, out: &mut String) -> Result<(), Fault> {
     step.takes(2)?;
     let word = step.integer(0)?;
@@ -189,7 +189,7 @@ const OFFSETS_STEPS: [(&str, OffsetsStep); 6] = [
     ("try_push_usize", OffsetsStep::TryPushUsize),
 ];
 
-/// Offsets that rows are appended to, and the offsets at the end. A first step makes them.
+// Offsets that rows are appended to, and the offsets at the end. A first step makes them.
 pub(crate) fn offsets<O: Offset + Integer>(
     alloc: Global,
     call: &Call<'_>,
@@ -204,7 +204,7 @@ pub(crate) fn offsets<O: Offset + Integer>(
     write_offsets(out, &offsets)
 }
 
-/// The offset 0 alone: `with_capacity(8)`.
+// The offset 0 alone: `with_capacity(8)`.
 fn new_offsets<O: Offset>(alloc: Global, piece: Piece<'_>) -> Result<Offsets<O>, Fault> {
     let step = piece.step(alloc)?;
     let capacity = only(&step)?;
@@ -214,7 +214,7 @@ fn new_offsets<O: Offset>(alloc: Global, piece: Piece<'_>) -> Result<Offsets<O>,
     }
 }
 
-/// The steps on offsets, one after the other.
+// The steps on offsets, one after the other.
 fn offsets_steps<O: Offset + Integer>(
     alloc: Global,
     offsets: &mut Offsets<O>,
@@ -227,7 +227,7 @@ fn offsets_steps<O: Offset + Integer>(
     Ok(())
 }
 
-/// One step on offsets, and what it prints.
+// One step on offsets, and what it prints.
 fn offsets_step<O: Offset + Integer>(
     alloc: Global,
     offsets: &mut Offsets<O>,
@@ -241,7 +241,7 @@ fn offsets_step<O: Offset + Integer>(
     }
 }
 
-/// A step of a kind on offsets, and what it prints.
+// A step of a kind on offsets, and what it prints.
 fn take_offsets_step<O: Offset + Integer>(
     alloc: Global,
     kind: OffsetsStep,
@@ -259,7 +259,7 @@ fn take_offsets_step<O: Offset + Integer>(
     }
 }
 
-/// Appends rows of no item.
+// Appends rows of no item.
 fn extend_constant<O: Offset>(
     offsets: &mut Offsets<O>,
     step: &Call<'_>,
@@ -269,7 +269,7 @@ fn extend_constant<O: Offset>(
     write_refusal(out, offsets.extend_constant(additional))
 }
 
-/// Appends a row.
+// Appends a row.
 fn try_push<O: Offset>(
     offsets: &mut Offsets<O>,
     step: &Call<'_>,
@@ -279,7 +279,7 @@ fn try_push<O: Offset>(
     write_refusal(out, offsets.try_push_usize(length))
 }
 
-/// Appends rows of other offsets.
+// Appends rows of other offsets.
 fn extend_from_slice<O: Offset + Integer>(
     alloc: Global,
     offsets: &mut Offsets<O>,
@@ -292,7 +292,7 @@ fn extend_from_slice<O: Offset + Integer>(
     write_refusal(out, offsets.try_extend_from_slice(&other, start, len))
 }
 
-/// Appends rows of other offsets from one on, up to the end of a validity.
+// Appends rows of other offsets from one on, up to the end of a validity.
 fn extend_from_valid<O: Offset + Integer>(
     alloc: Global,
     offsets: &mut Offsets<O>,

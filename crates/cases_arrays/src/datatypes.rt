@@ -16,7 +16,7 @@ pub(crate) enum OfType {
     ToPhysicalType,
 }
 
-/// The calls that take a data type.
+// The calls that take a data type.
 pub(crate) fn of_type(
     alloc: Global,
     method: OfType,
@@ -28,7 +28,7 @@ pub(crate) fn of_type(
     write_of_type(method, &*data_type, out)
 }
 
-/// The same of a data type that is lent.
+// The same of a data type that is lent.
 fn write_of_type(method: OfType, data_type: &DataType, out: &mut String) -> Result<(), Fault> {
     match method {
         OfType::Clone => clone(data_type, out),
@@ -38,13 +38,13 @@ fn write_of_type(method: OfType, data_type: &DataType, out: &mut String) -> Resu
     }
 }
 
-/// A clone of the type.
+// A clone of the type.
 fn clone(data_type: &DataType, out: &mut String) -> Result<(), Fault> {
     let copy = data_type.clone()?;
     write_type(out, &copy)
 }
 
-/// Whether two data types are equal.
+// Whether two data types are equal.
 pub(crate) fn eq(alloc: Global, call: &Call<'_>, out: &mut String) -> Result<(), Fault> {
     call.takes(2)?;
     let left = boxed(alloc, call, 0)?;
@@ -52,7 +52,7 @@ pub(crate) fn eq(alloc: Global, call: &Call<'_>, out: &mut String) -> Result<(),
     show(out, *left == *right)
 }
 
-/// Argument `i`, a data type in a box.
+// Argument `i`, a data type in a box.
 fn boxed(alloc: Global, call: &Call<'_>, i: usize) -> Result<Box<DataType>, Fault> {
     Ok(Box::new(alloc, call.data_type(alloc, i)?)?)
 }

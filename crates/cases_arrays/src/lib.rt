@@ -197,7 +197,7 @@ pub fn answer(alloc: Global, call: &Call<'_>, out: &mut String) -> Result<bool, 
     }
 }
 
-/// Appends the answer of a call that takes this.
+// Appends the answer of a call that takes this.
 fn answer_by(alloc: Global, takes: Takes, call: &Call<'_>, out: &mut String) -> Result<(), Fault> {
     match takes {
         Takes::Array(method) => of_array(alloc, method, call, out),
@@ -214,7 +214,7 @@ fn answer_by(alloc: Global, takes: Takes, call: &Call<'_>, out: &mut String) -> 
     }
 }
 
-/// Appends the answer of a call that reads its arguments by itself.
+// Appends the answer of a call that reads its arguments by itself.
 fn answer_other(
     alloc: Global,
     other: Other,

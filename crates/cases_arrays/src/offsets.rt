@@ -23,7 +23,7 @@ pub(crate) enum Method {
     TryFrom,
 }
 
-/// The calls of offsets, by the width of the first argument.
+// The calls of offsets, by the width of the first argument.
 pub(crate) fn of_offsets(
     alloc: Global,
     method: Method,
@@ -38,7 +38,7 @@ pub(crate) fn of_offsets(
     }
 }
 
-/// The calls of offsets of one width.
+// The calls of offsets of one width.
 fn of_width<O: Offset + Integer>(
     alloc: Global,
     method: Method,
@@ -53,7 +53,7 @@ fn of_width<O: Offset + Integer>(
     }
 }
 
-/// The calls that take offsets and nothing else.
+// The calls that take offsets and nothing else.
 fn of_one<O: Offset + Integer>(
     alloc: Global,
     method: Method,
@@ -70,7 +70,7 @@ fn of_one<O: Offset + Integer>(
     }
 }
 
-/// Offsets as they stand on a line: `offsets32[0,2,3]`.
+// Offsets as they stand on a line: `offsets32[0,2,3]`.
 pub(crate) fn read<O: Offset + Integer>(
     alloc: Global,
     piece: Piece<'_>,
@@ -79,7 +79,7 @@ pub(crate) fn read<O: Offset + Integer>(
     Ok(OffsetsBuffer::try_from(alloc, numbers)?)
 }
 
-/// What stands before the first of some offsets.
+// What stands before the first of some offsets.
 fn opening<O: Offset>() -> &'static str {
     if O::IS_LARGE {
         "offsets64["
@@ -88,13 +88,13 @@ fn opening<O: Offset>() -> &'static str {
     }
 }
 
-/// Appends a clone of offsets.
+// Appends a clone of offsets.
 fn write_copy<O: Offset>(out: &mut String, offsets: &OffsetsBuffer<O>) -> Result<(), Fault> {
     let copy = offsets.clone()?;
     write_offsets(out, &copy)
 }
 
-/// Appends offsets as they stand on a line.
+// Appends offsets as they stand on a line.
 pub(crate) fn write_offsets<O: Offset>(
     out: &mut String,
     offsets: &OffsetsBuffer<O>,
@@ -110,7 +110,7 @@ pub(crate) fn write_offsets<O: Offset>(
     Ok(out.push(']')?)
 }
 
-/// Where a row begins and ends.
+// Where a row begins and ends.
 fn start_end<O: Offset + Integer>(
     alloc: Global,
     call: &Call<'_>,
@@ -124,7 +124,7 @@ fn start_end<O: Offset + Integer>(
     show_both(out, start, end)
 }
 
-/// Where rows begin and end.
+// Where rows begin and end.
 fn range<O: Offset + Integer>(
     alloc: Global,
     call: &Call<'_>,
@@ -138,7 +138,7 @@ fn range<O: Offset + Integer>(
     show_both(out, start, end)
 }
 
-/// Offsets of which a part is kept.
+// Offsets of which a part is kept.
 fn slice<O: Offset + Integer>(
     alloc: Global,
     call: &Call<'_>,

@@ -21,7 +21,7 @@ pub(crate) enum OfPart {
     Start,
 }
 
-/// Appends a size of an array's part.
+// Appends a size of an array's part.
 pub(crate) fn size(method: OfPart, array: &AnyArray, out: &mut String) -> Result<(), Fault> {
     match (method, array) {
         (OfPart::BytesSize, AnyArray::FixedSizeBinary(array)) => show(out, array.size()),
@@ -33,7 +33,7 @@ pub(crate) fn size(method: OfPart, array: &AnyArray, out: &mut String) -> Result
     }
 }
 
-/// The key of a row of a dictionary.
+// The key of a row of a dictionary.
 pub(crate) fn key(array: &AnyArray, i: usize, out: &mut String) -> Result<(), Fault> {
     match array {
         AnyArray::Dictionary(array) if i < array.keys().len() => {
@@ -43,7 +43,7 @@ pub(crate) fn key(array: &AnyArray, i: usize, out: &mut String) -> Result<(), Fa
     }
 }
 
-/// Appends a key; `none` of a null.
+// Appends a key; `none` of a null.
 fn write_key(out: &mut String, key: Option<usize>) -> Result<(), Fault> {
     match key {
         Some(key) => show(out, key),
@@ -51,7 +51,7 @@ fn write_key(out: &mut String, key: Option<usize>) -> Result<(), Fault> {
     }
 }
 
-/// Where a row of a list begins and ends.
+// Where a row of a list begins and ends.
 pub(crate) fn start_end(array: &AnyArray, i: usize, out: &mut String) -> Result<(), Fault> {
     let AnyArray::List(array) = array else {
         return Err(Fault::Usage);
@@ -62,7 +62,7 @@ pub(crate) fn start_end(array: &AnyArray, i: usize, out: &mut String) -> Result<
     show_both(out, start, end)
 }
 
-/// The field of a union that a row lies in, and in which row of it.
+// The field of a union that a row lies in, and in which row of it.
 pub(crate) fn index(array: &AnyArray, i: usize, out: &mut String) -> Result<(), Fault> {
     match array {
         AnyArray::Union(array) if i < array.len() => {
@@ -73,7 +73,7 @@ pub(crate) fn index(array: &AnyArray, i: usize, out: &mut String) -> Result<(), 
     }
 }
 
-/// Whether each index is null or below a number.
+// Whether each index is null or below a number.
 pub(crate) fn are_within(array: &AnyArray, len: usize, out: &mut String) -> Result<(), Fault> {
     match array {
         AnyArray::Primitive(array) => show(out, are_indices_within(array, len)?),
@@ -81,7 +81,7 @@ pub(crate) fn are_within(array: &AnyArray, len: usize, out: &mut String) -> Resu
     }
 }
 
-/// The same of indices of any integer type.
+// The same of indices of any integer type.
 fn are_indices_within(array: &AnyPrimitive, len: usize) -> Result<bool, Fault> {
     match array {
         AnyPrimitive::Int8(array) => Ok(array::are_within(array, len)),

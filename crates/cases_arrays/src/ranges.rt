@@ -19,7 +19,7 @@ struct Ranges {
     len: usize,
 }
 
-/// Whether rows of two flat arrays are the same.
+// Whether rows of two flat arrays are the same.
 pub(crate) fn equal_range(alloc: Global, call: &Call<'_>, out: &mut String) -> Result<(), Fault> {
     call.takes(5)?;
     let start = call.integer(1)?;
@@ -34,7 +34,7 @@ pub(crate) fn equal_range(alloc: Global, call: &Call<'_>, out: &mut String) -> R
     show_equal(&*left.array, &*right.array, ranges, out)
 }
 
-/// The same of two arrays that are lent.
+// The same of two arrays that are lent.
 fn show_equal(
     left: &AnyArray,
     right: &AnyArray,
@@ -47,7 +47,7 @@ fn show_equal(
     show(out, are_equal(left, right, ranges)?)
 }
 
-/// Whether rows of two arrays of one kind are the same.
+// Whether rows of two arrays of one kind are the same.
 fn are_equal(left: &AnyArray, right: &AnyArray, ranges: Ranges) -> Result<bool, Fault> {
     match (left, right) {
         (AnyArray::Boolean(left), AnyArray::Boolean(right)) => flat(left, right, ranges),
@@ -63,7 +63,7 @@ fn are_equal(left: &AnyArray, right: &AnyArray, ranges: Ranges) -> Result<bool, 
     }
 }
 
-/// The same of arrays that store their rows alike.
+// The same of arrays that store their rows alike.
 fn flat<V: Values>(
     left: &FlatArray<V>,
     right: &FlatArray<V>,
@@ -79,7 +79,7 @@ fn flat<V: Values>(
     Ok(left.equal_range(start, right, other_start, len))
 }
 
-/// The same of numbers or intervals.
+// The same of numbers or intervals.
 fn numbers(left: &AnyPrimitive, right: &AnyPrimitive, ranges: Ranges) -> Result<bool, Fault> {
     let Ranges {
         start,
@@ -94,7 +94,7 @@ fn numbers(left: &AnyPrimitive, right: &AnyPrimitive, ranges: Ranges) -> Result<
     Ok(left.equal_range(start, right, other_start, len))
 }
 
-/// Whether two arrays have one data type, and so one element type.
+// Whether two arrays have one data type, and so one element type.
 fn have_one_type(left: &AnyPrimitive, right: &AnyPrimitive) -> bool
     ensures { IsTrue result → element_of left.now ≡ element_of right.now }
 {

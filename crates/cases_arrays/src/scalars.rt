@@ -14,7 +14,7 @@ pub(crate) enum OfScalar {
     New,
 }
 
-/// The calls that take a scalar.
+// The calls that take a scalar.
 pub(crate) fn of_scalar(
     alloc: Global,
     method: OfScalar,

@@ -13,7 +13,7 @@ use arrow_text::fault::Fault;
 use arrow_text::write::{write_made, write_truths};
 use std::alloc::Global;
 
-/// An array under another validity.
+// An array under another validity.
 pub(crate) fn with_validity(alloc: Global, call: &Call<'_>, out: &mut String) -> Result<(), Fault> {
     call.takes(2)?;
     let array = call.array(alloc, 0)?;
@@ -21,7 +21,7 @@ pub(crate) fn with_validity(alloc: Global, call: &Call<'_>, out: &mut String) ->
     write_under(&*array.array, validity, out)
 }
 
-/// Appends an array under another validity, by the array's kind.
+// Appends an array under another validity, by the array's kind.
 fn write_under(array: &AnyArray, validity: Option<Bitmap>, out: &mut String) -> Result<(), Fault> {
     match array {
         AnyArray::Boolean(array) => write_truths(out, Ok(flat(array, validity)?)),
@@ -39,7 +39,7 @@ fn write_under(array: &AnyArray, validity: Option<Bitmap>, out: &mut String) -> 
     }
 }
 
-/// The rows of a flat array under another validity.
+// The rows of a flat array under another validity.
 fn flat<V: Values>(array: &FlatArray<V>, validity: Option<Bitmap>) -> Result<FlatArray<V>, Fault> {
     let copy = array.clone()?;
     if !fits_rows(&validity, copy.len()) {
@@ -68,7 +68,7 @@ macro_rules! of_any {
     };
 }
 
-/// Numbers or intervals under another validity.
+// Numbers or intervals under another validity.
 fn of_primitive(
     array: &AnyPrimitive,
     validity: Option<Bitmap>,
@@ -77,7 +77,7 @@ fn of_primitive(
     of_any!(array, array => primitive(array, validity, out))
 }
 
-/// The same of one element type.
+// The same of one element type.
 fn primitive<T: AnyElement>(
     array: &PrimitiveArray<T>,
     validity: Option<Bitmap>,
@@ -87,7 +87,7 @@ fn primitive<T: AnyElement>(
     write_made(out, Ok(AnyArray::Primitive(T::to_any(&array)?)))
 }
 
-/// Texts or bytes under another validity.
+// Texts or bytes under another validity.
 fn bytes<O: AnyOffset, K: AnyRows>(
     array: &FlatArray<ByteRows<O, K>>,
     validity: Option<Bitmap>,
@@ -97,7 +97,7 @@ fn bytes<O: AnyOffset, K: AnyRows>(
     write_made(out, K::to_any(&array))
 }
 
-/// Bytes of a fixed size under another validity.
+// Bytes of a fixed size under another validity.
 fn fixed_size_binary(
     array: &FixedSizeBinaryArray,
     validity: Option<Bitmap>,
@@ -107,7 +107,7 @@ fn fixed_size_binary(
     write_made(out, Ok(AnyArray::FixedSizeBinary(array)))
 }
 
-/// Lists under another validity.
+// Lists under another validity.
 fn list(array: &ListArray, validity: Option<Bitmap>, out: &mut String) -> Result<(), Fault> {
     let copy = array.clone()?;
     if !fits_rows(&validity, copy.len()) {
@@ -116,7 +116,7 @@ fn list(array: &ListArray, validity: Option<Bitmap>, out: &mut String) -> Result
     write_made(out, Ok(AnyArray::List(copy.with_validity(validity))))
 }
 
-/// Lists of a fixed size under another validity.
+// Lists of a fixed size under another validity.
 fn fixed_size_list(
     array: &FixedSizeListArray,
     validity: Option<Bitmap>,
@@ -133,7 +133,7 @@ fn fixed_size_list(
     )
 }
 
-/// Structs under another validity.
+// Structs under another validity.
 fn struct_of(array: &StructArray, validity: Option<Bitmap>, out: &mut String) -> Result<(), Fault> {
     let copy = array.clone()?;
     if !fits_rows(&validity, copy.len()) {
@@ -142,7 +142,7 @@ fn struct_of(array: &StructArray, validity: Option<Bitmap>, out: &mut String) ->
     write_made(out, Ok(AnyArray::Struct(copy.with_validity(validity))))
 }
 
-/// Maps under another validity.
+// Maps under another validity.
 fn map(array: &MapArray, validity: Option<Bitmap>, out: &mut String) -> Result<(), Fault> {
     let copy = array.clone()?;
     if !fits_rows(&validity, copy.len()) {

@@ -63,7 +63,7 @@ const CALLS: [(&str, Asked); 15] = [
     ("boolean_kleene::all", Asked::Array(Question::KleeneAll)),
 ];
 
-/// Answers a call of either logic; `false` where it is none.
+// Answers a call of either logic; `false` where it is none.
 pub(crate) fn answer(alloc: Global, call: &Call<'_>, out: &mut String) -> Result<bool, Fault> {
     let Some(asked) = find(&CALLS, call.name) else {
         return Ok(false);
@@ -76,7 +76,7 @@ pub(crate) fn answer(alloc: Global, call: &Call<'_>, out: &mut String) -> Result
     Ok(true)
 }
 
-/// Appends the rows of two arrays, joined. `Usage` unless both are of truth values and have as many rows.
+// Appends the rows of two arrays, joined. `Usage` unless both are of truth values and have as many rows.
 fn connect(
     alloc: Global,
     connective: Connective,
@@ -99,7 +99,7 @@ fn connect(
     write_truths(out, truths)
 }
 
-/// Appends the rows of an array, each joined to a scalar. `Usage` unless both are truth values.
+// Appends the rows of an array, each joined to a scalar. `Usage` unless both are truth values.
 fn connect_scalar(
     alloc: Global,
     connective: Connective,
@@ -120,7 +120,7 @@ fn connect_scalar(
     write_truths(out, truths)
 }
 
-/// Appends what is asked of an array. `Usage` unless it is of truth values, where more is asked than which rows are null.
+// Appends what is asked of an array. `Usage` unless it is of truth values, where more is asked than which rows are null.
 fn ask(alloc: Global, question: Question, call: &Call<'_>, out: &mut String) -> Result<(), Fault> {
     let given = call.only_array(alloc)?;
     let truths = match (question, &*given.array) {

@@ -89,7 +89,7 @@ const RELATIONS: [(&str, Relation); 6] = [
     ("gt_eq", Relation::GtEq),
 ];
 
-/// Answers a comparison; `false` where the call is none.
+// Answers a comparison; `false` where the call is none.
 pub(crate) fn answer(alloc: Global, call: &Call<'_>, out: &mut String) -> Result<bool, Fault> {
     let Some((kind, named)) = kind_and_call(call.name) else {
         return Ok(false);
@@ -103,7 +103,7 @@ pub(crate) fn answer(alloc: Global, call: &Call<'_>, out: &mut String) -> Result
     Ok(true)
 }
 
-/// The module and the call of a name. No call of the module for arrays of any type takes a relation as a value.
+// The module and the call of a name. No call of the module for arrays of any type takes a relation as a value.
 fn kind_and_call(name: &str) -> Option<(Kind, Named)> {
     let (module, name) = name.rsplit_once("::")?;
     match (*find(&KINDS, module)?, *find(&NAMES, name)?) {
@@ -112,7 +112,7 @@ fn kind_and_call(name: &str) -> Option<(Kind, Named)> {
     }
 }
 
-/// The relation that the first argument says.
+// The relation that the first argument says.
 fn given(call: &Call<'_>) -> Result<Asked, Fault> {
     let piece = call.argument(0)?;
     match find(&RELATIONS, piece.text()) {
@@ -121,8 +121,8 @@ fn given(call: &Call<'_>) -> Result<Asked, Fault> {
     }
 }
 
-/// Appends what is asked of the rows of two arrays, arguments `first` and the one behind it. `Usage` unless both are of the
-/// kind that is asked, and of one layout.
+// Appends what is asked of the rows of two arrays, arguments `first` and the one behind it. `Usage` unless both are of the
+// kind that is asked, and of one layout.
 fn answer_arrays(
     alloc: Global,
     kind: Kind,
@@ -158,8 +158,8 @@ fn answer_arrays(
     }
 }
 
-/// Appends what is asked of the rows of an array and a scalar. `Usage` unless both are of the kind that is asked, and of one
-/// layout, and where the scalar is null and the call is for one kind.
+// Appends what is asked of the rows of an array and a scalar. `Usage` unless both are of the kind that is asked, and of one
+// layout, and where the scalar is null and the call is for one kind.
 fn answer_scalar(
     alloc: Global,
     kind: Kind,

@@ -10,15 +10,15 @@ use arrow_text::fault::Fault;
 use arrow_text::write::{show, write_made};
 use std::alloc::Global;
 
-/// Appends whether `nullif` is offered for two data types.
+// Appends whether `nullif` is offered for two data types.
 pub(crate) fn can_nullif(alloc: Global, call: &Call<'_>, out: &mut String) -> Result<(), Fault> {
     call.takes(2)?;
     let (lhs, rhs) = (boxed_type(alloc, call, 0)?, boxed_type(alloc, call, 1)?);
     show(out, nullif::can_nullif(&lhs, &rhs))
 }
 
-/// Appends the rows of an array, null also where they equal those of another, by the call for any type or for one element
-/// type. `Usage` unless both have as many rows, and are of one type that the first is offered for.
+// Appends the rows of an array, null also where they equal those of another, by the call for any type or for one element
+// type. `Usage` unless both have as many rows, and are of one type that the first is offered for.
 pub(crate) fn nullif(alloc: Global, call: &Call<'_>, out: &mut String) -> Result<(), Fault> {
     let pair = call.pair(alloc)?;
     let (lhs, rhs) = (&*pair.left, &*pair.right);
@@ -31,8 +31,8 @@ pub(crate) fn nullif(alloc: Global, call: &Call<'_>, out: &mut String) -> Result
     write_made(out, nullif::nullif(alloc, lhs, rhs))
 }
 
-/// Appends the rows of an array, null also where they equal a scalar. `Usage` where it is null, and unless both are of one
-/// type that the call for any type is offered for.
+// Appends the rows of an array, null also where they equal a scalar. `Usage` where it is null, and unless both are of one
+// type that the call for any type is offered for.
 pub(crate) fn nullif_scalar(alloc: Global, call: &Call<'_>, out: &mut String) -> Result<(), Fault> {
     call.takes(2)?;
     let (left, right) = (call.array(alloc, 0)?, call.scalar(alloc, 1)?);
@@ -46,7 +46,7 @@ pub(crate) fn nullif_scalar(alloc: Global, call: &Call<'_>, out: &mut String) ->
     write_made(out, nullif::nullif_scalar(alloc, lhs, rhs))
 }
 
-/// By the call for one element type. `Usage` unless both have one.
+// By the call for one element type. `Usage` unless both have one.
 fn write_elements(
     alloc: Global,
     lhs: &AnyArray,
@@ -59,7 +59,7 @@ fn write_elements(
     of_elements!((lhs, rhs), AnyPrimitive, elements, elements, (alloc, out))
 }
 
-/// The same of a scalar.
+// The same of a scalar.
 fn write_elements_of_scalar(
     alloc: Global,
     lhs: &AnyArray,
@@ -78,7 +78,7 @@ fn write_elements_of_scalar(
     )
 }
 
-/// Of two arrays of one element type. `Usage` unless they have as many rows.
+// Of two arrays of one element type. `Usage` unless they have as many rows.
 fn elements<T: AnyElement>(
     alloc: Global,
     out: &mut String,
@@ -92,7 +92,7 @@ fn elements<T: AnyElement>(
     write_made(out, Ok(AnyArray::Primitive(T::to_any(&rows)?)))
 }
 
-/// Of an array and a scalar of its element type. `Usage` where the scalar is null.
+// Of an array and a scalar of its element type. `Usage` where the scalar is null.
 fn element<T: AnyElement>(
     alloc: Global,
     out: &mut String,

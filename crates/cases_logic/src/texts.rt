@@ -7,13 +7,13 @@ use arrow_text::piece::Piece;
 use arrow_text::write::write_made;
 use std::alloc::Global;
 
-/// Appends how many bytes each text has.
+// Appends how many bytes each text has.
 pub(crate) fn length(alloc: Global, call: &Call<'_>, out: &mut String) -> Result<(), Fault> {
     let array = call.only_array(alloc)?;
     write_made(out, length::length(alloc, &array.array))
 }
 
-/// Appends a part of each row.
+// Appends a part of each row.
 pub(crate) fn substring(alloc: Global, call: &Call<'_>, out: &mut String) -> Result<(), Fault> {
     call.takes(3)?;
     let start = call.integer(1)?;
@@ -25,7 +25,7 @@ pub(crate) fn substring(alloc: Global, call: &Call<'_>, out: &mut String) -> Res
     )
 }
 
-/// The length that a piece is: a number, or `none`.
+// The length that a piece is: a number, or `none`.
 fn length_of(piece: Piece<'_>) -> Result<Option<u64>, Fault> {
     match piece.text() {
         "none" => Ok(None),

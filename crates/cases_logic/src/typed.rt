@@ -44,7 +44,7 @@ use arrow_text::write::write_truths;
 use arrow_types::types::Offset;
 use std::alloc::Global;
 
-/// Appends what is asked of two arrays of truth values. `Usage` unless both have as many rows.
+// Appends what is asked of two arrays of truth values. `Usage` unless both have as many rows.
 pub(crate) fn of_truths(
     alloc: Global,
     asked: Asked,
@@ -58,7 +58,7 @@ pub(crate) fn of_truths(
     write_truths(out, of_arrays!(asked, boolean(alloc, lhs, rhs)))
 }
 
-/// Appends what is asked of truth values and one of them. `Usage` where it is null.
+// Appends what is asked of truth values and one of them. `Usage` where it is null.
 pub(crate) fn of_truth(
     alloc: Global,
     asked: Asked,
@@ -70,7 +70,7 @@ pub(crate) fn of_truth(
     write_truths(out, of_scalar!(asked, boolean(alloc, lhs, rhs)))
 }
 
-/// Appends what is asked of two arrays of texts. `Usage` unless both have as many rows.
+// Appends what is asked of two arrays of texts. `Usage` unless both have as many rows.
 pub(crate) fn of_texts<O: Offset>(
     alloc: Global,
     asked: Asked,
@@ -84,7 +84,7 @@ pub(crate) fn of_texts<O: Offset>(
     write_truths(out, of_arrays!(asked, utf8(alloc, lhs, rhs)))
 }
 
-/// Appends what is asked of texts and one of them. `Usage` where it is null.
+// Appends what is asked of texts and one of them. `Usage` where it is null.
 pub(crate) fn of_text<O: Offset>(
     alloc: Global,
     asked: Asked,
@@ -96,7 +96,7 @@ pub(crate) fn of_text<O: Offset>(
     write_truths(out, of_scalar!(asked, utf8(alloc, lhs, rhs)))
 }
 
-/// Appends what is asked of two arrays of bytes. `Usage` unless both have as many rows.
+// Appends what is asked of two arrays of bytes. `Usage` unless both have as many rows.
 pub(crate) fn of_bytes<O: Offset>(
     alloc: Global,
     asked: Asked,
@@ -110,7 +110,7 @@ pub(crate) fn of_bytes<O: Offset>(
     write_truths(out, of_arrays!(asked, binary(alloc, lhs, rhs)))
 }
 
-/// Appends what is asked of rows of bytes and one of them. `Usage` where it is null.
+// Appends what is asked of rows of bytes and one of them. `Usage` where it is null.
 pub(crate) fn of_row<O: Offset>(
     alloc: Global,
     asked: Asked,

@@ -28,7 +28,7 @@ const CALLS: [(&str, fn(&DataType) -> bool); 14] = [
     ("comparison::can_gt_eq_scalar", comparison::can_gt_eq_scalar),
 ];
 
-/// Appends whether a call is asked for a data type; `false` where no call has the name.
+// Appends whether a call is asked for a data type; `false` where no call has the name.
 pub(crate) fn answer(alloc: Global, call: &Call<'_>, out: &mut String) -> Result<bool, Fault> {
     let Some(is_asked) = find(&CALLS, call.name) else {
         return Ok(false);
@@ -39,7 +39,7 @@ pub(crate) fn answer(alloc: Global, call: &Call<'_>, out: &mut String) -> Result
     Ok(true)
 }
 
-/// Argument `i`, a data type.
+// Argument `i`, a data type.
 pub(crate) fn boxed_type(alloc: Global, call: &Call<'_>, i: usize) -> Result<Box<DataType>, Fault> {
     Ok(Box::new(alloc, call.data_type(alloc, i)?)?)
 }

@@ -14,8 +14,8 @@ use arrow_text::fault::Fault;
 use arrow_text::write::{show, write_truths, write_validity};
 use std::alloc::Global;
 
-/// Appends the validity of rows that are null where those of either side are. `Usage` unless two that are there have as many
-/// bits.
+// Appends the validity of rows that are null where those of either side are. `Usage` unless two that are there have as many
+// bits.
 pub(crate) fn combine_validities(
     alloc: Global,
     call: &Call<'_>,
@@ -31,7 +31,7 @@ pub(crate) fn combine_validities(
     write_validity(out, combined.as_ref())
 }
 
-/// Whether two validities have as many bits, where both are there.
+// Whether two validities have as many bits, where both are there.
 fn are_one_length(lhs: Option<&Bitmap>, rhs: Option<&Bitmap>) -> bool
     ensures { IsTrue result → AreOneLength (option_copied lhs.entry) (option_copied rhs.entry) }
 {
@@ -41,7 +41,7 @@ fn are_one_length(lhs: Option<&Bitmap>, rhs: Option<&Bitmap>) -> bool
     }
 }
 
-/// Appends `ok` where two arrays have as many rows.
+// Appends `ok` where two arrays have as many rows.
 pub(crate) fn check_same_len(
     alloc: Global,
     call: &Call<'_>,
@@ -52,7 +52,7 @@ pub(crate) fn check_same_len(
     show(out, "ok")
 }
 
-/// Appends comparisons of truth values that two validities finish: of equal rows, or of those that differ.
+// Appends comparisons of truth values that two validities finish: of equal rows, or of those that differ.
 pub(crate) fn finish(alloc: Global, call: &Call<'_>, out: &mut String) -> Result<(), Fault> {
     call.takes(3)?;
     let given = call.array(alloc, 0)?;
@@ -65,7 +65,7 @@ pub(crate) fn finish(alloc: Global, call: &Call<'_>, out: &mut String) -> Result
     write_finished(alloc, of_equal, truths, lhs, rhs, out)
 }
 
-/// Appends what two validities finish. `Usage` unless each has a bit for each truth value.
+// Appends what two validities finish. `Usage` unless each has a bit for each truth value.
 fn write_finished(
     alloc: Global,
     of_equal: bool,

@@ -17,7 +17,7 @@ use arrow_text::read::read_array;
 use arrow_text::write::{show, write_array, write_made, write_made_or_name, write_name};
 use std::alloc::Global;
 
-/// The rows of an array at which a predicate is true.
+// The rows of an array at which a predicate is true.
 pub(crate) fn answer_filter(alloc: Global, call: &Call<'_>, out: &mut String) -> Result<(), Fault> {
     let given = call.pair(alloc)?;
     let predicate = as_boolean(&given.right)?;
@@ -27,7 +27,7 @@ pub(crate) fn answer_filter(alloc: Global, call: &Call<'_>, out: &mut String) ->
     write_made(out, filter(alloc, &given.left, predicate))
 }
 
-/// The rows of each column of a batch at which a predicate is true, and `none` where there is no column.
+// The rows of each column of a batch at which a predicate is true, and `none` where there is no column.
 pub(crate) fn answer_chunk(alloc: Global, call: &Call<'_>, out: &mut String) -> Result<(), Fault> {
     let given = call.array(alloc, 0)?;
     let columns = Chunk::try_new(call.arrays(alloc, 1)?.into_inner())?;
@@ -39,14 +39,14 @@ pub(crate) fn answer_chunk(alloc: Global, call: &Call<'_>, out: &mut String) -> 
     write_arrays(out, kept.arrays())
 }
 
-/// Whether each column has so many rows.
+// Whether each column has so many rows.
 fn have_rows(columns: &Chunk, len: usize) -> bool
     ensures { IsTrue result → HaveRows len columns.now }
 {
     columns.arrays().is_empty() || columns.len() == len
 }
 
-/// Appends the arrays with a space between two, and `none` where there is no array.
+// Appends the arrays with a space between two, and `none` where there is no array.
 fn write_arrays(out: &mut String, arrays: &[AnyArray]) -> Result<(), Fault> {
     if arrays.is_empty() {
         return Ok(out.push_str("none")?);
@@ -60,7 +60,7 @@ fn write_arrays(out: &mut String, arrays: &[AnyArray]) -> Result<(), Fault> {
     Ok(())
 }
 
-/// A prepared filter: how many rows it keeps and of how many, and of each array the rows that it keeps, or why it refuses.
+// A prepared filter: how many rows it keeps and of how many, and of each array the rows that it keeps, or why it refuses.
 pub(crate) fn answer_prepared(
     alloc: Global,
     call: &Call<'_>,
@@ -81,7 +81,7 @@ pub(crate) fn answer_prepared(
     Ok(())
 }
 
-/// The filter of the predicate that a piece of a line says.
+// The filter of the predicate that a piece of a line says.
 pub(crate) fn read_filter(alloc: Global, piece: Piece<'_>) -> Result<Filter, Fault> {
     let predicate = Array {
         array: read_array(alloc, piece)?,
@@ -89,8 +89,8 @@ pub(crate) fn read_filter(alloc: Global, piece: Piece<'_>) -> Result<Filter, Fau
     Ok(build_filter(alloc, as_boolean(&predicate.array)?)?)
 }
 
-/// The values of an array behind which those of another stand whose bit in a word is set; where that is refused, its name, and the
-/// values that are there then.
+// The values of an array behind which those of another stand whose bit in a word is set; where that is refused, its name, and the
+// values that are there then.
 pub(crate) fn answer_word(alloc: Global, call: &Call<'_>, out: &mut String) -> Result<(), Fault> {
     call.takes(3)?;
     let word = call.integer(2)?;
@@ -113,7 +113,7 @@ pub(crate) fn answer_word(alloc: Global, call: &Call<'_>, out: &mut String) -> R
     }
 }
 
-/// The same of arrays of one data type, without nulls, of which the second has a word of values at most.
+// The same of arrays of one data type, without nulls, of which the second has a word of values at most.
 fn extend<T: AnyElement>(
     alloc: Global,
     grown: &PrimitiveArray<T>,

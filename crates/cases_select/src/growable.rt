@@ -21,8 +21,8 @@ use arrow_text::write::show;
 use arrow_types::datatypes::PhysicalType;
 use std::alloc::Global;
 
-/// Makes a growable over the arrays that stand before a colon, takes the steps behind it, and appends what each
-/// answers with a space between two, and `none` of no step.
+// Makes a growable over the arrays that stand before a colon, takes the steps behind it, and appends what each
+// answers with a space between two, and `none` of no step.
 pub(crate) fn answer(alloc: Global, call: &Call<'_>, out: &mut String) -> Result<(), Fault> {
     let (arrays, steps) = parts_of(call)?;
     let arrays = read_arrays(alloc, arrays)?;
@@ -33,7 +33,7 @@ pub(crate) fn answer(alloc: Global, call: &Call<'_>, out: &mut String) -> Result
     show(out, answers.strip_prefix(' ').unwrap_or("none"))
 }
 
-/// The arrays and the steps among the arguments: those from the third one on, and those behind a colon.
+// The arrays and the steps among the arguments: those from the third one on, and those behind a colon.
 fn parts_of<'a, 'b>(call: &'b Call<'a>) -> Result<(&'b [Piece<'a>], &'b [Piece<'a>]), Fault> {
     let arguments = call.arguments.as_slice();
     for (i, argument) in arguments.iter().enumerate() {
@@ -44,7 +44,7 @@ fn parts_of<'a, 'b>(call: &'b Call<'a>) -> Result<(&'b [Piece<'a>], &'b [Piece<'
     Err(Fault::Usage)
 }
 
-/// The growable of this name over arrays of one data type that are lent. A space stands before the answer of each step.
+// The growable of this name over arrays of one data type that are lent. A space stands before the answer of each step.
 fn run(
     alloc: Global,
     name: &str,
@@ -65,7 +65,7 @@ fn run(
     run_typed(alloc, arrays, physical_type, plan, out)
 }
 
-/// The name of the growable over arrays that lie in memory so.
+// The name of the growable over arrays that lie in memory so.
 fn name_for(physical_type: PhysicalType) -> &'static str {
     match physical_type {
         PhysicalType::Null => "GrowableNull",
@@ -83,7 +83,7 @@ fn name_for(physical_type: PhysicalType) -> &'static str {
     }
 }
 
-/// A growable of arrays of any type, which becomes no array.
+// A growable of arrays of any type, which becomes no array.
 fn run_any(alloc: Global, arrays: &[&AnyArray], plan: &Plan, out: &mut String) -> Result<(), Fault>
     requires some { 0 < length arrays.now }
     requires one_type { AreOfOneType (layouts_in arrays.now) }

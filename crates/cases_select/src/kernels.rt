@@ -10,7 +10,7 @@ use arrow_text::fault::Fault;
 use arrow_text::write::write_made;
 use std::alloc::Global;
 
-/// All rows of arrays: of any, or by `join_arrays` of some of one data type.
+// All rows of arrays: of any, or by `join_arrays` of some of one data type.
 pub(crate) fn answer_join(alloc: Global, call: &Call<'_>, out: &mut String) -> Result<(), Fault> {
     let given = call.arrays(alloc, 0)?;
     let arrays = lend_all(alloc, &given)?;
@@ -23,7 +23,7 @@ pub(crate) fn answer_join(alloc: Global, call: &Call<'_>, out: &mut String) -> R
     write_made(out, join_arrays(alloc, &arrays))
 }
 
-/// Rows that are moved along an array.
+// Rows that are moved along an array.
 pub(crate) fn answer_shift(alloc: Global, call: &Call<'_>, out: &mut String) -> Result<(), Fault> {
     call.takes(2)?;
     let offset = call.integer(1)?;
@@ -31,7 +31,7 @@ pub(crate) fn answer_shift(alloc: Global, call: &Call<'_>, out: &mut String) -> 
     write_made(out, shift(alloc, &given.array, offset))
 }
 
-/// Rows of two arrays, as a predicate chooses.
+// Rows of two arrays, as a predicate chooses.
 pub(crate) fn answer_choice(alloc: Global, call: &Call<'_>, out: &mut String) -> Result<(), Fault> {
     let given = call.arrays(alloc, 0)?;
     match given.arrays.as_slice() {

@@ -11,7 +11,7 @@ use arrow_text::given::Arrays;
 use arrow_types::error::Error;
 use std::alloc::Global;
 
-/// The array of truth values that an array is.
+// The array of truth values that an array is.
 pub(crate) fn as_boolean(array: &AnyArray) -> Result<&BooleanArray, Fault> {
     match array {
         AnyArray::Boolean(array) => Ok(array),
@@ -19,7 +19,7 @@ pub(crate) fn as_boolean(array: &AnyArray) -> Result<&BooleanArray, Fault> {
     }
 }
 
-/// The array of numbers or intervals that an array is.
+// The array of numbers or intervals that an array is.
 pub(crate) fn as_primitive(array: &AnyArray) -> Result<&AnyPrimitive, Fault> {
     match array {
         AnyArray::Primitive(array) => Ok(array),
@@ -27,12 +27,12 @@ pub(crate) fn as_primitive(array: &AnyArray) -> Result<&AnyPrimitive, Fault> {
     }
 }
 
-/// An array of numbers or intervals as one of any type.
+// An array of numbers or intervals as one of any type.
 pub(crate) fn as_any<T: AnyElement>(array: &PrimitiveArray<T>) -> Result<AnyArray, Error> {
     Ok(AnyArray::Primitive(T::to_any(array)?))
 }
 
-/// The arrays, lent.
+// The arrays, lent.
 pub(crate) fn lend_all<'a>(alloc: Global, given: &'a Arrays) -> Result<Vec<&'a AnyArray>, Fault> {
     let mut lent = Vec::with_capacity(alloc, given.arrays.len())?;
     for array in &given.arrays {
@@ -41,7 +41,7 @@ pub(crate) fn lend_all<'a>(alloc: Global, given: &'a Arrays) -> Result<Vec<&'a A
     Ok(lent)
 }
 
-/// Whether there is an array, and all are of one data type.
+// Whether there is an array, and all are of one data type.
 pub(crate) fn are_of_one_type(arrays: &[&AnyArray]) -> bool
     ensures some { IsTrue result → 0 < length arrays.now }
     ensures one_type { IsTrue result → AreOfOneType (layouts_in arrays.now) }

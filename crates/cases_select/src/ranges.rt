@@ -7,7 +7,7 @@ use arrow_text::call::Call;
 use arrow_text::fault::Fault;
 use std::alloc::Global;
 
-/// The ranges of the rows that a prepared filter keeps, with a space between two, and `none` of no row.
+// The ranges of the rows that a prepared filter keeps, with a space between two, and `none` of no row.
 pub(crate) fn answer_kept(alloc: Global, call: &Call<'_>, out: &mut String) -> Result<(), Fault> {
     call.takes(1)?;
     let prepared = read_filter(alloc, call.argument(0)?)?;
@@ -24,7 +24,7 @@ pub(crate) fn answer_kept(alloc: Global, call: &Call<'_>, out: &mut String) -> R
     Ok(())
 }
 
-/// The ranges of the rows of each side, the side before each.
+// The ranges of the rows of each side, the side before each.
 pub(crate) fn answer_sides(alloc: Global, call: &Call<'_>, out: &mut String) -> Result<(), Fault> {
     let given = call.only_array(alloc)?;
     let ranges = if_then_else_ranges(alloc, as_boolean(&given.array)?)?;

@@ -20,7 +20,7 @@ use arrow_types::error::Error;
 use arrow_types::types::Index;
 use std::alloc::Global;
 
-/// Whether a type is listed as one of which rows are taken.
+// Whether a type is listed as one of which rows are taken.
 pub(crate) fn answer_can_take(
     alloc: Global,
     call: &Call<'_>,
@@ -31,8 +31,8 @@ pub(crate) fn answer_can_take(
     show(out, can_take(&data_type))
 }
 
-/// The rows of an array that indices name, integers of any of eight types: by the call for arrays of any kind or by that
-/// for those of one.
+// The rows of an array that indices name, integers of any of eight types: by the call for arrays of any kind or by that
+// for those of one.
 pub(crate) fn answer(alloc: Global, call: &Call<'_>, out: &mut String) -> Result<(), Fault> {
     let given = call.pair(alloc)?;
     let (name, array) = (call.name, &*given.left);
@@ -49,7 +49,7 @@ pub(crate) fn answer(alloc: Global, call: &Call<'_>, out: &mut String) -> Result
     }
 }
 
-/// The same of indices of one type, each of which is null or that of a row.
+// The same of indices of one type, each of which is null or that of a row.
 fn take_rows<I: Index>(
     alloc: Global,
     name: &str,
@@ -69,7 +69,7 @@ fn take_rows<I: Index>(
     write_made(out, take_typed(alloc, array, indices))
 }
 
-/// The name of the call for arrays of this one's kind. Nulls have none of their own.
+// The name of the call for arrays of this one's kind. Nulls have none of their own.
 fn name_for(array: &AnyArray) -> &'static str {
     match array {
         AnyArray::Primitive(_) => "take::primitive::take",
@@ -87,7 +87,7 @@ fn name_for(array: &AnyArray) -> &'static str {
     }
 }
 
-/// The rows by the call for arrays of this one's kind.
+// The rows by the call for arrays of this one's kind.
 fn take_typed<I: Index>(
     alloc: Global,
     array: &AnyArray,
@@ -119,7 +119,7 @@ fn take_typed<I: Index>(
     }
 }
 
-/// The same of numbers or intervals of any element type.
+// The same of numbers or intervals of any element type.
 fn take_primitive<I: Index>(
     alloc: Global,
     array: &AnyPrimitive,
@@ -143,7 +143,7 @@ fn take_primitive<I: Index>(
     }
 }
 
-/// The same of one element type.
+// The same of one element type.
 fn take_elements<T: AnyElement, I: Index>(
     alloc: Global,
     array: &PrimitiveArray<T>,

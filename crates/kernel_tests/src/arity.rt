@@ -28,7 +28,7 @@ const ANSWERS: [(&str, Answer); 10] = [
     ("binary_of_days", adds_days),
 ];
 
-/// One more than a number that is neither 0 nor 9, for each of which there is an error.
+// One more than a number that is neither 0 nor 9, for each of which there is an error.
 fn accepted(x: i32) -> Result<i32, Error> {
     match x {
         0 => Err(Error::InvalidArgumentError(ArgumentFault::Caller(7))),
@@ -37,8 +37,8 @@ fn accepted(x: i32) -> Result<i32, Error> {
     }
 }
 
-/// Whether a kernel makes these numbers of one array, or of two: one more than each number, as dates, the same with errors, ten
-/// by each but 0; twice each number and the other one, one more than the other one with errors, and each by the other one.
+// Whether a kernel makes these numbers of one array, or of two: one more than each number, as dates, the same with errors, ten
+// by each but 0; twice each number and the other one, one more than the other one with errors, and each by the other one.
 fn gives_numbers(alloc: Global, name: &str, arrays: &[AnyArray]) -> Result<bool, Fault> {
     let [left, right, ..] = arrays else {
         return Err(Fault::Usage);
@@ -67,13 +67,13 @@ fn gives_numbers(alloc: Global, name: &str, arrays: &[AnyArray]) -> Result<bool,
     Ok(are_same_numbers(&made, wanted))
 }
 
-/// Twice the first, and the second.
+// Twice the first, and the second.
 fn twice_and(x: i32, y: i32) -> i32 {
     x.wrapping_mul(2).wrapping_add(y)
 }
 
-/// Whether a kernel makes these numbers, and these bits: the numbers themselves and which are 0, or twice each number and the
-/// other one, and which are less than the other one.
+// Whether a kernel makes these numbers, and these bits: the numbers themselves and which are 0, or twice each number and the
+// other one, and which are less than the other one.
 fn gives_numbers_and_bits(alloc: Global, name: &str, arrays: &[AnyArray]) -> Result<bool, Fault> {
     let [left, right, wanted, bits] = arrays else {
         return Err(Fault::Usage);
@@ -94,7 +94,7 @@ fn gives_numbers_and_bits(alloc: Global, name: &str, arrays: &[AnyArray]) -> Res
     Ok(are_same_numbers(&made, wanted) && made_bits == *wanted_bits)
 }
 
-/// Whether these are numbers of 256 bits whose bits are all turned.
+// Whether these are numbers of 256 bits whose bits are all turned.
 fn turns(alloc: Global, _name: &str, arrays: &[AnyArray]) -> Result<bool, Fault> {
     match arrays {
         [
@@ -109,7 +109,7 @@ fn turns(alloc: Global, _name: &str, arrays: &[AnyArray]) -> Result<bool, Fault>
     }
 }
 
-/// Whether these are numbers of 64 bits with the days of intervals added.
+// Whether these are numbers of 64 bits with the days of intervals added.
 fn adds_days(alloc: Global, _name: &str, arrays: &[AnyArray]) -> Result<bool, Fault> {
     match arrays {
         [

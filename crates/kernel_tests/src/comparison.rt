@@ -16,7 +16,7 @@ const ANSWERS: [(&str, Answer); 4] = [
     ("all_but_one", of_words),
 ];
 
-/// Which of eight numbers are less than the other one at its place, a bit each.
+// Which of eight numbers are less than the other one at its place, a bit each.
 fn less(left: [i32; 8], right: [i32; 8]) -> u8 {
     let mut byte = 0;
     for k in 0..8 {
@@ -25,8 +25,8 @@ fn less(left: [i32; 8], right: [i32; 8]) -> u8 {
     byte
 }
 
-/// Whether these are the rows that a closure answers of numbers, eight at a time and beside copies of 5, in a call for each
-/// eight: which are less, or all of them where the eighth number is 0.
+// Whether these are the rows that a closure answers of numbers, eight at a time and beside copies of 5, in a call for each
+// eight: which are less, or all of them where the eighth number is 0.
 fn of_chunks(alloc: Global, name: &str, arrays: &[AnyArray]) -> Result<bool, Fault> {
     let [array, wanted] = arrays else {
         return Err(Fault::Usage);
@@ -47,8 +47,8 @@ fn of_chunks(alloc: Global, name: &str, arrays: &[AnyArray]) -> Result<bool, Fau
     Ok(made == *truths(wanted)? && calls.get() == lhs.len().div_ceil(8))
 }
 
-/// Whether these are the rows that a closure answers of truth values, a word at a time, in a call for each: which come
-/// before true, or the rows themselves, but none where the first alone is true.
+// Whether these are the rows that a closure answers of truth values, a word at a time, in a call for each: which come
+// before true, or the rows themselves, but none where the first alone is true.
 fn of_words(alloc: Global, name: &str, arrays: &[AnyArray]) -> Result<bool, Fault> {
     let [array, wanted] = arrays else {
         return Err(Fault::Usage);

@@ -42,7 +42,7 @@ const HIGH: [i128; 9] = [-1, -1, -1, 0, 0, 0, 1, 1, 1];
 
 const LOW: [u128; 9] = [0, 1, u128::MAX, 0, 1, u128::MAX, 0, 1, u128::MAX];
 
-/// Whether two numbers are in this order, each way that it is asked for.
+// Whether two numbers are in this order, each way that it is asked for.
 fn are_in_order(a: i256, b: i256, order: Ordering) -> bool {
     let orders = [a.cmp(&b), order_agrees(a, b), order_turns(b, a)];
     let are_equal = [a == b, equal_is_same(a, b)];
@@ -80,7 +80,7 @@ const MONTHS_DAYS: [i32; 5] = [0, -2, -2, 2, -2];
 
 const NANOSECONDS: [i64; 5] = [0, i64::MIN, 0, i64::MIN, i64::MIN];
 
-/// The interval of months at a place.
+// The interval of months at a place.
 fn interval(i: usize) -> months_days_ns
     requires { i < 5 }
 {
@@ -110,7 +110,7 @@ fn intervals(rt: HostRuntime) {
     }
 }
 
-/// Whether an index type has this greatest number, and none above it, and names rows of none, of one and of all.
+// Whether an index type has this greatest number, and none above it, and names rows of none, of one and of all.
 fn has_greatest<I: Index + DictionaryKey>(greatest: usize) -> bool {
     let Some(last) = I::from_usize(greatest) else {
         return false;

@@ -13,14 +13,14 @@ use arrow_types::datatypes::DataType;
 use arrow_types::{ArgumentFault, Error};
 use std::alloc::Global;
 
-/// Numbers, as an array of any type.
+// Numbers, as an array of any type.
 fn numbers(alloc: Global, values: Vec<i32>) -> Result<AnyArray, Error> {
     let values = Buffer::from_vec(alloc, values)?;
     let array = PrimitiveArray::try_new(DataType::Int32, values, None)?;
     Ok(AnyArray::Primitive(AnyPrimitive::Int32(array)))
 }
 
-/// The rows at which the mask is true.
+// The rows at which the mask is true.
 fn kept(alloc: Global, array: &AnyArray, mask: &[bool]) -> Result<AnyArray, Error> {
     let mask = Bitmap::from_bools(alloc, mask)?;
     let mask = BooleanArray::try_new(DataType::Boolean, mask, None)?;
@@ -30,14 +30,14 @@ fn kept(alloc: Global, array: &AnyArray, mask: &[bool]) -> Result<AnyArray, Erro
     filter(alloc, array, &mask)
 }
 
-/// The numbers at which a mask is true.
+// The numbers at which a mask is true.
 fn kept_numbers(alloc: Global, values: &[i32], mask: &[bool]) -> Result<Array, Fault> {
     let values = Vec::from_slice(alloc, values)?;
     let all = Array::new(alloc, numbers(alloc, values)?)?;
     Array::new(alloc, kept(alloc, &all.array, mask)?)
 }
 
-/// Whether those of two arrays, one behind the other, are 5 and 8.
+// Whether those of two arrays, one behind the other, are 5 and 8.
 fn joined(alloc: Global, _name: &str, _arrays: &[AnyArray]) -> Result<bool, Fault> {
     let low = kept_numbers(alloc, &[5, 6, 7], &[true, false, false])?;
     let high = kept_numbers(alloc, &[8, 9], &[true, false])?;

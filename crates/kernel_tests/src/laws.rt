@@ -47,7 +47,7 @@ const ANSWERS: [(&str, Answer); 13] = [
     ("different", equality),
 ];
 
-/// The laws of both logics, of three arrays that are one.
+// The laws of both logics, of three arrays that are one.
 fn logic(_alloc: Global, _name: &str, arrays: &[AnyArray]) -> Result<bool, Fault> {
     let [array] = arrays else {
         return Err(Fault::Usage);
@@ -70,7 +70,7 @@ fn logic(_alloc: Global, _name: &str, arrays: &[AnyArray]) -> Result<bool, Fault
     Ok(true)
 }
 
-/// Those of nulls, of parts and of the types that calls named `can_` list.
+// Those of nulls, of parts and of the types that calls named `can_` list.
 fn types(_alloc: Global, _name: &str, arrays: &[AnyArray]) -> Result<bool, Fault> {
     let [array] = arrays else {
         return Err(Fault::Usage);
@@ -94,7 +94,7 @@ fn types(_alloc: Global, _name: &str, arrays: &[AnyArray]) -> Result<bool, Fault
     Ok(true)
 }
 
-/// Those of comparisons, of two arrays whose rows are the same where those of the third one are true.
+// Those of comparisons, of two arrays whose rows are the same where those of the third one are true.
 fn comparisons(alloc: Global, _name: &str, arrays: &[AnyArray]) -> Result<bool, Fault> {
     let [lhs, rhs, wanted] = arrays else {
         return Err(Fault::Usage);
@@ -118,7 +118,7 @@ fn comparisons(alloc: Global, _name: &str, arrays: &[AnyArray]) -> Result<bool, 
     Ok(eq_and_validity(alloc, lhs, rhs)? == *are_same)
 }
 
-/// That of a scalar, beside numbers.
+// That of a scalar, beside numbers.
 fn scalar(alloc: Global, _name: &str, arrays: &[AnyArray]) -> Result<bool, Fault> {
     let [lhs] = arrays else {
         return Err(Fault::Usage);
@@ -135,7 +135,7 @@ fn scalar(alloc: Global, _name: &str, arrays: &[AnyArray]) -> Result<bool, Fault
     Ok(true)
 }
 
-/// Those of rows that are selected, taken and joined.
+// Those of rows that are selected, taken and joined.
 fn selection(_alloc: Global, _name: &str, arrays: &[AnyArray]) -> Result<bool, Fault> {
     let [array, predicate, indices] = arrays else {
         return Err(Fault::Usage);
@@ -152,14 +152,14 @@ fn selection(_alloc: Global, _name: &str, arrays: &[AnyArray]) -> Result<bool, F
     Ok(true)
 }
 
-/// Whether two arrays are equal.
+// Whether two arrays are equal.
 fn are_equal(array: &AnyArray, other: &AnyArray) -> bool
     ensures { IsTrue result → any_array_meaning other.now ≡ any_array_meaning array.now }
 {
     *array == *other
 }
 
-/// Whether a type is a struct or a union.
+// Whether a type is a struct or a union.
 fn is_struct_or_union(data_type: &DataType) -> bool
     ensures { IsTrue result → IsStructOrUnion (type_of data_type.now) }
 {
@@ -169,7 +169,7 @@ fn is_struct_or_union(data_type: &DataType) -> bool
     }
 }
 
-/// Whether an array is of numbers of 32 bits, a type that holds no dictionary.
+// Whether an array is of numbers of 32 bits, a type that holds no dictionary.
 fn is_of_numbers(array: &AnyArray) -> bool
     ensures { IsTrue result → HasNoDictionary (any_array_type array.now) }
 {
@@ -179,7 +179,7 @@ fn is_of_numbers(array: &AnyArray) -> bool
     }
 }
 
-/// Arrays of the same rows are concatenated to the same rows, and where they hold no dictionary refused alike.
+// Arrays of the same rows are concatenated to the same rows, and where they hold no dictionary refused alike.
 fn concatenated(alloc: Global, _name: &str, arrays: &[AnyArray]) -> Result<bool, Fault> {
     match arrays {
         [array, other] if are_equal(array, other) => {
@@ -196,7 +196,7 @@ fn concatenated(alloc: Global, _name: &str, arrays: &[AnyArray]) -> Result<bool,
     }
 }
 
-/// They are shifted to the same rows, and refused alike; and what is given of each row, or of each two, is the same.
+// They are shifted to the same rows, and refused alike; and what is given of each row, or of each two, is the same.
 fn shifted(alloc: Global, _name: &str, arrays: &[AnyArray]) -> Result<bool, Fault> {
     match arrays {
         [array, other] if are_equal(array, other) => {
@@ -212,7 +212,7 @@ fn shifted(alloc: Global, _name: &str, arrays: &[AnyArray]) -> Result<bool, Faul
     }
 }
 
-/// The rows that a prepared filter keeps, asked for once more where memory is refused: the filter is then as it was.
+// The rows that a prepared filter keeps, asked for once more where memory is refused: the filter is then as it was.
 fn applied(prepared: &Filter, array: &AnyArray) -> Result<AnyArray, Error>
     requires { length prepared.now ≡ length (any_array_rows array.now) }
     ensures { IfOk result (λ kept. any_array_meaning kept ≡ selected_of prepared.now array.now) }
@@ -223,8 +223,8 @@ fn applied(prepared: &Filter, array: &AnyArray) -> Result<AnyArray, Error>
     }
 }
 
-/// They are filtered to the same rows, by a predicate and by a filter that was prepared of it, and refused alike; what is kept
-/// can be filtered again.
+// They are filtered to the same rows, by a predicate and by a filter that was prepared of it, and refused alike; what is kept
+// can be filtered again.
 fn filtered(alloc: Global, _name: &str, arrays: &[AnyArray]) -> Result<bool, Fault> {
     let [array, other, predicate] = arrays else {
         return Err(Fault::Usage);
@@ -251,7 +251,7 @@ fn filtered(alloc: Global, _name: &str, arrays: &[AnyArray]) -> Result<bool, Fau
     Ok(*other == *array && *other_kept.array == *kept.array)
 }
 
-/// They are taken to the same rows, those that are wanted, and refused alike.
+// They are taken to the same rows, those that are wanted, and refused alike.
 fn taken(alloc: Global, _name: &str, arrays: &[AnyArray]) -> Result<bool, Fault> {
     let [array, other, indices, wanted] = arrays else {
         return Err(Fault::Usage);
@@ -274,7 +274,7 @@ fn taken(alloc: Global, _name: &str, arrays: &[AnyArray]) -> Result<bool, Fault>
     Ok(*taken.array == *wanted)
 }
 
-/// The same rows are chosen of them, and they are refused alike where they hold no dictionary.
+// The same rows are chosen of them, and they are refused alike where they hold no dictionary.
 fn chosen(alloc: Global, _name: &str, arrays: &[AnyArray]) -> Result<bool, Fault> {
     let [array, other, predicate] = arrays else {
         return Err(Fault::Usage);
@@ -301,7 +301,7 @@ fn chosen(alloc: Global, _name: &str, arrays: &[AnyArray]) -> Result<bool, Fault
     Ok(*other_all.array == *all.array)
 }
 
-/// A batch is filtered to the same columns as itself.
+// A batch is filtered to the same columns as itself.
 fn of_columns(alloc: Global, _name: &str, arrays: &[AnyArray]) -> Result<bool, Fault> {
     let [array, predicate] = arrays else {
         return Err(Fault::Usage);
@@ -317,8 +317,8 @@ fn of_columns(alloc: Global, _name: &str, arrays: &[AnyArray]) -> Result<bool, F
     Ok(true)
 }
 
-/// Whether two arrays are equal, as the name says, by the laws of equality: each is equal to itself, the left one to the right
-/// one as the right one to the left one, and through a third one.
+// Whether two arrays are equal, as the name says, by the laws of equality: each is equal to itself, the left one to the right
+// one as the right one to the left one, and through a third one.
 fn equality(_alloc: Global, name: &str, arrays: &[AnyArray]) -> Result<bool, Fault> {
     match arrays {
         [array, other] if equals_itself(array) && equals_itself(other) => {

@@ -22,11 +22,8 @@ pub const PLAIN: [Form; 1] = [[",", "]"]];
 /// What answers the lines of a name: whether what a call says of the arrays is wanted.
 pub type Answer = fn(Global, &str, &[AnyArray]) -> Result<bool, Fault>;
 
-/// The answer to a line; `Usage` where none has its name. Where memory is refused the arrays are to be those of the line as before, and
-/// to be answered.
-///
-/// # Requires
-/// Each function of the table may be called on all arguments.
+// The answer to a line; `Usage` where none has its name. Where memory is refused the arrays are to be those of the line as before, and
+// to be answered.
 fn answer(alloc: Global, answers: &[(&str, Answer)], line: &str) -> Result<bool, Fault>
     requires { (answer : _) (alloc : _) (name : _) (arrays : _) → pre answer alloc name arrays }
 {
@@ -43,10 +40,7 @@ fn answer(alloc: Global, answers: &[(&str, Answer)], line: &str) -> Result<bool,
     }
 }
 
-/// Whether a line in a form is answered or refused as it is wanted.
-///
-/// # Errors
-/// Where memory was refused.
+// Whether a line in a form is answered or refused as it is wanted.
 fn is_answered(
     alloc: Global,
     answers: &[(&str, Answer)],

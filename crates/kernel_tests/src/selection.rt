@@ -42,7 +42,7 @@ impl<'a> Growable<'a> for Counting<'a> {
     }
 }
 
-/// Whether a filter that is built of a predicate appends these rows of some numbers, in so many calls.
+// Whether a filter that is built of a predicate appends these rows of some numbers, in so many calls.
 fn extends(alloc: Global, _name: &str, arrays: &[AnyArray]) -> Result<bool, Fault> {
     let [array, predicate, wanted, calls] = arrays else {
         return Err(Fault::Usage);
@@ -62,7 +62,7 @@ fn extends(alloc: Global, _name: &str, arrays: &[AnyArray]) -> Result<bool, Faul
     Ok(are_so_many & (*made.array == *wanted))
 }
 
-/// Whether the last array has all rows of the one or two before it.
+// Whether the last array has all rows of the one or two before it.
 fn joins(alloc: Global, _name: &str, arrays: &[AnyArray]) -> Result<bool, Fault> {
     match arrays {
         [array, wanted] => is_made(alloc, concatenate(alloc, &[array]), wanted),
@@ -71,7 +71,7 @@ fn joins(alloc: Global, _name: &str, arrays: &[AnyArray]) -> Result<bool, Fault>
     }
 }
 
-/// Whether a call made an array that is equal to another one.
+// Whether a call made an array that is equal to another one.
 fn is_made(
     alloc: Global,
     outcome: Result<AnyArray, Error>,

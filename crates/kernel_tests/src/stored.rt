@@ -23,7 +23,7 @@ const ANSWERS: [(&str, Answer); 4] = [
     ("growable", grows),
 ];
 
-/// Whether a call made an array that is equal to another one, beneath nulls too: of numbers, or of texts.
+// Whether a call made an array that is equal to another one, beneath nulls too: of numbers, or of texts.
 fn is_same(
     alloc: Global,
     outcome: Result<AnyArray, Error>,
@@ -41,8 +41,8 @@ fn is_same(
     Ok(are_same_numbers(numbers(&made.array)?, numbers(wanted)?))
 }
 
-/// Whether a kernel makes this array: how long texts are, the second character of each, or the rows of the first array, null
-/// where they equal those of the second.
+// Whether a kernel makes this array: how long texts are, the second character of each, or the rows of the first array, null
+// where they equal those of the second.
 fn stores(alloc: Global, name: &str, arrays: &[AnyArray]) -> Result<bool, Fault> {
     match arrays {
         [array, wanted] if name == "length" => is_same(alloc, length(alloc, array), wanted),
@@ -55,15 +55,15 @@ fn stores(alloc: Global, name: &str, arrays: &[AnyArray]) -> Result<bool, Fault>
     }
 }
 
-/// Whether two arrays are of one type.
+// Whether two arrays are of one type.
 fn are_alike(lhs: &AnyArray, rhs: &AnyArray) -> bool
     ensures { IsTrue result → any_array_type lhs.now ≡ any_array_type rhs.now }
 {
     *lhs.data_type() == *rhs.data_type()
 }
 
-/// Whether one growable makes the first two rows of the first array, and then of its second row, a null, and the first two rows
-/// of the second array behind them the last one.
+// Whether one growable makes the first two rows of the first array, and then of its second row, a null, and the first two rows
+// of the second array behind them the last one.
 fn grows(alloc: Global, _name: &str, arrays: &[AnyArray]) -> Result<bool, Fault> {
     match arrays {
         [lhs, rhs, first, last] if are_alike(lhs, rhs) && lhs.len() >= 2 && rhs.len() >= 2 => {

@@ -220,7 +220,7 @@ impl AnyArray {
     }
 }
 
-/// Arrays of one data type are of one kind.
+// Arrays of one data type are of one kind.
 fn have_one_kind(left: &AnyArray, right: &AnyArray)
     ensures { any_array_type left.now ≡ any_array_type right.now → kind_of left.now ≡ kind_of right.now }
 {
@@ -229,7 +229,7 @@ fn have_one_kind(left: &AnyArray, right: &AnyArray)
     let _ = right.data_type();
 }
 
-/// Whether two rows name the same rows of their children, or are both null.
+// Whether two rows name the same rows of their children, or are both null.
 #[cycle(equal)]
 pub(crate) fn equal_spans(
     span: Option<(usize, usize)>,
@@ -277,7 +277,7 @@ impl Clone for AnyArray {
     }
 }
 
-/// A box of its own for a clone of the child.
+// A box of its own for a clone of the child.
 #[cycle(clone)]
 pub(crate) fn clone_boxed(array: &Box<AnyArray>) -> Result<Box<AnyArray>, AllocError>
     ensures { IfOk result (λ copy. copy.value ≡ array.now.value) }
@@ -285,7 +285,7 @@ pub(crate) fn clone_boxed(array: &Box<AnyArray>) -> Result<Box<AnyArray>, AllocE
     Ok(Box::new(*Box::allocator(array), (**array).clone()?)?)
 }
 
-/// The clones of the children, in their order.
+// The clones of the children, in their order.
 #[cycle(clone)]
 pub(crate) fn clone_all(arrays: &Vec<AnyArray>) -> Result<Vec<AnyArray>, AllocError>
     ensures { IfOk result (λ copy. copy.items ≡ arrays.now.items) }

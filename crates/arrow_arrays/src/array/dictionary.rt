@@ -265,7 +265,7 @@ impl DictionaryArray {
     }
 }
 
-/// Tests the parts of a dictionary in order.
+// Tests the parts of a dictionary in order.
 fn check_dictionary(data_type: &DataType, keys: &AnyKeys, values: &AnyArray) -> Result<(), Error>
     ensures ok { OnOk result (HoldsKeyed (type_of data_type.now) (key_rows keys.now) (key_type_of keys.now) (layout_of values.now)) }
     ensures fault { IfErr result (IsKeyedFault (type_of data_type.now) (key_rows keys.now) (key_type_of keys.now) (layout_of values.now)) }

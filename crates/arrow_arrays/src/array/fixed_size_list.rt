@@ -266,7 +266,7 @@ impl FixedSizeListArray {
     }
 }
 
-/// Tests the parts of a fixed-size list in order.
+// Tests the parts of a fixed-size list in order.
 fn check_fixed(
     data_type: &DataType,
     values: &AnyArray,
@@ -287,8 +287,8 @@ fn check_fixed(
     Ok(())
 }
 
-/// Whether so many items are rows of a size without rest, and a validity, where there is one, has a bit
-/// for each row.
+// Whether so many items are rows of a size without rest, and a validity, where there is one, has a bit
+// for each row.
 fn fits_items(len: usize, size: usize, validity: &Option<Bitmap>) -> bool
     requires { 0 < size }
     ensures { IsTrue result ↔ FitsItems size len validity.now }

@@ -362,8 +362,8 @@ impl ListArray {
     }
 }
 
-/// Tests the parts of a list or a map in order: the data type, that of the items, the validity, and
-/// where the last row ends.
+// Tests the parts of a list or a map in order: the data type, that of the items, the validity, and
+// where the last row ends.
 pub(crate) fn check_list(
     data_type: &DataType,
     physical_type: PhysicalType,

@@ -65,7 +65,7 @@ pub fn new_null_array(alloc: Global, data_type: DataType, length: usize) -> Resu
     null_rows(alloc, data_type, length)
 }
 
-/// The array that [`new_null_array`] makes.
+// The array that [`new_null_array`] makes.
 #[cycle(new)]
 fn null_rows(alloc: Global, data_type: DataType, length: usize) -> Result<AnyArray, Error>
     requires { IsCarried (type_of data_type) }
@@ -91,7 +91,7 @@ fn null_rows(alloc: Global, data_type: DataType, length: usize) -> Result<AnyArr
     }
 }
 
-/// A boxed array of the data type without rows.
+// A boxed array of the data type without rows.
 #[cycle(new)]
 fn empty_child(alloc: Global, data_type: &DataType) -> Result<Box<AnyArray>, Error>
     requires { IsCarried (type_of data_type.now) }
@@ -102,7 +102,7 @@ fn empty_child(alloc: Global, data_type: &DataType) -> Result<Box<AnyArray>, Err
     Ok(Box::new(alloc, child)?)
 }
 
-/// Null lists under offsets of either width, of no item each.
+// Null lists under offsets of either width, of no item each.
 #[cycle(new)]
 fn null_lists(
     alloc: Global,
@@ -119,7 +119,7 @@ fn null_lists(
     nested::null_lists(alloc, data_type, offsets, items, length)
 }
 
-/// Null maps, of no entry each.
+// Null maps, of no entry each.
 #[cycle(new)]
 fn null_maps(alloc: Global, data_type: DataType, length: usize) -> Result<AnyArray, Error>
     requires { IsCarriedAs physical.Map (type_of data_type) }
@@ -130,7 +130,7 @@ fn null_maps(alloc: Global, data_type: DataType, length: usize) -> Result<AnyArr
     nested::null_maps(alloc, data_type, entries, length)
 }
 
-/// Null lists of a fixed size, whose items are null slots.
+// Null lists of a fixed size, whose items are null slots.
 #[cycle(new)]
 fn null_fixed_lists(alloc: Global, data_type: DataType, length: usize) -> Result<AnyArray, Error>
     requires { IsCarriedAs physical.FixedSizeList (type_of data_type) }
@@ -146,7 +146,7 @@ fn null_fixed_lists(alloc: Global, data_type: DataType, length: usize) -> Result
     nested::null_fixed_lists(alloc, data_type, items, length)
 }
 
-/// Null structs, each part of which is a null slot.
+// Null structs, each part of which is a null slot.
 #[cycle(new)]
 fn null_structs(alloc: Global, data_type: DataType, length: usize) -> Result<AnyArray, Error>
     requires { IsCarriedAs physical.Struct (type_of data_type) }
@@ -158,8 +158,8 @@ fn null_structs(alloc: Global, data_type: DataType, length: usize) -> Result<Any
     nested::null_structs(alloc, data_type, columns, length)
 }
 
-/// Rows of a union that are null slots of its first field: in a sparse one the other fields hold null
-/// slots too, and in a dense one all rows share one row of the first field.
+// Rows of a union that are null slots of its first field: in a sparse one the other fields hold null
+// slots too, and in a dense one all rows share one row of the first field.
 #[cycle(new)]
 fn null_unions(alloc: Global, data_type: DataType, length: usize) -> Result<AnyArray, Error>
     requires { IsCarriedAs physical.Union (type_of data_type) }
@@ -179,7 +179,7 @@ fn null_unions(alloc: Global, data_type: DataType, length: usize) -> Result<AnyA
     }
 }
 
-/// Null rows of a dictionary, which has no value.
+// Null rows of a dictionary, which has no value.
 #[cycle(new)]
 fn null_dictionaries(
     alloc: Global,
@@ -195,8 +195,8 @@ fn null_dictionaries(
     nested::null_dictionaries(alloc, data_type, keys, values, length)
 }
 
-/// An array of null slots for each field of a struct or a union: so many for the first field, and so
-/// many for each of the others.
+// An array of null slots for each field of a struct or a union: so many for the first field, and so
+// many for each of the others.
 #[cycle(new)]
 fn null_columns(
     alloc: Global,
@@ -218,7 +218,7 @@ fn null_columns(
     Ok(columns)
 }
 
-/// Appends an array of so many null slots for each field.
+// Appends an array of so many null slots for each field.
 #[cycle(new)]
 fn push_columns(
     alloc: Global,

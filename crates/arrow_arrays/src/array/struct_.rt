@@ -256,7 +256,7 @@ impl StructArray {
     }
 }
 
-/// Tests the parts of a struct in order.
+// Tests the parts of a struct in order.
 fn check_struct(
     data_type: &DataType,
     values: &[AnyArray],
@@ -277,7 +277,7 @@ fn check_struct(
     Ok(())
 }
 
-/// Whether all arrays are of one length, and a validity, where there is one, has a bit for each row.
+// Whether all arrays are of one length, and a validity, where there is one, has a bit for each row.
 fn fits_columns(values: &[AnyArray], validity: &Option<Bitmap>) -> bool
     requires { 0 < length values.now }
     ensures { IsTrue result ↔ FitsColumns (map layout_of values.now) validity.now }
@@ -286,7 +286,7 @@ fn fits_columns(values: &[AnyArray], validity: &Option<Bitmap>) -> bool
     have_rows(values, len) && validity::fits_rows(validity, len)
 }
 
-/// Whether all arrays have this many rows.
+// Whether all arrays have this many rows.
 pub(crate) fn have_rows(values: &[AnyArray], len: usize) -> bool
     ensures { IsTrue result ↔ HaveRows len (map layout_of values.now) }
 {
@@ -298,7 +298,7 @@ pub(crate) fn have_rows(values: &[AnyArray], len: usize) -> bool
     true
 }
 
-/// Keeps `len` rows of each array, from row `offset` on.
+// Keeps `len` rows of each array, from row `offset` on.
 #[cycle(slice)]
 fn slice_all(values: &mut [AnyArray], offset: usize, len: usize)
     requires { All (λ l. offset + len ≤ length (rows l)) (map layout_of values.old) }
@@ -309,7 +309,7 @@ fn slice_all(values: &mut [AnyArray], offset: usize, len: usize)
     }
 }
 
-/// Whether row `i` of each array is the same as row `j` of the other.
+// Whether row `i` of each array is the same as row `j` of the other.
 #[cycle(equal)]
 fn equal_parts(values: &[AnyArray], i: usize, others: &[AnyArray], j: usize) -> bool
     requires one_type { map any_array_type values.now ≡ map any_array_type others.now }

@@ -72,7 +72,7 @@ pub fn mode(data_type: &DataType) -> UnionMode
     }
 }
 
-/// The position of the field of a union that has a type id, if one has.
+// The position of the field of a union that has a type id, if one has.
 pub(crate) fn field_of_id(data_type: &DataType, id: i8) -> Option<usize>
     requires { IsCarriedAs physical.Union (type_of data_type.now) }
     ensures { FindsField (field_ids (type_of data_type.now)) (length (field_types (type_of data_type.now))) id result }
@@ -87,7 +87,7 @@ pub(crate) fn field_of_id(data_type: &DataType, id: i8) -> Option<usize>
     }
 }
 
-/// The position that a number is, if it is one of so many.
+// The position that a number is, if it is one of so many.
 fn position_below(id: i8, count: usize) -> Option<usize>
     ensures { FindsField None count id result }
 {
@@ -98,7 +98,7 @@ fn position_below(id: i8, count: usize) -> Option<usize>
     }
 }
 
-/// The position of an id among those that are given.
+// The position of an id among those that are given.
 fn position_among(id: i8, ids: &[i32]) -> Option<usize>
     ensures { FindsField (Some ids.now) (length ids.now) id result }
 {
@@ -110,7 +110,7 @@ fn position_among(id: i8, ids: &[i32]) -> Option<usize>
     None
 }
 
-/// Whether arrays have the types of fields, one each.
+// Whether arrays have the types of fields, one each.
 pub(crate) fn have_types(values: &[AnyArray], fields: &[Field]) -> bool
     ensures { IsTrue result ↔ (map any_array_type values.now ≡ map (λ field. type_in (field_of field)) fields.now) }
 {

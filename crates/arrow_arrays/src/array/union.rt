@@ -311,7 +311,7 @@ impl UnionArray {
     }
 }
 
-/// Tests the parts of a union in order.
+// Tests the parts of a union in order.
 fn check_union(
     data_type: &DataType,
     types: &Buffer<i8>,
@@ -339,8 +339,8 @@ fn check_union(
     Ok(())
 }
 
-/// Whether there are offsets where the union is dense, as many as the types, and the children of a
-/// sparse union are as long as the types.
+// Whether there are offsets where the union is dense, as many as the types, and the children of a
+// sparse union are as long as the types.
 fn fits_mode(
     mode: UnionMode,
     types: &Buffer<i8>,
@@ -356,7 +356,7 @@ fn fits_mode(
     }
 }
 
-/// Whether each offset of a dense union lies inside the child of its type id, where that is known.
+// Whether each offset of a dense union lies inside the child of its type id, where that is known.
 fn fits_offsets(
     data_type: &DataType,
     types: &Buffer<i8>,
@@ -374,8 +374,8 @@ fn fits_offsets(
     }
 }
 
-/// Whether each of as many offsets as type ids lies inside the child of its type id, where that is
-/// known.
+// Whether each of as many offsets as type ids lies inside the child of its type id, where that is
+// known.
 fn are_inside(
     data_type: &DataType,
     types: &Buffer<i8>,
@@ -396,7 +396,7 @@ fn are_inside(
     true
 }
 
-/// Whether an offset lies inside the child of a type id, where that is known.
+// Whether an offset lies inside the child of a type id, where that is known.
 fn is_inside(data_type: &DataType, id: i8, fields: &[AnyArray], offset: i32) -> bool
     requires kind { IsCarriedAs physical.Union (type_of data_type.now) }
     requires children { map any_array_type fields.now ≡ field_types (type_of data_type.now) }
@@ -408,7 +408,7 @@ fn is_inside(data_type: &DataType, id: i8, fields: &[AnyArray], offset: i32) -> 
     }
 }
 
-/// Whether each type id is one of a field.
+// Whether each type id is one of a field.
 fn are_known(data_type: &DataType, types: &Buffer<i8>) -> bool
     requires { IsCarriedAs physical.Union (type_of data_type.now) }
     ensures { IsTrue result ↔ All (IsKnown (field_ids (type_of data_type.now)) (length (field_types (type_of data_type.now)))) types.now }
@@ -421,7 +421,7 @@ fn are_known(data_type: &DataType, types: &Buffer<i8>) -> bool
     true
 }
 
-/// Whether a type id is one of a field.
+// Whether a type id is one of a field.
 fn is_known(data_type: &DataType, id: i8) -> bool
     requires { IsCarriedAs physical.Union (type_of data_type.now) }
     ensures { IsTrue result ↔ IsKnown (field_ids (type_of data_type.now)) (length (field_types (type_of data_type.now))) id }
@@ -449,7 +449,7 @@ impl Clone for UnionArray {
     }
 }
 
-/// Shares the offsets, where there are some.
+// Shares the offsets, where there are some.
 fn clone_offsets(offsets: &Option<Buffer<i32>>) -> Result<Option<Buffer<i32>>, AllocError>
     ensures { IfOk result (λ copy. copy ≡ offsets.now) }
 {

@@ -18,7 +18,7 @@ use arrow_select::take::boolean::take;
 use arrow_types::error::Error;
 use std::alloc::Global;
 
-/// The answer that each key names, and null where it is null.
+// The answer that each key names, and null where it is null.
 pub(super) fn take_answers(
     alloc: Global,
     answers: &BooleanArray,
@@ -41,7 +41,7 @@ pub(super) fn take_answers(
     }
 }
 
-/// Each answer, and the spare one where it is null.
+// Each answer, and the spare one where it is null.
 pub(super) fn known_or(
     alloc: Global,
     spare: bool,
@@ -54,7 +54,7 @@ pub(super) fn known_or(
     Ok(truths(known_bits(alloc, spare, answers)?, None))
 }
 
-/// A bit for each answer, and the spare one where it is null, a word at a time.
+// A bit for each answer, and the spare one where it is null, a word at a time.
 fn known_bits(alloc: Global, spare: bool, answers: &BooleanArray) -> Result<Bitmap, Error>
     ensures ok { IfOk result (λ bits. map Boolean bits ≡ map (known_or spare) (boolean_rows answers.now)) }
     ensures err { IsOkUnless result Error.OutOfMemory }
@@ -67,7 +67,7 @@ fn known_bits(alloc: Global, spare: bool, answers: &BooleanArray) -> Result<Bitm
     }
 }
 
-/// So many answers, all null.
+// So many answers, all null.
 pub(super) fn all_null(alloc: Global, len: usize) -> Result<BooleanArray, Error>
     ensures array_type { IfOk result (λ array. array.arrow_type ≡ plain boolean) }
     ensures rows { IfOk result (λ array. boolean_rows array ≡ replicate len Null) }

@@ -23,7 +23,7 @@ use arrow_types::error::Error;
 use arrow_types::types::NativeOrd;
 use std::alloc::Global;
 
-/// Whether each row is so related to that of the right side, and null where one of the two is.
+// Whether each row is so related to that of the right side, and null where one of the two is.
 pub(super) fn relate(
     alloc: Global,
     by: Relation,
@@ -59,7 +59,7 @@ pub(super) fn relate(
     }
 }
 
-/// Whether the rows of both sides are the same: two nulls are, and a null and a value are not. No row is null.
+// Whether the rows of both sides are the same: two nulls are, and a null and a value are not. No row is null.
 pub(super) fn same(alloc: Global, lhs: &AnyArray, rhs: &AnyArray) -> Result<BooleanArray, Error>
     requires one_type { logical (any_array_type lhs.now) ≡ logical (any_array_type rhs.now) }
     requires one_length { length (any_array_rows lhs.now) ≡ length (any_array_rows rhs.now) }
@@ -90,7 +90,7 @@ pub(super) fn same(alloc: Global, lhs: &AnyArray, rhs: &AnyArray) -> Result<Bool
     }
 }
 
-/// [`relate`] of two arrays of one element type.
+// [`relate`] of two arrays of one element type.
 fn relate_primitive(
     alloc: Global,
     by: Relation,
@@ -120,7 +120,7 @@ fn relate_primitive(
     }
 }
 
-/// [`relate`] of numbers, where the right array is known to have the element type.
+// [`relate`] of numbers, where the right array is known to have the element type.
 fn relate_numbers<T: AnyElement + NativeOrd>(
     alloc: Global,
     by: Relation,
@@ -136,7 +136,7 @@ fn relate_numbers<T: AnyElement + NativeOrd>(
     primitive::relate(alloc, by, lhs, T::of_any(rhs))
 }
 
-/// The same of intervals that stand in no order.
+// The same of intervals that stand in no order.
 fn relate_intervals<T: AnyElement>(
     alloc: Global,
     by: Relation,
@@ -157,7 +157,7 @@ fn relate_intervals<T: AnyElement>(
     }
 }
 
-/// [`same`] of two arrays of one element type.
+// [`same`] of two arrays of one element type.
 fn same_primitive(
     alloc: Global,
     lhs: &AnyPrimitive,
@@ -185,7 +185,7 @@ fn same_primitive(
     }
 }
 
-/// [`same`] where the right array is known to have the element type.
+// [`same`] where the right array is known to have the element type.
 fn same_elements<T: AnyElement>(
     alloc: Global,
     lhs: &PrimitiveArray<T>,

@@ -25,7 +25,7 @@ use arrow_relate::relation::Relation;
 use arrow_types::error::Error;
 use std::alloc::Global;
 
-/// Whether each row is so related to the scalar, and null where the row is, or the scalar.
+// Whether each row is so related to the scalar, and null where the row is, or the scalar.
 #[tactic(auto, using(crate::proofs::KindLemmas::value_kind, crate::proofs::KindLemmas::value_relation))]
 pub(super) fn relate_scalar(
     alloc: Global,
@@ -45,7 +45,7 @@ pub(super) fn relate_scalar(
     }
 }
 
-/// Whether each row is the scalar: of a null scalar, whether it is null. No row is null.
+// Whether each row is the scalar: of a null scalar, whether it is null. No row is null.
 #[tactic(auto, using(crate::proofs::KindLemmas::value_kind, crate::proofs::KindLemmas::value_relation))]
 pub(super) fn same_scalar(
     alloc: Global,
@@ -67,7 +67,7 @@ pub(super) fn same_scalar(
     }
 }
 
-/// The scalar through its dictionaries, or `None` where it, or the value at any depth, is null.
+// The scalar through its dictionaries, or `None` where it, or the value at any depth, is null.
 #[cycle(value)]
 fn value_of(scalar: &AnyScalar) -> Option<&AnyScalar>
     ensures { MatchOption result (through (meaning_of scalar.now).1 ≡ Null) (λ value. IsThrough (meaning_of scalar.now) value.now) }
@@ -86,7 +86,7 @@ fn value_of(scalar: &AnyScalar) -> Option<&AnyScalar>
     }
 }
 
-/// Whether each row, through its dictionaries, is so related to a value, and null where it is.
+// Whether each row, through its dictionaries, is so related to a value, and null where it is.
 #[cycle(relate)]
 fn relate_value(
     alloc: Global,
@@ -112,7 +112,7 @@ fn relate_value(
     }
 }
 
-/// Whether each row, through its dictionaries, is null. No row of the answer is.
+// Whether each row, through its dictionaries, is null. No row of the answer is.
 #[cycle(nulls)]
 fn null_rows(alloc: Global, lhs: &AnyArray) -> Result<BooleanArray, Error>
     requires has_equality { HasEqualityThrough (any_array_type lhs.now) }

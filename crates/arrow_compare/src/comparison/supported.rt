@@ -124,7 +124,7 @@ pub fn can_gt_eq_scalar(data_type: &DataType) -> bool
     is_ordered_through(data_type)
 }
 
-/// Whether a type is one whose rows the calls of an order are asked for.
+// Whether a type is one whose rows the calls of an order are asked for.
 fn is_ordered(data_type: &DataType) -> bool
     ensures { IsTrue result ↔ IsOrdered (type_of data_type.now) }
 {
@@ -167,7 +167,7 @@ fn is_ordered(data_type: &DataType) -> bool
     }
 }
 
-/// Whether it is one of these, or a dictionary of one, at any depth.
+// Whether it is one of these, or a dictionary of one, at any depth.
 #[cycle(through)]
 fn is_ordered_through(data_type: &DataType) -> bool
     ensures { IsTrue result ↔ IsOrderedThrough (type_of data_type.now) }
@@ -179,7 +179,7 @@ fn is_ordered_through(data_type: &DataType) -> bool
     }
 }
 
-/// Whether a type inside an extension is a dictionary of one of these, at any depth, extensions around it apart.
+// Whether a type inside an extension is a dictionary of one of these, at any depth, extensions around it apart.
 #[cycle(through)]
 fn is_ordered_dictionary(data_type: &DataType) -> bool
     ensures { IsTrue result ↔ IsOrderedDictionary (type_of data_type.now) }
@@ -191,7 +191,7 @@ fn is_ordered_dictionary(data_type: &DataType) -> bool
     }
 }
 
-/// Whether a type is that of intervals that stand in no order, extensions around it apart.
+// Whether a type is that of intervals that stand in no order, extensions around it apart.
 fn is_unordered_interval(data_type: &DataType) -> bool
     ensures { IsTrue result ↔ IsUnorderedInterval (type_of data_type.now) }
 {

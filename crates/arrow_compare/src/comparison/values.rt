@@ -22,7 +22,7 @@ use arrow_types::error::Error;
 use arrow_types::types::NativeOrd;
 use std::alloc::Global;
 
-/// Whether each row is so related to the value, and null where the row is.
+// Whether each row is so related to the value, and null where the row is.
 pub(super) fn relate_flat(
     alloc: Global,
     by: Relation,
@@ -59,7 +59,7 @@ pub(super) fn relate_flat(
     }
 }
 
-/// The value of a scalar that is no null.
+// The value of a scalar that is no null.
 fn known<T: Copy>(value: Option<T>) -> T
     requires { value ≢ None }
     ensures { value ≡ Some result }
@@ -70,7 +70,7 @@ fn known<T: Copy>(value: Option<T>) -> T
     value
 }
 
-/// [`relate_flat`] of primitives of one element type.
+// [`relate_flat`] of primitives of one element type.
 fn relate_primitive(
     alloc: Global,
     by: Relation,
@@ -100,7 +100,7 @@ fn relate_primitive(
     }
 }
 
-/// [`relate_flat`] of numbers, where the array is known to have the element type.
+// [`relate_flat`] of numbers, where the array is known to have the element type.
 fn relate_number<T: AnyElement + NativeOrd>(
     alloc: Global,
     by: Relation,
@@ -116,7 +116,7 @@ fn relate_number<T: AnyElement + NativeOrd>(
     primitive::relate_scalar(alloc, by, T::of_any(lhs), known(rhs.value()))
 }
 
-/// The same of intervals, which stand in no order.
+// The same of intervals, which stand in no order.
 fn relate_interval<T: AnyElement>(
     alloc: Global,
     by: Relation,

@@ -149,7 +149,7 @@ impl<O: Offset, K: ByteKind> Clone for ByteRows<O, K> {
     }
 }
 
-/// How many bytes row `i` has.
+// How many bytes row `i` has.
 fn row_len<O: Offset>(offsets: &OffsetsBuffer<O>, i: usize) -> usize
     requires { i + 1 < length offsets.now }
     ensures { result ≡ slice_index (lengths offsets.now) i }
@@ -158,8 +158,8 @@ fn row_len<O: Offset>(offsets: &OffsetsBuffer<O>, i: usize) -> usize
     end - start
 }
 
-/// Whether each of `len` rows from row `start` on is as long as that of others from row `other_start`
-/// on.
+// Whether each of `len` rows from row `start` on is as long as that of others from row `other_start`
+// on.
 fn are_as_long<O: Offset>(
     offsets: &OffsetsBuffer<O>,
     start: usize,
@@ -181,7 +181,7 @@ fn are_as_long<O: Offset>(
     true
 }
 
-/// Whether each row that the offsets name is as the kind asks: one pass over the bytes of the rows.
+// Whether each row that the offsets name is as the kind asks: one pass over the bytes of the rows.
 fn are_allowed<O: Offset, K: ByteKind>(offsets: &OffsetsBuffer<O>, bytes: &[u8]) -> bool
     requires { last_of offsets.now ≤ length bytes.now }
     ensures { IsTrue result ↔ All K.Allows (pieces offsets.now bytes.now) }

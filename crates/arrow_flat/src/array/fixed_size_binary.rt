@@ -119,7 +119,7 @@ impl Clone for FixedRows {
     }
 }
 
-/// How many bytes a row of the data type has: 0 of a type whose rows are no bytes of a fixed size.
+// How many bytes a row of the data type has: 0 of a type whose rows are no bytes of a fixed size.
 fn fixed_size(data_type: &DataType) -> usize
     ensures { result ≡ fixed_size_in (type_of data_type.now) }
 {

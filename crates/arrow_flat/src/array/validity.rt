@@ -71,12 +71,8 @@ pub fn slice(validity: &mut Option<Bitmap>, offset: usize, len: usize)
     }
 }
 
-/// Whether of `len` rows from row `start` on the same ones are null as of others from row
-/// `other_start` on, compared a word at a time.
-///
-/// # Requires
-/// Where there are bits, `start + len` is at most their count, and `other_start + len` that of the
-/// others.
+// Whether of `len` rows from row `start` on the same ones are null as of others from row
+// `other_start` on, compared a word at a time.
 pub(crate) fn equal_range(
     validity: &Option<Bitmap>,
     start: usize,
@@ -96,7 +92,7 @@ pub(crate) fn equal_range(
     }
 }
 
-/// Whether `len` bits from bit `start` on are set.
+// Whether `len` bits from bit `start` on are set.
 fn are_set(bits: &Bitmap, start: usize, len: usize) -> bool
     requires { start + len ≤ length bits.now }
     ensures { IsTrue result ↔ (sliced bits.now start len ≡ replicate len true) }
@@ -110,10 +106,7 @@ fn are_set(bits: &Bitmap, start: usize, len: usize) -> bool
     is_set && end == start + len
 }
 
-/// Whether row `start` is valid, and how many rows from there on are as it is, of `len` rows.
-///
-/// # Requires
-/// `len` is at least 1, and where there are bits, `start + len` is at most their count.
+// Whether row `start` is valid, and how many rows from there on are as it is, of `len` rows.
 pub(crate) fn run_at(validity: &Option<Bitmap>, start: usize, len: usize) -> (bool, usize)
     requires some { 0 < len }
     requires within { IfSome validity.now (λ bits. start + len ≤ length bits) }

@@ -145,7 +145,7 @@ impl AnyScalar {
     }
 }
 
-/// The type of a dictionary's values, or `None` where the data type is no dictionary's.
+// The type of a dictionary's values, or `None` where the data type is no dictionary's.
 fn values_of(data_type: &DataType) -> Option<&DataType>
     ensures { MatchOption result (HasDictionary (type_of data_type.now) → ⊥) (λ values. HasDictionary (type_of data_type.now) × (type_of values.now ≡ values_in (type_of data_type.now))) }
 {
@@ -156,7 +156,7 @@ fn values_of(data_type: &DataType) -> Option<&DataType>
     }
 }
 
-/// Whether a scalar, if there is one, is of this type, extensions around both apart.
+// Whether a scalar, if there is one, is of this type, extensions around both apart.
 fn is_of(value: &Option<Box<AnyScalar>>, data_type: &DataType) -> bool
     ensures { IsTrue result ↔ IsOf (type_of data_type.now) (inner_of value.now) }
 {

@@ -10,7 +10,7 @@ use arrow_types::types::Offset;
 /// A text, or a null, of type Utf8 or, where `O` is that of the large forms, LargeUtf8.
 pub type Utf8Scalar<O> = ByteScalar<O, Text>;
 
-/// The bytes of a text, which are moved and not copied.
+// The bytes of a text, which are moved and not copied.
 fn into_bytes(text: Option<String>) -> Option<Vec<u8>>
     ensures same { option_map (λ bytes. bytes.items) result ≡ option_map string_bytes text }
     ensures text { IfSome result (λ bytes. IsUtf8 bytes.items) }

@@ -162,7 +162,7 @@ impl<O: Offset, K: GrowableKind> GrowableBytes<O, K> {
     }
 }
 
-/// Where the rows of an array lie, and the bytes that they lie in.
+// Where the rows of an array lie, and the bytes that they lie in.
 fn parts<O: Offset, K: ByteKind>(array: &FlatArray<ByteRows<O, K>>) -> (&OffsetsBuffer<O>, &[u8])
     ensures rows { row_bytes array.now.values ≡ pieces result.0.now result.1.now }
     ensures within { last_of result.0.now ≤ length result.1.now }
@@ -171,7 +171,7 @@ fn parts<O: Offset, K: ByteKind>(array: &FlatArray<ByteRows<O, K>>) -> (&Offsets
     (array.offsets(), array.values().as_slice())
 }
 
-/// Appends rows that others name in their bytes. Where that is refused, all is as before.
+// Appends rows that others name in their bytes. Where that is refused, all is as before.
 fn copy_rows<O: Offset>(
     offsets: &mut Offsets<O>,
     bytes: &mut Vec<u8>,
@@ -201,8 +201,8 @@ fn copy_rows<O: Offset>(
     Ok(())
 }
 
-/// Appends rows that others name in their bytes, without bytes where their bit is not set. Where that is
-/// refused, all is as before.
+// Appends rows that others name in their bytes, without bytes where their bit is not set. Where that is
+// refused, all is as before.
 fn copy_valid_rows<O: Offset>(
     offsets: &mut Offsets<O>,
     bytes: &mut Vec<u8>,
@@ -229,8 +229,8 @@ fn copy_valid_rows<O: Offset>(
     copy_set_rows(offsets, bytes, rows, values, validity, start, len)
 }
 
-/// Whether those of `len` rows from row `start` on are empty whose bit is not set, by words of the bits. It stops at the
-/// first that is not.
+// Whether those of `len` rows from row `start` on are empty whose bit is not set, by words of the bits. It stops at the
+// first that is not.
 fn are_nulls_empty<O: Offset>(
     rows: &OffsetsBuffer<O>,
     validity: &Bitmap,
@@ -254,7 +254,7 @@ fn are_nulls_empty<O: Offset>(
     true
 }
 
-/// Those of `count` bits from bit `first` on that are not set, as a word. They lie in one word of the bitmap.
+// Those of `count` bits from bit `first` on that are not set, as a word. They lie in one word of the bitmap.
 #[inline(always)]
 fn unset_from(validity: &Bitmap, first: usize, count: usize) -> u64
     requires some { 0 < count }
@@ -266,7 +266,7 @@ fn unset_from(validity: &Bitmap, first: usize, count: usize) -> u64
     !word & (u64::MAX >> (WORD_BITS - count))
 }
 
-/// Whether the rows are empty whose bit is set in a word, counted from row `start` on.
+// Whether the rows are empty whose bit is set in a word, counted from row `start` on.
 #[inline(always)]
 fn are_empty<O: Offset>(rows: &OffsetsBuffer<O>, start: usize, word: u64) -> bool
     requires { (k : ℕ) → bit_at word k ≡ 1 → start + k + 1 < length rows.now }
@@ -285,7 +285,7 @@ fn are_empty<O: Offset>(rows: &OffsetsBuffer<O>, start: usize, word: u64) -> boo
     true
 }
 
-/// The same, run by run.
+// The same, run by run.
 fn copy_set_rows<O: Offset>(
     offsets: &mut Offsets<O>,
     bytes: &mut Vec<u8>,
@@ -316,7 +316,7 @@ fn copy_set_rows<O: Offset>(
     copied
 }
 
-/// The same, but that some bytes may be there where it is refused.
+// The same, but that some bytes may be there where it is refused.
 fn append_valid_rows<O: Offset>(
     offsets: &mut Offsets<O>,
     bytes: &mut Vec<u8>,
@@ -342,8 +342,8 @@ fn append_valid_rows<O: Offset>(
     offsets.try_extend_from_valid(rows, validity, start, len)
 }
 
-/// Appends the bytes of those of `len` rows from row `start` on whose bit is set, a run at a time. Where that is
-/// refused, some may be there.
+// Appends the bytes of those of `len` rows from row `start` on whose bit is set, a run at a time. Where that is
+// refused, some may be there.
 fn append_valid_bytes<O: Offset>(
     bytes: &mut Vec<u8>,
     rows: &OffsetsBuffer<O>,
@@ -372,8 +372,8 @@ fn append_valid_bytes<O: Offset>(
     Ok(())
 }
 
-/// Appends the bytes of `len` rows from row `start` on, and reads none behind `until`. Where that is refused, all is as
-/// before.
+// Appends the bytes of `len` rows from row `start` on, and reads none behind `until`. Where that is refused, all is as
+// before.
 fn append_bytes<O: Offset>(
     bytes: &mut Vec<u8>,
     rows: &OffsetsBuffer<O>,

@@ -48,10 +48,7 @@ impl Model for GrowableFixedRows {
     ghost invariant = { λ a. AreFixedRows (record { size = a.size; count = a.count; bytes = a.bytes.items }) };
 }
 
-/// How many rows of a size there are with more behind them, and how many bytes these have.
-///
-/// # Errors
-/// `Overflow` where one of both is not counted by a `usize`.
+// How many rows of a size there are with more behind them, and how many bytes these have.
 fn grown(count: usize, more: usize, size: usize) -> Result<(usize, usize), Error>
     ensures rows { IfOk result (λ sums. sums.0 ≡ count + more) }
     ensures bytes { IfOk result (λ sums. sums.1 ≡ (count + more) * size) }

@@ -250,7 +250,7 @@ impl<'a, G: GrowableValues> FlatGrowable<'a, G> {
     }
 }
 
-/// An array of the rows that are stored, null where a bit is not set.
+// An array of the rows that are stored, null where a bit is not set.
 fn finish<G: GrowableValues>(
     data_type: DataType,
     values: G,
@@ -266,7 +266,7 @@ fn finish<G: GrowableValues>(
     values.into_array(data_type, validity)
 }
 
-/// Appends `len` rows of an array from row `start` on: their bits, and what is stored of them.
+// Appends `len` rows of an array from row `start` on: their bits, and what is stored of them.
 fn append<G: GrowableValues>(
     values: &mut G,
     validity: &mut GrowableValidity,
@@ -290,7 +290,7 @@ fn append<G: GrowableValues>(
     values.extend(array, start, len)
 }
 
-/// Appends so many nulls.
+// Appends so many nulls.
 fn append_nulls<G: GrowableValues>(
     values: &mut G,
     validity: &mut GrowableValidity,

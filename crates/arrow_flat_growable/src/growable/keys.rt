@@ -254,8 +254,8 @@ impl GrowableKeys {
     }
 }
 
-/// Appends `len` keys of others from row `start` on, each greater by `by`, and 0 where one is null: without a test of each,
-/// where none of a dictionary of `count` values can pass the greatest of its type.
+// Appends `len` keys of others from row `start` on, each greater by `by`, and 0 where one is null: without a test of each,
+// where none of a dictionary of `count` values can pass the greatest of its type.
 fn append_within<K: MovedKey>(
     keys: &mut Vec<K>,
     others: &PrimitiveArray<K>,
@@ -283,7 +283,7 @@ fn append_within<K: MovedKey>(
     Ok(())
 }
 
-/// Appends `len` keys of others from row `start` on, each greater by `by`, and 0 where one is null.
+// Appends `len` keys of others from row `start` on, each greater by `by`, and 0 where one is null.
 fn append_keys<K: DictionaryKey>(
     keys: &mut Vec<K>,
     others: &PrimitiveArray<K>,
@@ -307,7 +307,7 @@ fn append_keys<K: DictionaryKey>(
     Ok(())
 }
 
-/// The key of row `i`, greater by `by`, and 0 where it is null.
+// The key of row `i`, greater by `by`, and 0 where it is null.
 fn grown<K: DictionaryKey>(others: &PrimitiveArray<K>, i: usize, by: usize) -> Result<K, Error>
     requires within { i < length (rows_by (map K.slot) others.now) }
     requires key { IsKeyIn (slice_index_or (rows_by (map K.slot) others.now) i Null) }
@@ -330,7 +330,7 @@ fn grown<K: DictionaryKey>(others: &PrimitiveArray<K>, i: usize, by: usize) -> R
     Ok(key)
 }
 
-/// Appends so many keys 0.
+// Appends so many keys 0.
 fn append_zeros<K: DictionaryKey>(keys: &mut Vec<K>, additional: usize) -> Result<(), Error>
     requires { length keys.old.items + additional < 2 ^ 64 }
     ensures ok { OnOk result (map K.slot keys.new.items ≡ map K.slot keys.old.items ++ replicate additional zero_key) }
@@ -340,7 +340,7 @@ fn append_zeros<K: DictionaryKey>(keys: &mut Vec<K>, additional: usize) -> Resul
     Ok(())
 }
 
-/// An array of keys.
+// An array of keys.
 fn into_array<K: DictionaryKey>(
     alloc: Global,
     data_type: DataType,

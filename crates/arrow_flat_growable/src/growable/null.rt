@@ -127,7 +127,7 @@ impl GrowableNull {
     }
 }
 
-/// An array of so many nulls.
+// An array of so many nulls.
 fn null_array(data_type: DataType, len: usize) -> NullArray
     requires { IsCarriedAs physical.Null (type_of data_type) }
     ensures { result ≡ record { arrow_type = type_of data_type; count = len } }

@@ -24,7 +24,7 @@ use std::alloc::Global;
 /// An array of numbers or intervals under construction.
 pub type GrowablePrimitive<'a, T> = FlatGrowable<'a, Vec<T>>;
 
-/// Appends `len` of some values, from place `start` on.
+// Appends `len` of some values, from place `start` on.
 pub(super) fn append_part<T: Copy>(
     values: &mut Vec<T>,
     from: &[T],

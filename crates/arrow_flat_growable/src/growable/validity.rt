@@ -131,7 +131,7 @@ impl GrowableValidity {
     }
 }
 
-/// Appends the bits of a part of an array to those of so many rows.
+// Appends the bits of a part of an array to those of so many rows.
 #[inline(always)]
 fn append(
     alloc: Global,
@@ -154,7 +154,7 @@ fn append(
     }
 }
 
-/// Appends so many bits that are set, where bits are kept.
+// Appends so many bits that are set, where bits are kept.
 #[inline(always)]
 fn append_set(bits: &mut Option<MutableBitmap>, len: usize) -> Result<(), Error>
     ensures ok { OnOk result (bits.new ≡ option_map (λ bits. bits ++ replicate len true) bits.old) }
@@ -168,7 +168,7 @@ fn append_set(bits: &mut Option<MutableBitmap>, len: usize) -> Result<(), Error>
     }
 }
 
-/// Appends a part of a bitmap to the bits of so many rows.
+// Appends a part of a bitmap to the bits of so many rows.
 #[inline(always)]
 fn append_part(
     alloc: Global,
@@ -191,7 +191,7 @@ fn append_part(
     }
 }
 
-/// The same where no bits may be kept so far.
+// The same where no bits may be kept so far.
 #[inline(never)]
 fn keep_part(
     alloc: Global,
@@ -215,7 +215,7 @@ fn keep_part(
     }
 }
 
-/// Appends so many bits that are not set to those of so many rows.
+// Appends so many bits that are not set to those of so many rows.
 fn append_nulls(
     alloc: Global,
     bits: &mut Option<MutableBitmap>,
@@ -235,7 +235,7 @@ fn append_nulls(
     }
 }
 
-/// Keeps a bitmap from now on: so many bits are set so far, where there was none.
+// Keeps a bitmap from now on: so many bits are set so far, where there was none.
 fn keep(alloc: Global, bits: &mut Option<MutableBitmap>, len: usize) -> Result<(), Error>
     ensures ok { OnOk result (bits.new ≡ Some (bits_by bits.old len)) }
     ensures err { IsOkUnless result Error.OutOfMemory }

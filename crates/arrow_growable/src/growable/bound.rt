@@ -371,7 +371,7 @@ impl<'a> BoundNested<'a> {
     }
 }
 
-/// The array at a place.
+// The array at a place.
 fn at<'a, A: NestedArray>(arrays: &[&'a A], index: usize) -> &'a A
     requires { index < length arrays.now }
     ensures { A.layout_in result.now ≡ source_at (map (λ r. A.layout_in r.now) arrays.now) index }
@@ -379,7 +379,7 @@ fn at<'a, A: NestedArray>(arrays: &[&'a A], index: usize) -> &'a A
     arrays[index]
 }
 
-/// The data type of the first.
+// The data type of the first.
 fn first_data_type<'a, A: NestedArray>(arrays: &[&'a A]) -> &'a DataType
     requires { 0 < length arrays.now }
     ensures same { type_of result.now ≡ first_type (map (λ r. A.layout_in r.now) arrays.now) }
@@ -390,7 +390,7 @@ fn first_data_type<'a, A: NestedArray>(arrays: &[&'a A]) -> &'a DataType
     first.data_type()
 }
 
-/// How many children the first has.
+// How many children the first has.
 fn first_width<A: NestedArray>(arrays: &[&A]) -> usize
     requires { 0 < length arrays.now }
     ensures { result ≡ length (child_types (first_type (map (λ r. A.layout_in r.now) arrays.now))) }
@@ -398,7 +398,7 @@ fn first_width<A: NestedArray>(arrays: &[&A]) -> usize
     arrays[0].width()
 }
 
-/// Child `f` of arrays of one kind.
+// Child `f` of arrays of one kind.
 fn column_of<'a, A: NestedArray>(
     alloc: Global,
     arrays: &[&'a A],
@@ -420,7 +420,7 @@ fn column_of<'a, A: NestedArray>(
     Ok(column)
 }
 
-/// Arrays of any type as arrays of one kind.
+// Arrays of any type as arrays of one kind.
 fn bind<'a, A: NestedArray>(alloc: Global, arrays: &[&'a AnyArray]) -> Result<Vec<&'a A>, Error>
     requires one_type { AreOfOneType (map (λ a. layout_of a.now) arrays.now) }
     requires kind { kind_in (physical_type_of (first_type (map (λ a. layout_of a.now) arrays.now))) ≡ A.kind }

@@ -20,8 +20,8 @@ use arrow_memory::bitmap::Bitmap;
 use arrow_types::error::Error;
 use std::alloc::Global;
 
-/// Appends to each child what `len` rows of bound array `index` name of it, from row `start` on: null slots for
-/// those that are null.
+// Appends to each child what `len` rows of bound array `index` name of it, from row `start` on: null slots for
+// those that are null.
 #[cycle(extend)]
 pub(crate) fn extend_children(
     children: &mut [AnyGrowable],
@@ -48,7 +48,7 @@ pub(crate) fn extend_children(
     Ok(())
 }
 
-/// Appends to a child what `len` rows of bound array `index` name of it, from row `start` on.
+// Appends to a child what `len` rows of bound array `index` name of it, from row `start` on.
 #[cycle(extend)]
 fn extend_child(
     child: &mut AnyGrowable,
@@ -79,7 +79,7 @@ fn extend_child(
     }
 }
 
-/// Appends what `len` rows from row `start` on name, a run of null rows and one of valid rows at a time.
+// Appends what `len` rows from row `start` on name, a run of null rows and one of valid rows at a time.
 #[cycle(extend)]
 fn extend_runs(
     child: &mut AnyGrowable,
@@ -112,7 +112,7 @@ fn extend_runs(
     Ok(())
 }
 
-/// Appends what `len` rows from row `start` on name, none of which is null.
+// Appends what `len` rows from row `start` on name, none of which is null.
 #[cycle(extend)]
 fn extend_run(
     child: &mut AnyGrowable,
@@ -134,7 +134,7 @@ fn extend_run(
     child.extend(index, first, end - first)
 }
 
-/// Appends so many null slots to each child.
+// Appends so many null slots to each child.
 #[cycle(extend_validity)]
 pub(crate) fn extend_all_nulls(children: &mut [AnyGrowable], count: usize) -> Result<(), Error>
     requires well { All IsWell (map grown_of children.old) }
@@ -150,7 +150,7 @@ pub(crate) fn extend_all_nulls(children: &mut [AnyGrowable], count: usize) -> Re
     Ok(())
 }
 
-/// Appends so many null slots to a child.
+// Appends so many null slots to a child.
 #[cycle(extend_validity)]
 pub(crate) fn extend_nulls(child: &mut AnyGrowable, count: usize) -> Result<(), Error>
     requires well { IsWell (grown_of child.old) }
@@ -165,7 +165,7 @@ pub(crate) fn extend_nulls(child: &mut AnyGrowable, count: usize) -> Result<(), 
     child.extend_validity(count)
 }
 
-/// An array of all rows of each child, which is left without rows.
+// An array of all rows of each child, which is left without rows.
 #[cycle(as_box)]
 pub(crate) fn box_children(
     alloc: Global,

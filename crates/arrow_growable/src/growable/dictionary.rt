@@ -175,7 +175,7 @@ impl<'a> GrowableDictionary<'a> {
     }
 }
 
-/// Arrays of any type as arrays of dictionaries.
+// Arrays of any type as arrays of dictionaries.
 pub(crate) fn bind<'a>(
     alloc: Global,
     arrays: &[&'a AnyArray],
@@ -194,7 +194,7 @@ pub(crate) fn bind<'a>(
     Ok(bound)
 }
 
-/// An array of any type as one of dictionaries.
+// An array of any type as one of dictionaries.
 fn as_dictionary(array: &AnyArray) -> &DictionaryArray
     requires { kind_of array.now ≡ dictionary_kind }
     ensures { keyed_layout result.now ≡ layout_of array.now }
@@ -205,7 +205,7 @@ fn as_dictionary(array: &AnyArray) -> &DictionaryArray
     }
 }
 
-/// The values of all arrays, one dictionary behind the other; of one array alone they are shared.
+// The values of all arrays, one dictionary behind the other; of one array alone they are shared.
 #[cycle(make)]
 fn join_values(alloc: Global, arrays: &[&DictionaryArray]) -> Result<AnyArray, Error>
     requires some { 0 < length arrays.now }
@@ -226,7 +226,7 @@ fn join_values(alloc: Global, arrays: &[&DictionaryArray]) -> Result<AnyArray, E
     join_arrays(alloc, &values)
 }
 
-/// The values of each array.
+// The values of each array.
 fn values_of<'a>(alloc: Global, arrays: &[&'a DictionaryArray]) -> Result<Vec<&'a AnyArray>, Error>
     ensures ok { IfOk result (λ values. map (λ a. layout_of a.now) values.items ≡ map child_of (map (λ r. keyed_layout r.now) arrays.now)) }
     ensures types { OnOk result (All (λ r. type_of_layout r.now.child ≡ values_in r.now.arrow_type) arrays.now) }
@@ -240,7 +240,7 @@ fn values_of<'a>(alloc: Global, arrays: &[&'a DictionaryArray]) -> Result<Vec<&'
     Ok(values)
 }
 
-/// Where the values of each array begin among so many.
+// Where the values of each array begin among so many.
 fn starts_of(alloc: Global, arrays: &[&DictionaryArray], count: usize) -> Result<Vec<usize>, Error>
     requires { length (joined_values (map (λ r. keyed_layout r.now) arrays.now)) ≡ count }
     ensures ok { IfOk result (λ starts. StartsAt starts.items (map (λ r. keyed_layout r.now) arrays.now)) }

@@ -32,10 +32,7 @@ use arrow_types::datatypes::DataType;
 use arrow_types::error::Error;
 use std::alloc::Global;
 
-/// An array over these children, null where a bit is not set.
-///
-/// # Errors
-/// `OutOfMemory` where memory is refused.
+// An array over these children, null where a bit is not set.
 pub(crate) fn finish(
     alloc: Global,
     data_type: DataType,
@@ -71,7 +68,7 @@ pub(crate) fn finish(
     }
 }
 
-/// The one child of an array.
+// The one child of an array.
 fn first_boxed(alloc: Global, values: Vec<AnyArray>) -> Result<Box<AnyArray>, Error>
     requires { length values.items ≡ 1 }
     ensures ok { IfOk result (λ child. child.value ∷ [] ≡ values.items) }
@@ -84,7 +81,7 @@ fn first_boxed(alloc: Global, values: Vec<AnyArray>) -> Result<Box<AnyArray>, Er
     Ok(Box::new(alloc, child)?)
 }
 
-/// An array of lists.
+// An array of lists.
 fn list_array(
     data_type: DataType,
     offsets: AnyOffsetsBuffer,
@@ -104,7 +101,7 @@ fn list_array(
     AnyArray::List(array)
 }
 
-/// An array of maps.
+// An array of maps.
 fn map_array(
     data_type: DataType,
     offsets: OffsetsBuffer<i32>,
@@ -124,7 +121,7 @@ fn map_array(
     AnyArray::Map(array)
 }
 
-/// An array of lists of a fixed size.
+// An array of lists of a fixed size.
 fn fixed_size_list_array(
     data_type: DataType,
     values: Box<AnyArray>,
@@ -142,7 +139,7 @@ fn fixed_size_list_array(
     AnyArray::FixedSizeList(array)
 }
 
-/// An array of structs.
+// An array of structs.
 fn struct_array(data_type: DataType, values: Vec<AnyArray>, validity: Option<Bitmap>) -> AnyArray
     requires kind { IsCarriedAs physical.Struct (type_of data_type) }
     requires children { map any_array_type values.items ≡ field_types (type_of data_type) }
@@ -156,10 +153,7 @@ fn struct_array(data_type: DataType, values: Vec<AnyArray>, validity: Option<Bit
     AnyArray::Struct(array)
 }
 
-/// An array of unions of a data type, dense where there are offsets.
-///
-/// # Errors
-/// `OutOfMemory` where memory is refused.
+// An array of unions of a data type, dense where there are offsets.
 pub(crate) fn union_array(
     alloc: Global,
     data_type: &DataType,
@@ -180,7 +174,7 @@ pub(crate) fn union_array(
     Ok(array)
 }
 
-/// The offsets, if there are any, as a buffer.
+// The offsets, if there are any, as a buffer.
 fn offset_buffer(alloc: Global, offsets: Option<Vec<i32>>) -> Result<Option<Buffer<i32>>, Error>
     ensures ok { IfOk result (λ buffer. buffer ≡ offsets_in offsets) }
     ensures err { IsOkUnless result Error.OutOfMemory }

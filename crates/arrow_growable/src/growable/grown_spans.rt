@@ -131,7 +131,7 @@ impl GrowableSpans {
     }
 }
 
-/// A row by offsets has none where it is null.
+// A row by offsets has none where it is null.
 fn no_slots<O: Offset>(offsets: &Offsets<O>) -> usize
     ensures none { result ≡ 0 }
     ensures sound { IsOffsets offsets.now }
@@ -143,7 +143,7 @@ fn no_slots<O: Offset>(offsets: &Offsets<O>) -> usize
     0
 }
 
-/// Appends `len` rows of others from row `start` on: those that are null without items.
+// Appends `len` rows of others from row `start` on: those that are null without items.
 fn extend<O: Offset>(
     offsets: &mut Offsets<O>,
     others: &OffsetsBuffer<O>,

@@ -39,7 +39,7 @@ pub fn join_arrays(alloc: Global, arrays: &[&AnyArray]) -> Result<AnyArray, Erro
     all_rows(growable, arrays)
 }
 
-/// All rows of each array, by a growable over them that has none yet.
+// All rows of each array, by a growable over them that has none yet.
 fn all_rows(growable: AnyGrowable, arrays: &[&AnyArray]) -> Result<AnyArray, Error>
     requires bound { grown_of growable ≡ bound_to (layouts_in arrays.now) }
     ensures array_type { IfOk result (λ all. any_array_type all ≡ first_type (layouts_in arrays.now)) }
@@ -53,7 +53,7 @@ fn all_rows(growable: AnyGrowable, arrays: &[&AnyArray]) -> Result<AnyArray, Err
     growable.as_box()
 }
 
-/// How many rows all arrays have, and the greatest number where they are more.
+// How many rows all arrays have, and the greatest number where they are more.
 fn count_rows(arrays: &[&AnyArray]) -> usize {
     let mut count = 0usize;
     for array in arrays {
@@ -62,7 +62,7 @@ fn count_rows(arrays: &[&AnyArray]) -> usize {
     count
 }
 
-/// Appends all rows of each array that is bound.
+// Appends all rows of each array that is bound.
 fn append_all(growable: &mut AnyGrowable, arrays: &[&AnyArray]) -> Result<(), Error>
     requires bound { grown_of growable.old ≡ bound_to (layouts_in arrays.now) }
     ensures ok { OnOk result (HasAppended (layouts_in arrays.now) (grown_of growable.new) (joined (map rows (layouts_in arrays.now)))) }

@@ -74,11 +74,7 @@ pub fn make_growable<'a>(
     }
 }
 
-/// Growables without rows over each of these columns of arrays, with room for so many rows.
-///
-/// # Errors
-/// `Overflow` only where dictionaries in a column can't be joined, and never of columns of one array each;
-/// `OutOfMemory` where memory is refused, as for a capacity that is too great.
+// Growables without rows over each of these columns of arrays, with room for so many rows.
 #[cycle(make)]
 pub(crate) fn make_each<'a>(
     alloc: Global,
@@ -99,10 +95,7 @@ pub(crate) fn make_each<'a>(
     Ok(growables)
 }
 
-/// The same over arrays without children.
-///
-/// # Errors
-/// `OutOfMemory` where memory is refused, as for a capacity that is too great.
+// The same over arrays without children.
 fn make_flat<'a>(
     alloc: Global,
     arrays: &[&'a AnyArray],
@@ -143,7 +136,7 @@ fn make_flat<'a>(
     }
 }
 
-/// A growable over arrays that lie in memory as its values do.
+// A growable over arrays that lie in memory as its values do.
 fn bound<'a, G: GrowableValues>(
     alloc: Global,
     arrays: &[&'a AnyArray],
@@ -165,7 +158,7 @@ fn bound<'a, G: GrowableValues>(
     FlatGrowable::new(alloc, flat, use_validity, capacity)
 }
 
-/// A growable over arrays of the null type.
+// A growable over arrays of the null type.
 fn bound_nulls<'a>(alloc: Global, arrays: &[&'a AnyArray]) -> Result<BoundNulls<'a>, Error>
     requires some { 0 < length arrays.now }
     requires one_type { AreOfOneType (map (λ a. layout_of a.now) arrays.now) }
@@ -182,7 +175,7 @@ fn bound_nulls<'a>(alloc: Global, arrays: &[&'a AnyArray]) -> Result<BoundNulls<
     BoundNulls::new(nulls)
 }
 
-/// An array of any type as one of the null type.
+// An array of any type as one of the null type.
 fn as_null(array: &AnyArray) -> &NullArray
     requires { kind_of array.now ≡ null_kind }
     ensures { null_layout result.now ≡ layout_of array.now }
@@ -193,7 +186,7 @@ fn as_null(array: &AnyArray) -> &NullArray
     }
 }
 
-/// A growable over arrays of numbers or intervals of one element type.
+// A growable over arrays of numbers or intervals of one element type.
 fn bound_primitives<'a>(
     alloc: Global,
     arrays: &[&'a AnyArray],

@@ -151,11 +151,7 @@ impl<'a> GrowableNested<'a> {
     }
 }
 
-/// Growables without rows over each child of arrays, with room for so many rows.
-///
-/// # Errors
-/// `Overflow` only where dictionaries in a child can't be joined, and never of one array alone; `OutOfMemory` where
-/// memory is refused, as for a capacity that is too great.
+// Growables without rows over each child of arrays, with room for so many rows.
 #[cycle(make)]
 fn make_children<'a>(
     alloc: Global,

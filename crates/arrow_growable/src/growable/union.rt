@@ -243,7 +243,7 @@ impl<'a> Growable<'a> for GrowableUnion<'a> {
     }
 }
 
-/// Arrays of any type as arrays of unions.
+// Arrays of any type as arrays of unions.
 pub(crate) fn bind<'a>(alloc: Global, arrays: &[&'a AnyArray]) -> Result<Vec<&'a UnionArray>, Error>
     requires one_type { AreOfOneType (map (λ a. layout_of a.now) arrays.now) }
     requires kind { kind_in (physical_type_of (first_type (map (λ a. layout_of a.now) arrays.now))) ≡ union_kind }
@@ -259,7 +259,7 @@ pub(crate) fn bind<'a>(alloc: Global, arrays: &[&'a AnyArray]) -> Result<Vec<&'a
     Ok(bound)
 }
 
-/// An array of any type as one of unions.
+// An array of any type as one of unions.
 fn as_union(array: &AnyArray) -> &UnionArray
     requires { kind_of array.now ≡ union_kind }
     ensures { union_layout result.now ≡ layout_of array.now }
@@ -270,7 +270,7 @@ fn as_union(array: &AnyArray) -> &UnionArray
     }
 }
 
-/// The data type of the first.
+// The data type of the first.
 fn first_data_type<'a>(arrays: &[&'a UnionArray]) -> &'a DataType
     requires { 0 < length arrays.now }
     ensures same { type_of result.now ≡ first_type (map (λ r. union_layout r.now) arrays.now) }
@@ -280,7 +280,7 @@ fn first_data_type<'a>(arrays: &[&'a UnionArray]) -> &'a DataType
     first.data_type()
 }
 
-/// No offsets in a dense union, and none at all in a sparse one.
+// No offsets in a dense union, and none at all in a sparse one.
 fn without_offsets(alloc: Global, mode: UnionMode) -> Option<Vec<i32>>
     ensures { offsets_in result ≡ no_offsets mode }
 {
@@ -290,7 +290,7 @@ fn without_offsets(alloc: Global, mode: UnionMode) -> Option<Vec<i32>>
     }
 }
 
-/// The same with room for so many.
+// The same with room for so many.
 fn new_offsets(alloc: Global, mode: UnionMode, capacity: usize) -> Result<Option<Vec<i32>>, Error>
     ensures ok { IfOk result (λ offsets. offsets_in offsets ≡ no_offsets mode) }
     ensures err { IsOkUnless result Error.OutOfMemory }
@@ -301,7 +301,7 @@ fn new_offsets(alloc: Global, mode: UnionMode, capacity: usize) -> Result<Option
     }
 }
 
-/// The children of unions of one type, those of each field beside one another.
+// The children of unions of one type, those of each field beside one another.
 fn all_columns<'a>(
     alloc: Global,
     arrays: &[&'a UnionArray],
@@ -320,7 +320,7 @@ fn all_columns<'a>(
     Ok(columns)
 }
 
-/// The children of unions of one type that field `f` has.
+// The children of unions of one type that field `f` has.
 fn column_of<'a>(
     alloc: Global,
     arrays: &[&'a UnionArray],
@@ -340,7 +340,7 @@ fn column_of<'a>(
     Ok(column)
 }
 
-/// The child of field `f`.
+// The child of field `f`.
 fn child_of(array: &UnionArray, f: usize) -> &AnyArray
     requires { f < length (field_types array.now.arrow_type) }
     ensures child { layout_of result.now ≡ child_at f (union_layout array.now) }

@@ -9,8 +9,8 @@ ghost use Rattle.arrow_growable.specs.UnionRuns.{IsRun};
 use arrow_arrays::array::UnionArray;
 use arrow_types::types::Index;
 
-/// The field of row `row` and the row of its child, and how many rows from there on, up to `end`, are of that field
-/// and lie one behind the other in its child.
+// The field of row `row` and the row of its child, and how many rows from there on, up to `end`, are of that field
+// and lie one behind the other in its child.
 pub(crate) fn run_of(array: &UnionArray, row: usize, end: usize) -> (usize, usize, usize)
     requires some { row < end }
     requires part { end ≤ length array.now.types }
@@ -27,7 +27,7 @@ pub(crate) fn run_of(array: &UnionArray, row: usize, end: usize) -> (usize, usiz
     (field, child_row, count)
 }
 
-/// How many rows they are.
+// How many rows they are.
 fn run_length(array: &UnionArray, row: usize, end: usize) -> usize
     requires some { row < end }
     requires part { end ≤ length array.now.types }
@@ -45,7 +45,7 @@ fn run_length(array: &UnionArray, row: usize, end: usize) -> usize
     }
 }
 
-/// How many type ids from `start` on, up to `end`, are the same.
+// How many type ids from `start` on, up to `end`, are the same.
 fn same_ids(ids: &[i8], start: usize, end: usize) -> usize
     requires some { start < end }
     requires part { end ≤ length ids.now }
@@ -61,7 +61,7 @@ fn same_ids(ids: &[i8], start: usize, end: usize) -> usize
     count
 }
 
-/// How many from `start` on, up to `end`, have the same type id, and offsets of which each is the next number.
+// How many from `start` on, up to `end`, have the same type id, and offsets of which each is the next number.
 fn risen(ids: &[i8], offsets: &[i32], start: usize, end: usize) -> usize
     requires some { start < end }
     requires part { end ≤ length ids.now }
@@ -82,7 +82,7 @@ fn risen(ids: &[i8], offsets: &[i32], start: usize, end: usize) -> usize
     count
 }
 
-/// Whether a row has a type id and an offset.
+// Whether a row has a type id and an offset.
 fn follows(ids: &[i8], offsets: &[i32], row: usize, id: i8, next: usize) -> bool
     requires typed { row < length ids.now }
     requires placed { row < length offsets.now }

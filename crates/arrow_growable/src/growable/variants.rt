@@ -28,7 +28,7 @@ use arrow_types::error::Error;
 /// The most rows that a child of a dense union has, since an offset has 32 bits.
 const MOST: usize = 2_147_483_648;
 
-/// Appends `len` rows of bound array `index`, from row `start` on, a run of one field at a time.
+// Appends `len` rows of bound array `index`, from row `start` on, a run of one field at a time.
 #[cycle(extend)]
 pub(crate) fn extend_variants(
     types: &mut Vec<i8>,
@@ -62,7 +62,7 @@ pub(crate) fn extend_variants(
     Ok(())
 }
 
-/// Appends so many null slots, which are null slots of the first field.
+// Appends so many null slots, which are null slots of the first field.
 #[cycle(extend_validity)]
 pub(crate) fn extend_null_variants(
     types: &mut Vec<i8>,
@@ -84,7 +84,7 @@ pub(crate) fn extend_null_variants(
     extend_null_variant(offsets, children, count)
 }
 
-/// Appends `count` rows of a field, those of bound array `index` from row `child_row` of its child on.
+// Appends `count` rows of a field, those of bound array `index` from row `child_row` of its child on.
 #[cycle(extend)]
 fn extend_variant(
     offsets: &mut Option<Vec<i32>>,
@@ -113,7 +113,7 @@ fn extend_variant(
     }
 }
 
-/// The same of a sparse union: each other child has a null slot in each row.
+// The same of a sparse union: each other child has a null slot in each row.
 #[cycle(extend)]
 fn extend_sparse(
     children: &mut [AnyGrowable],
@@ -135,7 +135,7 @@ fn extend_sparse(
     extend_chosen(children, field, index, child_row, count)
 }
 
-/// The same of a dense union: the rows lie behind those of the child, and other children stay as they are.
+// The same of a dense union: the rows lie behind those of the child, and other children stay as they are.
 #[cycle(extend)]
 fn extend_dense(
     offsets: &mut Vec<i32>,
@@ -162,7 +162,7 @@ fn extend_dense(
     extend_chosen(children, field, index, child_row, count)
 }
 
-/// Appends the rows to the child of the field.
+// Appends the rows to the child of the field.
 #[cycle(extend)]
 fn extend_chosen(
     children: &mut [AnyGrowable],
@@ -183,7 +183,7 @@ fn extend_chosen(
     children[field].extend(index, child_row, count)
 }
 
-/// Appends so many null slots to each child but that of a field.
+// Appends so many null slots to each child but that of a field.
 fn extend_others(children: &mut [AnyGrowable], field: usize, count: usize) -> Result<(), Error>
     requires field { field < length children.old }
     requires well { All IsWell (map grown_of children.old) }
@@ -197,7 +197,7 @@ fn extend_others(children: &mut [AnyGrowable], field: usize, count: usize) -> Re
     extend_all_nulls(&mut children[field + 1..], count)
 }
 
-/// Appends rows of the first field that are null slots: in a sparse union to all children, in a dense one to the first.
+// Appends rows of the first field that are null slots: in a sparse union to all children, in a dense one to the first.
 #[cycle(extend_validity)]
 fn extend_null_variant(
     offsets: &mut Option<Vec<i32>>,
@@ -222,7 +222,7 @@ fn extend_null_variant(
     }
 }
 
-/// Appends so many null slots to the first child of a dense union.
+// Appends so many null slots to the first child of a dense union.
 #[cycle(extend_validity)]
 fn extend_first_nulls(
     offsets: &mut Vec<i32>,
@@ -245,10 +245,7 @@ fn extend_first_nulls(
     extend_nulls(&mut children[0], count)
 }
 
-/// Appends the type ids of `count` rows of an array, from row `row` on.
-///
-/// # Errors
-/// `OutOfMemory` where memory is refused.
+// Appends the type ids of `count` rows of an array, from row `row` on.
 fn append_ids(
     types: &mut Vec<i8>,
     array: &UnionArray,
@@ -262,10 +259,7 @@ fn append_ids(
     Ok(types.extend_from_slice(&array.types().as_slice()[row..row + count])?)
 }
 
-/// Appends the type id of the first field so often.
-///
-/// # Errors
-/// `OutOfMemory` where memory is refused.
+// Appends the type id of the first field so often.
 fn append_first_id(types: &mut Vec<i8>, data_type: &DataType, count: usize) -> Result<(), Error>
     requires kind { IsCarriedAs physical.Union (type_of data_type.now) }
     requires room { length types.old.items + count < 2 ^ 64 }
@@ -275,7 +269,7 @@ fn append_first_id(types: &mut Vec<i8>, data_type: &DataType, count: usize) -> R
     Ok(types.resize(types.len() + count, first_id(data_type))?)
 }
 
-/// The type id of the first field of a union.
+// The type id of the first field of a union.
 fn first_id(data_type: &DataType) -> i8
     requires { IsCarriedAs physical.Union (type_of data_type.now) }
     ensures { result ≡ id_at (field_ids (type_of data_type.now)) 0 }
@@ -287,10 +281,7 @@ fn first_id(data_type: &DataType) -> i8
     }
 }
 
-/// Appends the offsets of `count` rows of a child, from row `place` on.
-///
-/// # Errors
-/// `Overflow` exactly where an offset is too small for the last of these; `OutOfMemory` where memory is refused.
+// Appends the offsets of `count` rows of a child, from row `place` on.
 fn append_places(offsets: &mut Vec<i32>, place: usize, count: usize) -> Result<(), Error>
     requires { place ≤ 2 ^ 31 }
     ensures ok { OnOk result (offsets.new.items ≡ offsets.old.items ++ map pos (range_with_len place count)) }

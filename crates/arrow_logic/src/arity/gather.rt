@@ -11,13 +11,7 @@ use arrow_memory::bitmap::{Bitmap, MutableBitmap, WORD_BITS};
 use arrow_types::error::Error;
 use std::alloc::Global;
 
-/// What the closure answers to each row below `len`.
-///
-/// # Requires
-/// It may be called on each.
-///
-/// # Errors
-/// `OutOfMemory` where memory is refused.
+// What the closure answers to each row below `len`.
 pub(super) fn gather<R: Copy, F: Fn(usize) -> R>(
     alloc: Global,
     len: usize,
@@ -35,13 +29,7 @@ pub(super) fn gather<R: Copy, F: Fn(usize) -> R>(
     Ok(values)
 }
 
-/// The same where an answer may be an error: the first one ends it.
-///
-/// # Requires
-/// As of [`gather`].
-///
-/// # Errors
-/// The first that the closure answers, and `OutOfMemory` where memory is refused.
+// The same where an answer may be an error: the first one ends it.
 pub(super) fn try_gather<R: Copy, F: Fn(usize) -> Result<R, Error>>(
     alloc: Global,
     len: usize,
@@ -59,13 +47,7 @@ pub(super) fn try_gather<R: Copy, F: Fn(usize) -> Result<R, Error>>(
     Ok(values)
 }
 
-/// The same where an answer is a value and a bit: the bits are gathered in words.
-///
-/// # Requires
-/// As of [`gather`].
-///
-/// # Errors
-/// `OutOfMemory` where memory is refused.
+// The same where an answer is a value and a bit: the bits are gathered in words.
 pub(super) fn gather_with_bits<R: Copy, F: Fn(usize) -> (R, bool)>(
     alloc: Global,
     len: usize,
@@ -89,10 +71,7 @@ pub(super) fn gather_with_bits<R: Copy, F: Fn(usize) -> (R, bool)>(
     Ok((values, bits.into_bitmap()?))
 }
 
-/// Appends the values of `count` answers, from row `row` on, and answers their bits as a word.
-///
-/// # Requires
-/// The closure may be called on these rows. `count` is at most 64, and there is room for so many values.
+// Appends the values of `count` answers, from row `row` on, and answers their bits as a word.
 fn append_answers<R: Copy, F: Fn(usize) -> (R, bool)>(
     values: &mut Vec<R>,
     op: &F,

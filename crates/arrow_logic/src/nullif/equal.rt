@@ -9,13 +9,7 @@ use arrow_types::error::Error;
 use arrow_types::types::NativeType;
 use std::alloc::Global;
 
-/// Whether each value equals the other one at its place.
-///
-/// # Requires
-/// There are as many of both.
-///
-/// # Errors
-/// `OutOfMemory` where memory is refused.
+// Whether each value equals the other one at its place.
 pub(super) fn equal_values<T: NativeType>(
     alloc: Global,
     left: &[T],
@@ -29,10 +23,7 @@ pub(super) fn equal_values<T: NativeType>(
     Bitmap::collect_bool(alloc, left.len(), |row| left[row] == right[row])
 }
 
-/// Whether each value equals another one.
-///
-/// # Errors
-/// `OutOfMemory` where memory is refused.
+// Whether each value equals another one.
 pub(super) fn equal_to_value<T: NativeType>(
     alloc: Global,
     values: &[T],

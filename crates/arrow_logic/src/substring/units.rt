@@ -96,7 +96,7 @@ impl Units for Binary {
     ghost allows_none = { tt };
 }
 
-/// Where the part of a row lies, which is the first `len` of these bytes: it is counted in bytes where each unit is one.
+// Where the part of a row lies, which is the first `len` of these bytes: it is counted in bytes where each unit is one.
 #[inline(always)]
 pub(crate) fn span_in<K: Units>(
     from: &[u8],
@@ -122,7 +122,7 @@ pub(crate) fn span_in<K: Units>(
     K::span(row, start, count)
 }
 
-/// Where a part lies among the bytes of a row, each of which is a unit.
+// Where a part lies among the bytes of a row, each of which is a unit.
 #[inline(always)]
 fn span_of_bytes(row: &[u8], start: i64, count: Option<u64>) -> (usize, usize)
     ensures rises { result.0 ≤ result.1 }
@@ -143,7 +143,7 @@ fn span_of_bytes(row: &[u8], start: i64, count: Option<u64>) -> (usize, usize)
     (begin, begin + count)
 }
 
-/// Whether each byte is below 0x80: all are read, and one test is made of what they have together.
+// Whether each byte is below 0x80: all are read, and one test is made of what they have together.
 fn are_ascii(bytes: &[u8]) -> bool
     ensures { IsTrue result ↔ IsAscii bytes.now }
 {
@@ -154,7 +154,7 @@ fn are_ascii(bytes: &[u8]) -> bool
     together < 0x80
 }
 
-/// Whether the first `len` bytes are known to be below 0x80: where they are 16 at most, and 16 can be read.
+// Whether the first `len` bytes are known to be below 0x80: where they are 16 at most, and 16 can be read.
 #[inline(always)]
 fn are_ascii_in_block(from: &[u8], len: usize) -> bool
     requires { len ≤ length from.now }
@@ -166,7 +166,7 @@ fn are_ascii_in_block(from: &[u8], len: usize) -> bool
     len <= ascii_at_front(from)
 }
 
-/// How many of 16 bytes come before the first one that is not below 0x80.
+// How many of 16 bytes come before the first one that is not below 0x80.
 #[inline(always)]
 fn ascii_at_front(from: &[u8]) -> usize
     requires { 16 ≤ length from.now }
@@ -178,14 +178,14 @@ fn ascii_at_front(from: &[u8]) -> usize
     BLOCK.min(high.trailing_zeros() as usize)
 }
 
-/// Whether a byte of a text begins a character, and does not go on with one.
+// Whether a byte of a text begins a character, and does not go on with one.
 fn begins_character(byte: u8) -> bool
     ensures { result ≡ begins byte }
 {
     byte < 0x80 || byte >= 0xC0
 }
 
-/// Where a part of a text begins: so many characters from the front or, where `start` is negative, from the end.
+// Where a part of a text begins: so many characters from the front or, where `start` is negative, from the end.
 fn begin_of_part(text: &[u8], start: i64) -> usize
     requires { IsUtf8 text.now }
     ensures rest { drop result text.now ≡ encode_utf8_all (drop (part_begin start (length (chars text.now))) (chars text.now)) }
@@ -199,7 +199,7 @@ fn begin_of_part(text: &[u8], start: i64) -> usize
     }
 }
 
-/// Where the first `count` characters of a text end: where it ends, if there are fewer. Nothing is read behind them.
+// Where the first `count` characters of a text end: where it ends, if there are fewer. Nothing is read behind them.
 fn end_of_first(text: &[u8], count: usize) -> usize
     ensures place { result ≡ skipped count text.now }
     ensures within { result ≤ length text.now }
@@ -216,10 +216,7 @@ fn end_of_first(text: &[u8], count: usize) -> usize
     text.len()
 }
 
-/// Where the last `count` characters of a text begin: at its front, if there are fewer. Nothing is read before them.
-///
-/// # Requires
-/// `count` is not 0.
+// Where the last `count` characters of a text begin: at its front, if there are fewer. Nothing is read before them.
 fn begin_of_last(text: &[u8], count: usize) -> usize
     requires text { IsUtf8 text.now }
     requires some { 0 < count }

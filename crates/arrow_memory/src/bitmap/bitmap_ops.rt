@@ -134,7 +134,7 @@ impl Bitmap {
     }
 }
 
-/// Turns each bit of words.
+// Turns each bit of words.
 fn turn(words: &mut [u64])
     ensures long { length words.new ≡ length words.old }
     ensures each { (i : ℕ) → i < 64 * length words.old → is_set words.new i ≡ not (is_set words.old i) }
@@ -144,7 +144,7 @@ fn turn(words: &mut [u64])
     }
 }
 
-/// A word with each bit turned.
+// A word with each bit turned.
 fn turned(word: u64) -> u64
     ensures { (k : ℕ) → k < 64 → (bit_at result k == 1) ≡ not (bit_at word k == 1) }
 {

@@ -58,10 +58,7 @@ impl Bitmap {
     }
 }
 
-/// What `test` answers of the 64 rows from row `64 * j` on, as far as they are below `len`.
-///
-/// # Requires
-/// It may be called on these rows, and there is one.
+// What `test` answers of the 64 rows from row `64 * j` on, as far as they are below `len`.
 fn word_of_rows<F: Fn(usize) -> bool>(test: &F, len: usize, j: usize) -> u64
     requires callable { (row : ℕ) → row < len → F.pre test.now row }
     requires some { 64 * j < len }
@@ -76,11 +73,8 @@ fn word_of_rows<F: Fn(usize) -> bool>(test: &F, len: usize, j: usize) -> u64
     u64::from(low) | u64::from(high) << HALF_BITS
 }
 
-/// What `test` answers of the 32 rows from row `start` on, a bit each, from the least significant one on. The count is
-/// known when the program is compiled, and no branch depends on a row, so that several rows are tested at once.
-///
-/// # Requires
-/// It may be called on these rows.
+// What `test` answers of the 32 rows from row `start` on, a bit each, from the least significant one on. The count is
+// known when the program is compiled, and no branch depends on a row, so that several rows are tested at once.
 fn half_of_rows<F: Fn(usize) -> bool>(test: &F, start: usize) -> u32
     requires callable { (row : ℕ) → row < start + 32 → F.pre test.now row }
     requires fits { start + 32 < 2 ^ 64 }
@@ -93,10 +87,7 @@ fn half_of_rows<F: Fn(usize) -> bool>(test: &F, start: usize) -> u32
     half
 }
 
-/// The same of fewer than 64 rows, the last ones.
-///
-/// # Requires
-/// It may be called on these rows.
+// The same of fewer than 64 rows, the last ones.
 fn bits_of_last<F: Fn(usize) -> bool>(test: &F, start: usize, count: usize) -> u64
     requires callable { (row : ℕ) → row < start + count → F.pre test.now row }
     requires in_word { count < 64 }

@@ -183,7 +183,7 @@ impl MutableBitmap {
     }
 }
 
-/// Makes room for more bits behind `len`, and answers how many there are to be.
+// Makes room for more bits behind `len`, and answers how many there are to be.
 fn reserve(words: &mut Vec<u64>, len: usize, more: usize) -> Result<usize, Error>
     requires { length words.old.items ≡ div_ceil len 64 }
     ensures unchanged { words.new.items ≡ words.old.items }

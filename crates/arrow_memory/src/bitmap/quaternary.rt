@@ -55,7 +55,7 @@ impl Bitmap {
     }
 }
 
-/// Puts what the bits of words give with those of three others, from a bit of each on, in their place.
+// Puts what the bits of words give with those of three others, from a bit of each on, in their place.
 fn combine_by_fours<L: QuaternaryLogic>(
     words: &mut [u64],
     second: &[u64],
@@ -93,7 +93,7 @@ fn combine_by_fours<L: QuaternaryLogic>(
     );
 }
 
-/// The 64 bits from bit `64 * j` behind a place on, where there are more.
+// The 64 bits from bit `64 * j` behind a place on, where there are more.
 #[inline(always)]
 fn word_before_last(words: &[u64], from: usize, j: usize) -> u64
     requires { from + 64 * j + 64 < 64 * length words.now }

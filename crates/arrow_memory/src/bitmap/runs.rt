@@ -44,8 +44,8 @@ impl<'a> BitRuns<'a> {
     }
 }
 
-/// Where the bits from `start` on end that are not set, and then the set ones behind them, at `end` at the latest.
-/// One word is read where both end in the 64 bits from `start` on.
+// Where the bits from `start` on end that are not set, and then the set ones behind them, at `end` at the latest.
+// One word is read where both end in the 64 bits from `start` on.
 fn run_ends(words: &[u64], start: usize, end: usize) -> (usize, usize)
     requires order { start ≤ end }
     requires within { end ≤ 64 * length words.now }
@@ -69,7 +69,7 @@ fn run_ends(words: &[u64], start: usize, end: usize) -> (usize, usize)
     (set, run_end(words, set, end, true))
 }
 
-/// Where the run of bits from `start` on ends that are equal to `bit`, at `end` at the latest.
+// Where the run of bits from `start` on ends that are equal to `bit`, at `end` at the latest.
 fn run_end(words: &[u64], start: usize, end: usize, bit: bool) -> usize
     requires order { start ≤ end }
     requires within { end ≤ 64 * length words.now }

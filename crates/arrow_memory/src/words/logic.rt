@@ -26,7 +26,7 @@ impl Logic for Second {
     }
 }
 
-/// Puts what the bits of words give with the others', from bit `from` of those on, in their place.
+// Puts what the bits of words give with the others', from bit `from` of those on, in their place.
 pub(crate) fn combine<L: Logic>(words: &mut [u64], others: &[u64], from: usize)
     requires part { from + 64 * length words.old < 64 * length others.now + 64 }
     requires fits { from + 64 * length words.old < 2 ^ 64 + 64 }

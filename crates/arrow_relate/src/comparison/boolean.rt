@@ -362,13 +362,7 @@ pub fn compare_op_scalar<F: Fn(u64, u64) -> u64>(
     Ok(truths(bits, shared(lhs.validity())?))
 }
 
-/// The bits that `op` answers of the words of some bits and of a scalar. It is called once for each word.
-///
-/// # Requires
-/// `op` may be called on each word.
-///
-/// # Errors
-/// `OutOfMemory` where memory is refused.
+// The bits that `op` answers of the words of some bits and of a scalar. It is called once for each word.
 fn bits_of_words<F: Fn(u64, u64) -> u64>(
     alloc: Global,
     stored: &Bitmap,
@@ -382,10 +376,7 @@ fn bits_of_words<F: Fn(u64, u64) -> u64>(
     Bitmap::collect_words(alloc, stored.len(), |j| answer_at(op, stored, scalar, j))
 }
 
-/// What `op` answers to word `j` of some bits and a word of the scalar.
-///
-/// # Requires
-/// It may be called on each word, and there is word `j`.
+// What `op` answers to word `j` of some bits and a word of the scalar.
 fn answer_at<F: Fn(u64, u64) -> u64>(op: &F, bits: &Bitmap, scalar: bool, j: usize) -> u64
     requires callable { TakesWords (F.pre op.now) bits.now scalar }
     requires some { 64 * j < length bits.now }
@@ -394,7 +385,7 @@ fn answer_at<F: Fn(u64, u64) -> u64>(op: &F, bits: &Bitmap, scalar: bool, j: usi
     op(bits.word(j), repeated(scalar))
 }
 
-/// A word of equal bits.
+// A word of equal bits.
 fn repeated(bit: bool) -> u64
     ensures { result ≡ word_of (replicate 64 bit) }
 {
@@ -425,7 +416,7 @@ impl<R: FixedRelation> RelatedToScalar<R, bool> for Bitmap {
     }
 }
 
-/// The bits with `unset` for each that is not set, and `set` for each that is. Those that stay as they are, are shared.
+// The bits with `unset` for each that is not set, and `set` for each that is. Those that stay as they are, are shared.
 fn replaced(alloc: Global, bits: &Bitmap, unset: bool, set: bool) -> Result<Bitmap, Error>
     ensures ok { IfOk result (λ made. made ≡ map (λ bit. if bit then set else unset) bits.now) }
     ensures err { IsOkUnless result Error.OutOfMemory }

@@ -270,7 +270,7 @@ impl ByteTest for Greater {}
 
 impl ByteTest for GreaterOrEqual {}
 
-/// Whether two rows have the same bytes.
+// Whether two rows have the same bytes.
 fn are_equal(left: &Row<'_>, right: &Row<'_>) -> bool
     ensures { result ≡ is_eq (byte_order left.now right.now) }
 {
@@ -290,7 +290,7 @@ fn are_equal(left: &Row<'_>, right: &Row<'_>) -> bool
     are_equal_slices(left.bytes(), right.bytes())
 }
 
-/// The same by the slices, in a call of its own.
+// The same by the slices, in a call of its own.
 #[inline(never)]
 fn are_equal_slices(left: &[u8], right: &[u8]) -> bool
     ensures { result ≡ is_eq (byte_order left.now right.now) }
@@ -298,7 +298,7 @@ fn are_equal_slices(left: &[u8], right: &[u8]) -> bool
     left == right
 }
 
-/// How two rows compare, by the first byte that differs, unsigned; a beginning comes before what goes on.
+// How two rows compare, by the first byte that differs, unsigned; a beginning comes before what goes on.
 fn order(left: &Row<'_>, right: &Row<'_>) -> Ordering
     ensures { result ≡ byte_order left.now right.now }
 {
@@ -316,7 +316,7 @@ fn order(left: &Row<'_>, right: &Row<'_>) -> Ordering
     left.bytes().cmp(right.bytes())
 }
 
-/// How many bytes of a block are alike, up to the first two that differ.
+// How many bytes of a block are alike, up to the first two that differ.
 fn alike(left: &[u8], right: &[u8]) -> usize
     requires left { 16 ≤ length left.now }
     requires right { 16 ≤ length right.now }
@@ -437,10 +437,7 @@ impl<'a, O: Offset, K: ByteKind> LentRows<'a, O, K> {
     }
 }
 
-/// Whether the relation holds of a row of both sides.
-///
-/// # Requires
-/// Both have it.
+// Whether the relation holds of a row of both sides.
 fn are_related<'a, R: ByteTest, O: Offset, K: ComparedBytes>(
     left: &LentRows<'a, O, K>,
     right: &LentRows<'a, O, K>,
@@ -453,10 +450,7 @@ fn are_related<'a, R: ByteTest, O: Offset, K: ComparedBytes>(
     R::of_rows::<K>(&left.row(row), &right.row(row))
 }
 
-/// Whether the relation holds of a row and a scalar.
-///
-/// # Requires
-/// There is the row.
+// Whether the relation holds of a row and a scalar.
 fn is_related<'a, R: ByteTest, O: Offset, K: ComparedBytes>(
     rows: &LentRows<'a, O, K>,
     scalar: &Row<'_>,

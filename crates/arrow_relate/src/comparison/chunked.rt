@@ -29,13 +29,7 @@ macro_rules! eight {
     };
 }
 
-/// The bits that `op` answers of chunks of values and of copies of a scalar. It is called once for each chunk.
-///
-/// # Requires
-/// `op` may be called on each chunk.
-///
-/// # Errors
-/// `OutOfMemory` where memory is refused.
+// The bits that `op` answers of chunks of values and of copies of a scalar. It is called once for each chunk.
 pub(super) fn bits_of_chunks<T: NativeType, F: Fn([T; 8], [T; 8]) -> u8>(
     alloc: Global,
     stored: &[T],
@@ -53,10 +47,7 @@ pub(super) fn bits_of_chunks<T: NativeType, F: Fn([T; 8], [T; 8]) -> u8>(
     )
 }
 
-/// What `op` answers of the eight chunks from chunk `8 * j` on, a byte each, as far as there are chunks.
-///
-/// # Requires
-/// `op` may be called on each chunk, and there is chunk `8 * j`.
+// What `op` answers of the eight chunks from chunk `8 * j` on, a byte each, as far as there are chunks.
 fn word_of_chunks<T: NativeType, F: Fn([T; 8], [T; 8]) -> u8>(
     stored: &[T],
     scalar: T,
@@ -75,10 +66,7 @@ fn word_of_chunks<T: NativeType, F: Fn([T; 8], [T; 8]) -> u8>(
     word
 }
 
-/// What `op` answers of chunk `j`, of which the last is filled with the default.
-///
-/// # Requires
-/// `op` may be called on each chunk, and there is a value in this one.
+// What `op` answers of chunk `j`, of which the last is filled with the default.
 fn answer_at<T: NativeType, F: Fn([T; 8], [T; 8]) -> u8>(
     stored: &[T],
     scalar: T,
@@ -97,7 +85,7 @@ fn answer_at<T: NativeType, F: Fn([T; 8], [T; 8]) -> u8>(
     op(eight!(value_at, rest), copies)
 }
 
-/// The value at a place.
+// The value at a place.
 fn value_at<T: NativeType>(values: &[T], i: usize) -> T
     requires { i < length values.now }
     ensures { result ≡ slice_index_or values.now i T.zero }
@@ -105,7 +93,7 @@ fn value_at<T: NativeType>(values: &[T], i: usize) -> T
     values[i]
 }
 
-/// The value at a place, or the default behind the last.
+// The value at a place, or the default behind the last.
 fn value_or_default<T: NativeType>(values: &[T], i: usize) -> T
     ensures { result ≡ slice_index_or values.now i T.zero }
 {

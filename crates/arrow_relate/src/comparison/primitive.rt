@@ -440,7 +440,7 @@ impl<T: NativeType, R: Test<T>> RelatedToScalar<R, T> for Buffer<T> {
     }
 }
 
-/// Whether the relation holds of a value and another one.
+// Whether the relation holds of a value and another one.
 fn is_related<T: NativeType, R: Test<T>>(values: &[T], other: T, row: usize) -> bool
     requires { row < length values.now }
     ensures { slice_get (map (λ s. related R.op s (T.slot other)) (map T.slot values.now)) row ≡ Some (Boolean result) }

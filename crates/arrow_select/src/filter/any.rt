@@ -24,10 +24,7 @@ use arrow_memory::bitmap::Bitmap;
 use arrow_types::error::Error;
 use std::alloc::Global;
 
-/// The mask of a predicate: its bits, and where it has a validity those that are set in both, joined a word at a time.
-///
-/// # Errors
-/// `OutOfMemory` where memory is refused.
+// The mask of a predicate: its bits, and where it has a validity those that are set in both, joined a word at a time.
 pub(super) fn mask_of_predicate(alloc: Global, filter: &BooleanArray) -> Result<Bitmap, Error>
     ensures ok { IfOk result (λ mask. mask ≡ mask_of (boolean_rows filter.now)) }
     ensures err { IsOkUnless result Error.OutOfMemory }
@@ -39,17 +36,14 @@ pub(super) fn mask_of_predicate(alloc: Global, filter: &BooleanArray) -> Result<
     Ok(mask)
 }
 
-/// How many bits of a mask are set, counted a word at a time.
+// How many bits of a mask are set, counted a word at a time.
 pub(super) fn count_set(mask: &Bitmap) -> usize
     ensures { result ≡ count_by (λ is_kept. is_kept) mask.now }
 {
     mask.len() - mask.unset_bits()
 }
 
-/// The rows that are kept, of which there are so many, in order, in an array of the same type.
-///
-/// # Errors
-/// `Overflow` where the rows do not fit the type, and `OutOfMemory` where memory is refused.
+// The rows that are kept, of which there are so many, in order, in an array of the same type.
 pub(super) fn kept(
     alloc: Global,
     array: &AnyArray,
@@ -96,7 +90,7 @@ pub(super) fn kept(
     }
 }
 
-/// The rows that are kept, by a growable over the array that has none yet.
+// The rows that are kept, by a growable over the array that has none yet.
 fn selected(
     growable: AnyGrowable,
     array: &AnyArray,
@@ -118,7 +112,7 @@ fn selected(
     growable.as_box()
 }
 
-/// Appends the rows at which the mask is set, a run of them at a time.
+// Appends the rows at which the mask is set, a run of them at a time.
 fn append_selected(growable: &mut AnyGrowable, array: &AnyArray, mask: &Bitmap) -> Result<(), Error>
     requires bound { grown_of growable.old ≡ bound_to (layout_of array.now ∷ []) }
     requires lengths { length mask.now ≡ length (any_array_rows array.now) }
@@ -138,7 +132,7 @@ fn append_selected(growable: &mut AnyGrowable, array: &AnyArray, mask: &Bitmap) 
     Ok(())
 }
 
-/// Appends the rows that a prepared filter keeps, a range of them at a time.
+// Appends the rows that a prepared filter keeps, a range of them at a time.
 fn append_ranges(growable: &mut AnyGrowable, array: &AnyArray, filter: &Filter) -> Result<(), Error>
     requires bound { grown_of growable.old ≡ bound_to (layout_of array.now ∷ []) }
     requires lengths { length filter.now ≡ length (any_array_rows array.now) }

@@ -12,14 +12,8 @@ use arrow_flat::array::BooleanArray;
 use arrow_types::error::Error;
 use std::alloc::Global;
 
-/// The rows that are kept, in an array of the same type. Where all rows are kept the array is shared, and
-/// nothing is copied.
-///
-/// # Requires
-/// The selection is of as many rows as the array has, and `count` of them are kept.
-///
-/// # Errors
-/// `OutOfMemory` where memory is refused.
+// The rows that are kept, in an array of the same type. Where all rows are kept the array is shared, and
+// nothing is copied.
 pub(super) fn filter_boolean(
     alloc: Global,
     array: &BooleanArray,

@@ -28,15 +28,9 @@ use arrow_types::error::Error;
 use arrow_types::types::Offset;
 use std::alloc::Global;
 
-/// The rows that are kept, in an array of the same type. What lies beneath a null comes with it, so no row is
-/// looked at, and all have at most the bytes of the array, which fit. Where all rows are kept the array is shared, and
-/// nothing is copied.
-///
-/// # Requires
-/// The selection is of as many rows as the array has, and `count` of them are kept.
-///
-/// # Errors
-/// `OutOfMemory` where memory is refused.
+// The rows that are kept, in an array of the same type. What lies beneath a null comes with it, so no row is
+// looked at, and all have at most the bytes of the array, which fit. Where all rows are kept the array is shared, and
+// nothing is copied.
 pub(super) fn filter_bytes<O: Offset, K: GrowableKind>(
     alloc: Global,
     array: &FlatArray<ByteRows<O, K>>,
@@ -63,10 +57,7 @@ pub(super) fn filter_bytes<O: Offset, K: GrowableKind>(
     Ok(FlatArray::<ByteRows<O, K>>::new(data_type.clone()?, ends, bytes, validity))
 }
 
-/// Where the rows end that are kept, of which there are so many, and their bytes.
-///
-/// # Errors
-/// `OutOfMemory` where memory is refused.
+// Where the rows end that are kept, of which there are so many, and their bytes.
 fn kept_parts<O: Offset, K: ByteKind>(
     alloc: Global,
     array: &FlatArray<ByteRows<O, K>>,
@@ -86,11 +77,8 @@ fn kept_parts<O: Offset, K: ByteKind>(
     Ok((ends.into_buffer()?, bytes))
 }
 
-/// Where the bytes lie of the rows that are kept, of which there are so many, a span for each run of them, and where these
-/// rows end.
-///
-/// # Errors
-/// `OutOfMemory` where memory is refused.
+// Where the bytes lie of the rows that are kept, of which there are so many, a span for each run of them, and where these
+// rows end.
 fn spans_of<O: Offset>(
     alloc: Global,
     rows: &OffsetsBuffer<O>,
@@ -109,11 +97,8 @@ fn spans_of<O: Offset>(
     }
 }
 
-/// Where the bytes lie of the rows at which the mask is set, of which there are so many, a span for each run of them, and where
-/// these rows end: in one walk over the mask.
-///
-/// # Errors
-/// `OutOfMemory` where memory is refused.
+// Where the bytes lie of the rows at which the mask is set, of which there are so many, a span for each run of them, and where
+// these rows end: in one walk over the mask.
 fn kept_spans<O: Offset>(
     alloc: Global,
     rows: &OffsetsBuffer<O>,
@@ -145,10 +130,7 @@ fn kept_spans<O: Offset>(
     Ok((spans, ends))
 }
 
-/// The same of a prepared filter, by its ranges.
-///
-/// # Errors
-/// `OutOfMemory` where memory is refused.
+// The same of a prepared filter, by its ranges.
 fn ranged_spans<O: Offset>(
     alloc: Global,
     rows: &OffsetsBuffer<O>,
@@ -172,10 +154,7 @@ fn ranged_spans<O: Offset>(
     Ok((spans, ends))
 }
 
-/// Appends where `len` rows from row `start` on end. These offsets fit.
-///
-/// # Errors
-/// `OutOfMemory` where a growth is refused.
+// Appends where `len` rows from row `start` on end. These offsets fit.
 fn append_ends<O: Offset>(
     ends: &mut Offsets<O>,
     rows: &OffsetsBuffer<O>,

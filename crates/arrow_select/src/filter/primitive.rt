@@ -15,13 +15,7 @@ use arrow_types::error::Error;
 use arrow_types::types::NativeType;
 use std::alloc::Global;
 
-/// The rows that are kept, in an array of the same type, of any element type.
-///
-/// # Requires
-/// The selection is of as many rows as the array has, and `count` of them are kept.
-///
-/// # Errors
-/// `OutOfMemory` where memory is refused.
+// The rows that are kept, in an array of the same type, of any element type.
 pub(super) fn filter_primitive(
     alloc: Global,
     array: &AnyPrimitive,
@@ -56,7 +50,7 @@ pub(super) fn filter_primitive(
     }
 }
 
-/// The same of one element type. Where all rows are kept the array is shared, and nothing is copied.
+// The same of one element type. Where all rows are kept the array is shared, and nothing is copied.
 fn filter_values<T: NativeType>(
     alloc: Global,
     array: &PrimitiveArray<T>,

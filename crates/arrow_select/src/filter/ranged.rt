@@ -14,10 +14,7 @@ use std::alloc::Global;
 /// How many values a range is copied as where it has no more.
 const BLOCK: usize = 16;
 
-/// The values that the filter keeps. There is room for them, and for a block more, from the first on.
-///
-/// # Errors
-/// `OutOfMemory` where memory is refused.
+// The values that the filter keeps. There is room for them, and for a block more, from the first on.
 #[inline(never)]
 pub(super) fn ranged_values<T: NativeType>(
     alloc: Global,
@@ -35,12 +32,9 @@ pub(super) fn ranged_values<T: NativeType>(
     Ok(kept)
 }
 
-/// Appends the values of a range. No more than a block are copied as a block, where there are so many behind the first and
-/// there is room for it, and are then cut: such a copy is a few moves, and needs neither a call nor a loop whose end is
-/// guessed.
-///
-/// # Errors
-/// `OutOfMemory` where a growth is refused.
+// Appends the values of a range. No more than a block are copied as a block, where there are so many behind the first and
+// there is room for it, and are then cut: such a copy is a few moves, and needs neither a call nor a loop whose end is
+// guessed.
 #[inline(always)]
 fn append_range<T: NativeType>(
     out: &mut Vec<T>,
@@ -64,10 +58,7 @@ fn append_range<T: NativeType>(
     Ok(())
 }
 
-/// The bits that the filter keeps.
-///
-/// # Errors
-/// `OutOfMemory` where memory is refused.
+// The bits that the filter keeps.
 pub(super) fn ranged_bits(alloc: Global, bits: &Bitmap, filter: &Filter) -> Result<Bitmap, Error>
     requires { length filter.now ≡ length bits.now }
     ensures ok { IfOk result (λ kept. kept ≡ at_set filter.now bits.now) }

@@ -9,11 +9,8 @@ use arrow_memory::bitmap::{Bitmap, WORD_BITS};
 use arrow_types::error::Error;
 use std::alloc::Global;
 
-/// The runs of rows at which the mask is set, each its first row and its length. A run that reaches the end of a word is
-/// under way, and goes on where the next word begins with a set bit.
-///
-/// # Errors
-/// `OutOfMemory` where memory is refused.
+// The runs of rows at which the mask is set, each its first row and its length. A run that reaches the end of a word is
+// under way, and goes on where the next word begins with a set bit.
 pub(super) fn ranges_of(alloc: Global, mask: &Bitmap) -> Result<Vec<(usize, usize)>, Error>
     ensures ok { IfOk result (λ ranges. IsRangesOf ranges.items mask.now) }
     ensures err { IsOkUnless result Error.OutOfMemory }
@@ -39,8 +36,8 @@ pub(super) fn ranges_of(alloc: Global, mask: &Bitmap) -> Result<Vec<(usize, usiz
     Ok(ranges)
 }
 
-/// The lowest run of set bits of a word that is not 0: where it begins, where it ends, and the word without it. Where the
-/// zeros below it are filled with ones, a carry runs through to its end.
+// The lowest run of set bits of a word that is not 0: where it begins, where it ends, and the word without it. Where the
+// zeros below it are filled with ones, a carry runs through to its end.
 #[inline(always)]
 fn lowest_run(word: u64) -> (usize, usize, u64)
     requires { 0 < word }
@@ -51,10 +48,7 @@ fn lowest_run(word: u64) -> (usize, usize, u64)
     (start as usize, end as usize, word & filled.wrapping_add(1))
 }
 
-/// Appends a run that has ended, unless it is empty.
-///
-/// # Errors
-/// `OutOfMemory` where a growth is refused.
+// Appends a run that has ended, unless it is empty.
 #[inline(always)]
 fn end_run(ranges: &mut Vec<(usize, usize)>, first: usize, count: usize) -> Result<(), Error>
     ensures ok { OnOk result (ranges.new.items ≡ ranges.old.items ++ ended first count) }

@@ -21,10 +21,7 @@ pub(super) enum Selection<'a> {
     Ranges(&'a Filter),
 }
 
-/// The values that are kept, of which there are so many, and their validity: none where theirs is none.
-///
-/// # Errors
-/// `OutOfMemory` where memory is refused.
+// The values that are kept, of which there are so many, and their validity: none where theirs is none.
 pub(super) fn kept_rows<T: NativeType>(
     alloc: Global,
     values: &[T],
@@ -52,10 +49,7 @@ pub(super) fn kept_rows<T: NativeType>(
     }
 }
 
-/// The validity of the rows that are kept, of which there are so many. There is none where theirs is none.
-///
-/// # Errors
-/// `OutOfMemory` where memory is refused.
+// The validity of the rows that are kept, of which there are so many. There is none where theirs is none.
 pub(super) fn kept_validity(
     alloc: Global,
     validity: Option<&Bitmap>,
@@ -72,10 +66,7 @@ pub(super) fn kept_validity(
     }
 }
 
-/// The bits that are kept, of which there are so many.
-///
-/// # Errors
-/// `OutOfMemory` where memory is refused.
+// The bits that are kept, of which there are so many.
 pub(super) fn kept_bits(
     alloc: Global,
     bits: &Bitmap,

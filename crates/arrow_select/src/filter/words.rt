@@ -40,7 +40,7 @@ pub fn extend_from_word<T: NativeType>(
     Ok(())
 }
 
-/// The lowest `count` bits of a word, with zeros above.
+// The lowest `count` bits of a word, with zeros above.
 fn low_word(word: u64, count: usize) -> u64
     requires { count ≤ 64 }
     ensures below { result < 2 ^ count }
@@ -53,7 +53,7 @@ fn low_word(word: u64, count: usize) -> u64
     }
 }
 
-/// Appends the values at which the bits of a word are set, of which none is set past them. There is room for them.
+// Appends the values at which the bits of a word are set, of which none is set past them. There is room for them.
 #[inline(always)]
 fn push_set<T: NativeType>(out: &mut Vec<T>, values: &[T], word: u64)
     requires in_word { length values.now ≤ 64 }
@@ -70,7 +70,7 @@ fn push_set<T: NativeType>(out: &mut Vec<T>, values: &[T], word: u64)
     }
 }
 
-/// Where the set bits of a word begin and how many there are, if they are one run and so many that a copy pays.
+// Where the set bits of a word begin and how many there are, if they are one run and so many that a copy pays.
 #[inline(always)]
 fn long_run(word: u64) -> Option<(usize, usize)>
     ensures { IfSome result (λ run. IsRunOf word run.0 run.1) }
@@ -82,7 +82,7 @@ fn long_run(word: u64) -> Option<(usize, usize)>
     Some((first as usize, ones as usize))
 }
 
-/// Appends so many values in one, for which there is room.
+// Appends so many values in one, for which there is room.
 #[inline(never)]
 fn append_run<T: NativeType>(out: &mut Vec<T>, run: &[T])
     requires { vec_len out.old + length run.now ≤ vec_capacity out.old }
@@ -95,7 +95,7 @@ fn append_run<T: NativeType>(out: &mut Vec<T>, run: &[T])
     };
 }
 
-/// The same as `push_set`, where a long run is copied in one.
+// The same as `push_set`, where a long run is copied in one.
 #[inline(always)]
 fn append_word<T: NativeType>(out: &mut Vec<T>, values: &[T], word: u64)
     requires in_word { length values.now ≤ 64 }
@@ -111,8 +111,8 @@ fn append_word<T: NativeType>(out: &mut Vec<T>, values: &[T], word: u64)
     }
 }
 
-/// Appends the values at which the bits of a word are set, and answers the bits of another at which they are, moved together
-/// as by `gathered`: in one walk, or by a copy and a shift where they are a long run.
+// Appends the values at which the bits of a word are set, and answers the bits of another at which they are, moved together
+// as by `gathered`: in one walk, or by a copy and a shift where they are a long run.
 #[inline(always)]
 fn append_both<T: NativeType>(out: &mut Vec<T>, values: &[T], bits: u64, word: u64) -> u64
     requires in_word { length values.now ≤ 64 }
@@ -132,7 +132,7 @@ fn append_both<T: NativeType>(out: &mut Vec<T>, values: &[T], bits: u64, word: u
     }
 }
 
-/// The same, one by one.
+// The same, one by one.
 #[inline(always)]
 fn push_both<T: NativeType>(out: &mut Vec<T>, values: &[T], bits: u64, word: u64) -> u64
     requires in_word { length values.now ≤ 64 }
@@ -156,10 +156,7 @@ fn push_both<T: NativeType>(out: &mut Vec<T>, values: &[T], bits: u64, word: u64
     kept
 }
 
-/// The values at which the mask is set, of which there are so many, and their validity: none where theirs is none.
-///
-/// # Errors
-/// `OutOfMemory` where memory is refused.
+// The values at which the mask is set, of which there are so many, and their validity: none where theirs is none.
 pub(super) fn set_rows<T: NativeType>(
     alloc: Global,
     values: &[T],
@@ -183,11 +180,8 @@ pub(super) fn set_rows<T: NativeType>(
     }
 }
 
-/// The values at which the mask is set, of which there are so many. What it appends to and the mask's clone are its own, so
-/// that neither is read again for a value: where they lie is in registers.
-///
-/// # Errors
-/// `OutOfMemory` where memory is refused.
+// The values at which the mask is set, of which there are so many. What it appends to and the mask's clone are its own, so
+// that neither is read again for a value: where they lie is in registers.
 #[inline(never)]
 fn set_values<T: NativeType>(
     alloc: Global,
@@ -206,10 +200,7 @@ fn set_values<T: NativeType>(
     Ok(kept)
 }
 
-/// The same, and the bits at which the mask is set.
-///
-/// # Errors
-/// `OutOfMemory` where memory is refused.
+// The same, and the bits at which the mask is set.
 #[inline(never)]
 fn set_values_and_bits<T: NativeType>(
     alloc: Global,
@@ -231,10 +222,7 @@ fn set_values_and_bits<T: NativeType>(
     Ok((kept, valid.into_bitmap()?))
 }
 
-/// Appends the values at which the mask is set, and the bits, in one walk over its words. There is room for the values.
-///
-/// # Errors
-/// `OutOfMemory` where a growth is refused.
+// Appends the values at which the mask is set, and the bits, in one walk over its words. There is room for the values.
 #[inline(always)]
 fn append_set_both<T: NativeType>(
     kept: &mut Vec<T>,
@@ -265,7 +253,7 @@ fn append_set_both<T: NativeType>(
     Ok(())
 }
 
-/// Appends the values at which the mask is set. There is room for them.
+// Appends the values at which the mask is set. There is room for them.
 #[inline(always)]
 fn append_set<T: NativeType>(kept: &mut Vec<T>, values: &[T], mask: &Bitmap)
     requires lengths { length mask.now ≡ length values.now }
@@ -284,10 +272,7 @@ fn append_set<T: NativeType>(kept: &mut Vec<T>, values: &[T], mask: &Bitmap)
     }
 }
 
-/// The bits at which the mask is set, of which there are so many.
-///
-/// # Errors
-/// `OutOfMemory` where memory is refused.
+// The bits at which the mask is set, of which there are so many.
 pub(super) fn set_bits(
     alloc: Global,
     bits: &Bitmap,
@@ -303,10 +288,7 @@ pub(super) fn set_bits(
     kept.into_bitmap()
 }
 
-/// Appends the bits at which the mask is set, a word at a time.
-///
-/// # Errors
-/// `OutOfMemory` where a growth is refused.
+// Appends the bits at which the mask is set, a word at a time.
 fn append_set_bits(kept: &mut MutableBitmap, bits: &Bitmap, mask: &Bitmap) -> Result<(), Error>
     requires none { kept.old ≡ [] }
     requires lengths { length mask.now ≡ length bits.now }
@@ -324,7 +306,7 @@ fn append_set_bits(kept: &mut MutableBitmap, bits: &Bitmap, mask: &Bitmap) -> Re
     Ok(())
 }
 
-/// The bits of a word at which a mask is set, moved together from the least significant one on, with zeros above.
+// The bits of a word at which a mask is set, moved together from the least significant one on, with zeros above.
 #[inline(always)]
 fn gathered(bits: u64, mask: u64) -> u64
     ensures { result ≡ word_of (set_in_word mask (word_bits bits)) }
@@ -335,7 +317,7 @@ fn gathered(bits: u64, mask: u64) -> u64
     }
 }
 
-/// So many bits of a word from a place on, with zeros above.
+// So many bits of a word from a place on, with zeros above.
 fn run_of_bits(bits: u64, first: usize, count: usize) -> u64
     requires some { 0 < count }
     requires within { first + count ≤ 64 }
@@ -344,7 +326,7 @@ fn run_of_bits(bits: u64, first: usize, count: usize) -> u64
     low_word(bits >> first, count)
 }
 
-/// The same, bit by bit.
+// The same, bit by bit.
 #[inline(always)]
 fn gather_each(bits: u64, mask: u64) -> u64
     ensures { result ≡ word_of (set_in_word mask (word_bits bits)) }

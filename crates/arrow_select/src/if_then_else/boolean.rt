@@ -12,13 +12,7 @@ use arrow_flat::array::BooleanArray;
 use arrow_types::error::Error;
 use std::alloc::Global;
 
-/// The rows that the predicate chooses, in an array of the left one's type.
-///
-/// # Requires
-/// Both arrays have as many rows as the predicate.
-///
-/// # Errors
-/// `OutOfMemory` where memory is refused.
+// The rows that the predicate chooses, in an array of the left one's type.
 pub(super) fn chosen_booleans(
     alloc: Global,
     predicate: &BooleanArray,

@@ -15,13 +15,7 @@ use arrow_types::error::Error;
 use arrow_types::types::NativeType;
 use std::alloc::Global;
 
-/// The rows that the predicate chooses, in an array of the left one's type, of any element type.
-///
-/// # Requires
-/// Both arrays have one element type, and as many rows as the predicate.
-///
-/// # Errors
-/// `OutOfMemory` where memory is refused.
+// The rows that the predicate chooses, in an array of the left one's type, of any element type.
 pub(super) fn chosen_primitives(
     alloc: Global,
     predicate: &BooleanArray,
@@ -61,13 +55,7 @@ pub(super) fn chosen_primitives(
     )
 }
 
-/// The same of one element type.
-///
-/// # Requires
-/// Both arrays have as many rows as the predicate.
-///
-/// # Errors
-/// `OutOfMemory` where memory is refused.
+// The same of one element type.
 fn chosen_numbers<T: NativeType>(
     alloc: Global,
     predicate: &BooleanArray,

@@ -76,7 +76,7 @@ impl<'a> Runs<'a> {
     }
 }
 
-/// Where the run of rows that are as row `start` ends, and the word in which the row behind it lies, if there is one.
+// Where the run of rows that are as row `start` ends, and the word in which the row behind it lies, if there is one.
 fn run_end(predicate: &BooleanArray, start: usize, word: Word, truth: Option<bool>) -> (usize, Word)
     requires rows { AreRowsOf (boolean_rows predicate.now) (start / 64) word.valid word.values }
     requires within { start < length (boolean_rows predicate.now) }
@@ -99,7 +99,7 @@ fn run_end(predicate: &BooleanArray, start: usize, word: Word, truth: Option<boo
     (end, word)
 }
 
-/// The rows from row `64 * j` on.
+// The rows from row `64 * j` on.
 fn word_at(predicate: &BooleanArray, j: usize) -> Word
     ensures { AreRowsOf (boolean_rows predicate.now) j result.valid result.values }
 {
@@ -109,7 +109,7 @@ fn word_at(predicate: &BooleanArray, j: usize) -> Word
     }
 }
 
-/// Which of the 64 rows from row `64 * j` on are valid, a bit each.
+// Which of the 64 rows from row `64 * j` on are valid, a bit each.
 pub(super) fn valid_word(validity: Option<&Bitmap>, j: usize) -> u64
     ensures { (k : ℕ) → k < 64 → IfSome (option_copied validity.entry) (λ bits. 64 * j + k < length bits) → (bit_at result k == 1) ≡ valid_at (option_copied validity.entry) (64 * j + k) }
 {
@@ -142,7 +142,7 @@ impl Word {
     }
 }
 
-/// The rows that are not so, of 64 that are valid where a bit of the one word is set, and have the values of the other.
+// The rows that are not so, of 64 that are valid where a bit of the one word is set, and have the values of the other.
 fn others(truth: Option<bool>, valid: u64, values: u64) -> u64
     ensures { (k : ℕ) → k < 64 → (bit_at result k == 1) ≡ not (is_truth truth (bit_at valid k == 1) (bit_at values k == 1)) }
 {

@@ -15,13 +15,7 @@ use arrow_types::error::Error;
 use arrow_types::types::NativeType;
 use std::alloc::Global;
 
-/// The values that bits choose: those of the left side where a bit is set, and of the right one where it is not.
-///
-/// # Requires
-/// Both sides have a value for each bit.
-///
-/// # Errors
-/// `OutOfMemory` where memory is refused.
+// The values that bits choose: those of the left side where a bit is set, and of the right one where it is not.
 #[inline(never)]
 pub(super) fn chosen_values<T: NativeType>(
     alloc: Global,
@@ -45,7 +39,7 @@ pub(super) fn chosen_values<T: NativeType>(
     Ok(values)
 }
 
-/// Appends the values that the bits of a word choose, for which there is room. Those of one side are one copy.
+// Appends the values that the bits of a word choose, for which there is room. Those of one side are one copy.
 #[inline(always)]
 fn append_word<T: NativeType>(values: &mut Vec<T>, word: u64, left: &[T], right: &[T])
     requires lengths { length left.now ≡ length right.now }
@@ -64,7 +58,7 @@ fn append_word<T: NativeType>(values: &mut Vec<T>, word: u64, left: &[T], right:
     }
 }
 
-/// Appends values in one, for which there is room.
+// Appends values in one, for which there is room.
 fn append_copy<T: NativeType>(values: &mut Vec<T>, others: &[T])
     requires { vec_len values.old + length others.now ≤ vec_capacity values.old }
     ensures items { values.new.items ≡ values.old.items ++ others.now }
@@ -76,7 +70,7 @@ fn append_copy<T: NativeType>(values: &mut Vec<T>, others: &[T])
     };
 }
 
-/// Appends the values that the bits of a word choose, one by one, for which there is room. No branch depends on a bit.
+// Appends the values that the bits of a word choose, one by one, for which there is room. No branch depends on a bit.
 #[inline(always)]
 fn push_chosen<T: NativeType>(values: &mut Vec<T>, word: u64, left: &[T], right: &[T])
     requires lengths { length left.now ≡ length right.now }
@@ -91,7 +85,7 @@ fn push_chosen<T: NativeType>(values: &mut Vec<T>, word: u64, left: &[T], right:
     }
 }
 
-/// One of two values.
+// One of two values.
 #[inline(always)]
 fn either<T: NativeType>(bit: bool, left: T, right: T) -> T
     ensures { result ≡ (if bit then left else right) }
@@ -99,13 +93,7 @@ fn either<T: NativeType>(bit: bool, left: T, right: T) -> T
     if bit { left } else { right }
 }
 
-/// The bits that others choose: those of the left side where a bit is set, and of the right one where it is not.
-///
-/// # Requires
-/// Both sides have a bit for each bit.
-///
-/// # Errors
-/// `OutOfMemory` where memory is refused.
+// The bits that others choose: those of the left side where a bit is set, and of the right one where it is not.
 pub(super) fn chosen_bits(
     alloc: Global,
     bits: &Bitmap,
@@ -120,28 +108,22 @@ pub(super) fn chosen_bits(
     Bitmap::collect_words(alloc, bits.len(), |j| chosen_word(bits, left, right, j))
 }
 
-/// The bits that 64 others from bit `64 * j` on choose.
+// The bits that 64 others from bit `64 * j` on choose.
 fn chosen_word(bits: &Bitmap, left: &Bitmap, right: &Bitmap, j: usize) -> u64
     ensures { (k : ℕ) → k < 64 → (bit_at result k == 1) ≡ (if slice_index_or bits.now (64 * j + k) false then slice_index_or left.now (64 * j + k) false else slice_index_or right.now (64 * j + k) false) }
 {
     either_word(bits.word(j), left.word(j), right.word(j))
 }
 
-/// Each bit of the left word where one is set, and of the right one where it is not.
+// Each bit of the left word where one is set, and of the right one where it is not.
 fn either_word(word: u64, left: u64, right: u64) -> u64
     ensures { (k : ℕ) → k < 64 → (bit_at result k == 1) ≡ (if bit_at word k == 1 then bit_at left k == 1 else bit_at right k == 1) }
 {
     word & left | !word & right
 }
 
-/// The validity of the rows that a predicate chooses of arrays of these validities. There is none where none of the three
-/// has one.
-///
-/// # Requires
-/// Each validity has a bit for each row.
-///
-/// # Errors
-/// `OutOfMemory` where memory is refused.
+// The validity of the rows that a predicate chooses of arrays of these validities. There is none where none of the three
+// has one.
 pub(super) fn chosen_validity(
     alloc: Global,
     predicate: &BooleanArray,
@@ -162,7 +144,7 @@ pub(super) fn chosen_validity(
     Ok(Some(bits))
 }
 
-/// Which of the 64 rows that a predicate chooses from row `64 * j` on are valid, a bit each.
+// Which of the 64 rows that a predicate chooses from row `64 * j` on are valid, a bit each.
 fn valid_rows(
     predicate: &BooleanArray,
     left: Option<&Bitmap>,

@@ -20,7 +20,7 @@ use arrow_types::error::Error;
 use arrow_types::types::Index;
 use std::alloc::Global;
 
-/// The rows that the indices name, of an array of any type but a struct.
+// The rows that the indices name, of an array of any type but a struct.
 pub(super) fn take_one<I: Index>(
     alloc: Global,
     values: &AnyArray,
@@ -66,10 +66,7 @@ pub(super) fn take_one<I: Index>(
     }
 }
 
-/// As many nulls as there are indices.
-///
-/// # Errors
-/// `OutOfMemory` where memory is refused.
+// As many nulls as there are indices.
 fn take_nulls<I: Index>(values: &NullArray, indices: &PrimitiveArray<I>) -> Result<NullArray, Error>
     requires { AreIndices (length (null_rows values.now)) (rows_by (map I.slot) indices.now) }
     ensures array_type { IfOk result (λ taken. taken.arrow_type ≡ values.now.arrow_type) }
@@ -84,10 +81,7 @@ fn take_nulls<I: Index>(values: &NullArray, indices: &PrimitiveArray<I>) -> Resu
     Ok(taken)
 }
 
-/// The rows that the indices name, of an array of any element type.
-///
-/// # Errors
-/// `OutOfMemory` where memory is refused.
+// The rows that the indices name, of an array of any element type.
 fn take_primitive<I: Index>(
     alloc: Global,
     values: &AnyPrimitive,

@@ -20,8 +20,8 @@ use arrow_growable::growable::Growable;
 use arrow_types::error::Error;
 use arrow_types::types::Index;
 
-/// Appends the rows of the one array that is bound which the indices name, a run of them at a time, and null slots where
-/// indices are null. The growable has no row yet.
+// Appends the rows of the one array that is bound which the indices name, a run of them at a time, and null slots where
+// indices are null. The growable has no row yet.
 pub(super) fn append_taken<'a, G: Growable<'a>, I: Index>(
     growable: &mut G,
     len: usize,

@@ -56,10 +56,7 @@ pub fn take<O: Offset, K: GrowableKind, I: Index>(
     Ok(FlatArray::<ByteRows<O, K>>::new(data_type, offsets, bytes, validity))
 }
 
-/// Where the rows that the indices name end, and their bytes.
-///
-/// # Errors
-/// `Overflow` where they have too many bytes, `OutOfMemory` where memory is refused.
+// Where the rows that the indices name end, and their bytes.
 fn take_rows<O: Offset, K: ByteKind, I: Index>(
     alloc: Global,
     values: &FlatArray<ByteRows<O, K>>,
@@ -80,8 +77,8 @@ fn take_rows<O: Offset, K: ByteKind, I: Index>(
     Ok((offsets.into_buffer()?, bytes))
 }
 
-/// Where the bytes of the row lie that index `row` names: nowhere where the index or that row is null. Both are read
-/// before the test, so that the test is a choice of values and no branch.
+// Where the bytes of the row lie that index `row` names: nowhere where the index or that row is null. Both are read
+// before the test, so that the test is a choice of values and no branch.
 fn span_at<O: Offset, I: Index>(
     rows: &OffsetsBuffer<O>,
     validity: Option<&Bitmap>,
@@ -111,10 +108,7 @@ fn span_at<O: Offset, I: Index>(
     }
 }
 
-/// Where the bytes lie of the rows that the indices name, and their offsets by index.
-///
-/// # Errors
-/// `Overflow` where they have too many bytes, `OutOfMemory` where memory is refused.
+// Where the bytes lie of the rows that the indices name, and their offsets by index.
 fn take_spans<O: Offset, K: ByteKind, I: Index>(
     alloc: Global,
     values: &FlatArray<ByteRows<O, K>>,

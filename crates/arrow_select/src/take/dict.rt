@@ -50,10 +50,7 @@ pub fn take<I: Index>(
     Ok(taken)
 }
 
-/// The keys that the indices name, null where an index is.
-///
-/// # Errors
-/// `OutOfMemory` where memory is refused.
+// The keys that the indices name, null where an index is.
 fn take_keys<I: Index>(
     alloc: Global,
     keys: &AnyKeys,
@@ -76,7 +73,7 @@ fn take_keys<I: Index>(
     }
 }
 
-/// The keys of one type that the indices name, null where an index is.
+// The keys of one type that the indices name, null where an index is.
 fn take_key<K: NativeType, I: Index>(
     alloc: Global,
     keys: &PrimitiveArray<K>,

@@ -48,11 +48,8 @@ pub fn take<I: Index>(
     Ok(taken)
 }
 
-/// The bytes of the rows that the indices name, and zeros where an index is null. A size that is one of the usual ones is known
-/// when its loop is compiled, so that a row is a move or two.
-///
-/// # Errors
-/// `Overflow` where the bytes can't be counted, `OutOfMemory` where memory is refused.
+// The bytes of the rows that the indices name, and zeros where an index is null. A size that is one of the usual ones is known
+// when its loop is compiled, so that a row is a move or two.
 fn take_rows<I: Index>(
     alloc: Global,
     values: &FixedSizeBinaryArray,
@@ -79,7 +76,7 @@ fn take_rows<I: Index>(
     Ok(taken)
 }
 
-/// Copies the rows that the indices name, of so many bytes each, over as many zeros. They stay where an index is null.
+// Copies the rows that the indices name, of so many bytes each, over as many zeros. They stay where an index is null.
 #[inline(always)]
 fn copy_rows<I: Index>(
     taken: &mut [u8],
@@ -106,7 +103,7 @@ fn copy_rows<I: Index>(
     }
 }
 
-/// Copies a row by where it is to a place that has zeros.
+// Copies a row by where it is to a place that has zeros.
 #[inline(always)]
 fn copy_row(taken: &mut [u8], bytes: &[u8], size: usize, start: usize, place: Option<usize>)
     requires room { start + size ≤ length taken.old }

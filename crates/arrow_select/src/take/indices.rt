@@ -18,7 +18,7 @@ use arrow_types::error::Error;
 use arrow_types::types::{Index, NativeType};
 use std::alloc::Global;
 
-/// Whether row `row` is valid.
+// Whether row `row` is valid.
 pub(super) fn is_valid(validity: Option<&Bitmap>, row: usize) -> bool
     requires { IfSome (option_copied validity) (λ bits. row < length bits) }
     ensures { result ≡ valid_at (option_copied validity.entry) row }
@@ -29,8 +29,8 @@ pub(super) fn is_valid(validity: Option<&Bitmap>, row: usize) -> bool
     }
 }
 
-/// The place that index `row` names, if it is not null. What is stored beneath a null does not count: it is read before
-/// the test, so that the test is a choice of values and no branch.
+// The place that index `row` names, if it is not null. What is stored beneath a null does not count: it is read before
+// the test, so that the test is a choice of values and no branch.
 pub(super) fn index_at<I: Index>(
     stored: &[I],
     validity: Option<&Bitmap>,
@@ -49,10 +49,7 @@ pub(super) fn index_at<I: Index>(
     }
 }
 
-/// The values that the indices name; for a null index the first of the values, or zero where there is none.
-///
-/// # Errors
-/// `OutOfMemory` where memory is refused.
+// The values that the indices name; for a null index the first of the values, or zero where there is none.
 pub(super) fn gather_values<T: NativeType, I: Index>(
     alloc: Global,
     values: &[T],
@@ -71,7 +68,7 @@ pub(super) fn gather_values<T: NativeType, I: Index>(
     Ok(taken)
 }
 
-/// So many values whose bits are all zero.
+// So many values whose bits are all zero.
 fn zeros<T: NativeType>(alloc: Global, count: usize) -> Result<Vec<T>, Error>
     ensures ok { IfOk result (λ values. values.items ≡ replicate count T.zero) }
     ensures err { IsOkUnless result Error.OutOfMemory }
@@ -81,7 +78,7 @@ fn zeros<T: NativeType>(alloc: Global, count: usize) -> Result<Vec<T>, Error>
     Ok(values)
 }
 
-/// Appends the values that the indices name, 64 at a time. There is room for them.
+// Appends the values that the indices name, 64 at a time. There is room for them.
 fn append_values<T: NativeType, I: Index>(
     taken: &mut Vec<T>,
     values: &[T],
@@ -102,8 +99,8 @@ fn append_values<T: NativeType, I: Index>(
     }
 }
 
-/// Appends the values that `count` indices from index `64 * j` on name. There is room for them, and no branch depends on a
-/// bit.
+// Appends the values that `count` indices from index `64 * j` on name. There is room for them, and no branch depends on a
+// bit.
 fn append_picked<T: NativeType, I: Index>(
     taken: &mut Vec<T>,
     values: &[T],
@@ -129,7 +126,7 @@ fn append_picked<T: NativeType, I: Index>(
     }
 }
 
-/// Which of the 64 rows from row `64 * j` on are valid, a bit each.
+// Which of the 64 rows from row `64 * j` on are valid, a bit each.
 fn valid_word(validity: Option<&Bitmap>, j: usize) -> u64
     ensures { (k : ℕ) → k < 64 → IfSome (option_copied validity.entry) (λ bits. 64 * j + k < length bits) → (bit_at result k == 1) ≡ valid_at (option_copied validity.entry) (64 * j + k) }
 {
@@ -139,8 +136,8 @@ fn valid_word(validity: Option<&Bitmap>, j: usize) -> u64
     }
 }
 
-/// The value that an index names, and the first one where it is null. What is stored beneath a null does not count: the
-/// index is chosen before it is turned into a place, so that the test is a choice of values and no branch.
+// The value that an index names, and the first one where it is null. What is stored beneath a null does not count: the
+// index is chosen before it is turned into a place, so that the test is a choice of values and no branch.
 fn value_at<T: NativeType, I: Index>(values: &[T], index: I, is_valid: bool) -> T
     requires some { 0 < length values.now }
     requires inside { IsIndex (length values.now) (if is_valid then I.slot index else Null) }
@@ -150,10 +147,7 @@ fn value_at<T: NativeType, I: Index>(values: &[T], index: I, is_valid: bool) -> 
     values[index.to_usize()]
 }
 
-/// The bits that the indices name; for a null index one that is not set.
-///
-/// # Errors
-/// `OutOfMemory` where memory is refused.
+// The bits that the indices name; for a null index one that is not set.
 pub(super) fn gather_bits<I: Index>(
     alloc: Global,
     bits: &Bitmap,
@@ -172,10 +166,7 @@ pub(super) fn gather_bits<I: Index>(
     taken.into_bitmap()
 }
 
-/// Appends the bits that the indices name, a word at a time.
-///
-/// # Errors
-/// `OutOfMemory` where a growth is refused.
+// Appends the bits that the indices name, a word at a time.
 fn append_bits<I: Index>(
     taken: &mut MutableBitmap,
     bits: &Bitmap,
@@ -200,7 +191,7 @@ fn append_bits<I: Index>(
     Ok(())
 }
 
-/// The bits that `count` indices from `row` on name, as a word.
+// The bits that `count` indices from `row` on name, as a word.
 fn bits_at<I: Index>(
     bits: &Bitmap,
     stored: &[I],
@@ -223,7 +214,7 @@ fn bits_at<I: Index>(
     word
 }
 
-/// The bit that index `row` names, and one that is not set where it is null.
+// The bit that index `row` names, and one that is not set where it is null.
 fn bit_at<I: Index>(bits: &Bitmap, stored: &[I], validity: Option<&Bitmap>, row: usize) -> bool
     requires some { 0 < length bits.now }
     requires fits { FitsRows (option_copied validity) (length stored.now) }
@@ -236,11 +227,8 @@ fn bit_at<I: Index>(bits: &Bitmap, stored: &[I], validity: Option<&Bitmap>, row:
     is_valid(validity, row) & bit
 }
 
-/// The validity of the rows that the indices name, where theirs is `validity`: a row is null where the index is, or the
-/// row that it names. There is none where neither has one.
-///
-/// # Errors
-/// `OutOfMemory` where memory is refused.
+// The validity of the rows that the indices name, where theirs is `validity`: a row is null where the index is, or the
+// row that it names. There is none where neither has one.
 pub(super) fn take_validity<I: Index>(
     alloc: Global,
     validity: Option<&Bitmap>,
@@ -257,10 +245,7 @@ pub(super) fn take_validity<I: Index>(
     }
 }
 
-/// The same indices, null where the row that they name is null under this validity of the rows by index.
-///
-/// # Errors
-/// `OutOfMemory` where memory is refused.
+// The same indices, null where the row that they name is null under this validity of the rows by index.
 pub(super) fn valid_indices<I: Index>(
     indices: &PrimitiveArray<I>,
     taken: &Option<Bitmap>,

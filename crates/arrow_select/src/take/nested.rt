@@ -17,13 +17,7 @@ use arrow_types::error::Error;
 use arrow_types::types::Index;
 use std::alloc::Global;
 
-/// The rows that the indices name, in their order, and null where an index is null, whatever lies beneath it.
-///
-/// # Requires
-/// There are so many rows, and each index that is not null is that of one.
-///
-/// # Errors
-/// `Overflow` where the rows do not fit the type, `OutOfMemory` where memory is refused.
+// The rows that the indices name, in their order, and null where an index is null, whatever lies beneath it.
 pub(super) fn take_nested<A: NestedArray, I: Index>(
     alloc: Global,
     values: &A,
@@ -43,7 +37,7 @@ pub(super) fn take_nested<A: NestedArray, I: Index>(
     grown(growable, values, len, indices)
 }
 
-/// The same, by a growable over the array that has no row yet.
+// The same, by a growable over the array that has no row yet.
 fn grown<'a, A: NestedArray + 'a, I: Index>(
     growable: GrowableOf<'a, A>,
     values: &A,

@@ -12,8 +12,8 @@ use crate::take::indices::index_at;
 use arrow_memory::bitmap::Bitmap;
 use arrow_types::types::Index;
 
-/// The place that index `row` names, if it is not null, and how many indices from there on name the places from this one
-/// on, or are null too: of rows of which there are `len`.
+// The place that index `row` names, if it is not null, and how many indices from there on name the places from this one
+// on, or are null too: of rows of which there are `len`.
 pub(super) fn run_at<I: Index>(
     stored: &[I],
     validity: Option<&Bitmap>,
@@ -36,7 +36,7 @@ pub(super) fn run_at<I: Index>(
     (place, count)
 }
 
-/// How many indices from `row` on name the places from `start` on, of rows of which there are `len`: the first does.
+// How many indices from `row` on name the places from `start` on, of rows of which there are `len`: the first does.
 fn rising_from<I: Index>(
     stored: &[I],
     validity: Option<&Bitmap>,
@@ -63,7 +63,7 @@ fn rising_from<I: Index>(
     count
 }
 
-/// How many indices from `row` on are null: the first is.
+// How many indices from `row` on are null: the first is.
 fn nulls_from<I: Index>(stored: &[I], validity: Option<&Bitmap>, row: usize, len: usize) -> usize
     requires fits { FitsRows (option_copied validity) (length stored.now) }
     requires within { row < length stored.now }

@@ -54,7 +54,7 @@ pub fn take<I: Index>(
     Ok(taken)
 }
 
-/// The rows of each field that the indices name.
+// The rows of each field that the indices name.
 #[cycle(take)]
 fn take_fields<I: Index>(
     alloc: Global,

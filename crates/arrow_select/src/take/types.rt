@@ -6,7 +6,7 @@ ghost use Rattle.arrow_select.specs.Taken.{AreTaken, IsTaken};
 
 use arrow_types::datatypes::{DataType, Field};
 
-/// Whether a type is one that `can_take` lists.
+// Whether a type is one that `can_take` lists.
 #[cycle(is_taken)]
 pub(super) fn is_taken(data_type: &DataType) -> bool
     ensures { IsTrue result ↔ IsTaken (type_of data_type.now) }
@@ -19,7 +19,7 @@ pub(super) fn is_taken(data_type: &DataType) -> bool
     }
 }
 
-/// Whether the type of each field is.
+// Whether the type of each field is.
 #[cycle(is_taken)]
 fn are_taken(fields: &[Field]) -> bool
     ensures { IsTrue result ↔ AreTaken (fields_of fields.now) }

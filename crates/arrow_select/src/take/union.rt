@@ -37,7 +37,7 @@ pub fn take<I: Index>(
     grown(growable, values, values.len(), indices)
 }
 
-/// The same, by a growable over the array that has no row yet.
+// The same, by a growable over the array that has no row yet.
 fn grown<'a, I: Index>(
     growable: GrowableUnion<'a>,
     values: &UnionArray,

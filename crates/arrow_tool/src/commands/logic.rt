@@ -57,7 +57,7 @@ pub(super) fn quantify(quantifier: Quantifier, arguments: &[Literal<'_>]) -> Ans
     })
 }
 
-/// Which rows are null, or which are not.
+// Which rows are null, or which are not.
 pub(super) fn is_null(alloc: Global, is_null: bool, arguments: &[Literal<'_>]) -> Answer {
     let [array] = arguments else {
         return Answer::Refused(Refusal::Usage);

@@ -38,7 +38,7 @@ pub(super) fn relate(alloc: Global, relation: Relation, arguments: &[Literal<'_>
     relate_arrays(alloc, relation, left, right)
 }
 
-/// Whether two arrays have one length and one data type, whose rows stand in an order.
+// Whether two arrays have one length and one data type, whose rows stand in an order.
 fn can_relate(lhs: &AnyArray, rhs: &AnyArray) -> bool
     ensures one_length { IsTrue result → length (any_array_rows lhs.now) ≡ length (any_array_rows rhs.now) }
     ensures one_type { IsTrue result → any_array_type lhs.now ≡ any_array_type rhs.now }
@@ -48,7 +48,7 @@ fn can_relate(lhs: &AnyArray, rhs: &AnyArray) -> bool
     lhs.len() == rhs.len() && are_of_one_type(lhs, rhs) && comparison::can_lt(lhs.data_type())
 }
 
-/// Whether two arrays are of one data type.
+// Whether two arrays are of one data type.
 fn are_of_one_type(lhs: &AnyArray, rhs: &AnyArray) -> bool
     ensures { IsTrue result ↔ (any_array_type lhs.now ≡ any_array_type rhs.now) }
 {

@@ -54,7 +54,7 @@ pub(super) fn build_filter(alloc: Global, arguments: &[Literal<'_>]) -> Answer {
     }
 }
 
-/// The rows that a filter keeps which is built of the predicate.
+// The rows that a filter keeps which is built of the predicate.
 fn build_and_apply(
     alloc: Global,
     predicate: &BooleanArray,

@@ -28,7 +28,7 @@ pub(super) fn substring(alloc: Global, arguments: &[Literal<'_>]) -> Answer {
     }
 }
 
-/// The length that an argument is, if it is one of 64 bits.
+// The length that an argument is, if it is one of 64 bits.
 fn length_of(argument: &Literal<'_>) -> Option<u64> {
     let Literal::Number(length) = argument else {
         return None;
@@ -38,7 +38,7 @@ fn length_of(argument: &Literal<'_>) -> Option<u64> {
     u64::try_from(length).ok()
 }
 
-/// The parts of texts from a start on, of so many characters at most.
+// The parts of texts from a start on, of so many characters at most.
 fn part(alloc: Global, array: &Literal<'_>, start: &Literal<'_>, length: &Option<u64>) -> Answer {
     let Literal::Number(start) = start else {
         return Answer::Refused(Refusal::Usage);

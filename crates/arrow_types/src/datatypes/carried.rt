@@ -47,7 +47,7 @@ impl DataType {
     }
 }
 
-/// Whether there is a field and all are carried.
+// Whether there is a field and all are carried.
 #[cycle(carried)]
 fn has_carried_fields(fields: &[Field]) -> bool
     ensures { IsTrue result ↔ (HasField (fields_of fields.now) × AreCarried (fields_of fields.now)) }
@@ -60,8 +60,8 @@ fn has_carried_fields(fields: &[Field]) -> bool
     !fields.is_empty()
 }
 
-/// Whether these can be the type ids of so many fields. An id that comes twice ends the search, so
-/// no list is read further than its first 129 ids.
+// Whether these can be the type ids of so many fields. An id that comes twice ends the search, so
+// no list is read further than its first 129 ids.
 fn are_type_ids(ids: &Option<Vec<i32>>, count: usize) -> bool
     ensures { IsTrue result ↔ AreTypeIds (ids_of ids.now) count }
 {
@@ -71,7 +71,7 @@ fn are_type_ids(ids: &Option<Vec<i32>>, count: usize) -> bool
     }
 }
 
-/// Whether each is a type id and none comes twice.
+// Whether each is a type id and none comes twice.
 fn are_distinct_ids(ids: &[i32]) -> bool
     ensures { IsTrue result ↔ AreDistinctIds ids.now }
 {

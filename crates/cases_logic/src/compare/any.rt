@@ -15,8 +15,8 @@ use arrow_types::datatypes::{DataType, PhysicalType};
 use arrow_types::types::PrimitiveType;
 use std::alloc::Global;
 
-/// Appends what is asked of the rows of two arrays. `Usage` unless both have as many rows and one data type, extensions around
-/// each apart, whose rows compare.
+// Appends what is asked of the rows of two arrays. `Usage` unless both have as many rows and one data type, extensions around
+// each apart, whose rows compare.
 pub(super) fn relate(
     alloc: Global,
     asked: Asked,
@@ -44,8 +44,8 @@ pub(super) fn relate(
     write_truths(out, truths)
 }
 
-/// Appends what is asked of the rows of an array and a scalar. `Usage` unless both have one data type, extensions around each
-/// apart, whose rows compare, through dictionaries at any depth.
+// Appends what is asked of the rows of an array and a scalar. `Usage` unless both have one data type, extensions around each
+// apart, whose rows compare, through dictionaries at any depth.
 pub(super) fn relate_scalar(
     alloc: Global,
     asked: Asked,
@@ -73,7 +73,7 @@ pub(super) fn relate_scalar(
     write_truths(out, truths)
 }
 
-/// Whether rows that lie so in memory are equal or not.
+// Whether rows that lie so in memory are equal or not.
 fn has_equality(layout: PhysicalType) -> bool
     ensures { IsTrue result ↔ HasEquality layout }
 {
@@ -88,7 +88,7 @@ fn has_equality(layout: PhysicalType) -> bool
     }
 }
 
-/// Whether they stand in an order.
+// Whether they stand in an order.
 fn has_order(layout: PhysicalType) -> bool
     ensures { IsTrue result ↔ HasOrder layout }
 {
@@ -98,7 +98,7 @@ fn has_order(layout: PhysicalType) -> bool
     }
 }
 
-/// How the rows of a type lie in memory, through dictionaries at any depth.
+// How the rows of a type lie in memory, through dictionaries at any depth.
 fn layout_through(data_type: &DataType) -> PhysicalType
     ensures { result ≡ physical_type_of (type_through (type_of data_type.now)) }
 {

@@ -9,7 +9,7 @@ use arrow_text::write::write_truths;
 use arrow_types::types::{NativeOrd, NativeType};
 use std::alloc::Global;
 
-/// Appends what is asked of two arrays of one element type. `Usage` unless both have one.
+// Appends what is asked of two arrays of one element type. `Usage` unless both have one.
 pub(crate) fn of_arrays(
     alloc: Global,
     asked: Asked,
@@ -26,7 +26,7 @@ pub(crate) fn of_arrays(
     )
 }
 
-/// Appends what is asked of an array and a scalar of one element type. `Usage` unless both have one.
+// Appends what is asked of an array and a scalar of one element type. `Usage` unless both have one.
 pub(crate) fn of_scalar(
     alloc: Global,
     asked: Asked,
@@ -43,7 +43,7 @@ pub(crate) fn of_scalar(
     )
 }
 
-/// Of two arrays of numbers. `Usage` unless they have as many rows.
+// Of two arrays of numbers. `Usage` unless they have as many rows.
 fn of_numbers<T: NativeOrd>(
     alloc: Global,
     asked: Asked,
@@ -57,7 +57,7 @@ fn of_numbers<T: NativeOrd>(
     write_truths(out, of_arrays!(asked, primitive(alloc, lhs, rhs)))
 }
 
-/// Of numbers and one of them. `Usage` where it is null.
+// Of numbers and one of them. `Usage` where it is null.
 fn of_number<T: NativeOrd>(
     alloc: Global,
     asked: Asked,
@@ -69,7 +69,7 @@ fn of_number<T: NativeOrd>(
     write_truths(out, of_scalar!(asked, primitive(alloc, lhs, rhs)))
 }
 
-/// Of two arrays of intervals, which stand in no order. `Usage` where one is asked for, and unless they have as many rows.
+// Of two arrays of intervals, which stand in no order. `Usage` where one is asked for, and unless they have as many rows.
 fn of_intervals<T: NativeType>(
     alloc: Global,
     asked: Asked,
@@ -90,7 +90,7 @@ fn of_intervals<T: NativeType>(
     write_truths(out, truths)
 }
 
-/// Of intervals and one of them. `Usage` where an order is asked for, and where it is null.
+// Of intervals and one of them. `Usage` where an order is asked for, and where it is null.
 fn of_interval<T: NativeType>(
     alloc: Global,
     asked: Asked,

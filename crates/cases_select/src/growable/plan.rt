@@ -52,7 +52,7 @@ impl Plan {
     }
 }
 
-/// One step.
+// One step.
 fn read_action(alloc: Global, piece: Piece<'_>) -> Result<Action, Fault> {
     let step = piece.step(alloc)?;
     match (step.name, step.arguments.as_slice()) {

@@ -12,7 +12,7 @@ use arrow_text::fault::Fault;
 use arrow_text::write::{show, write_made_or_name, write_name};
 use arrow_types::error::Error;
 
-/// Takes the steps over a growable of these arrays, and appends what each answers, with a space before it.
+// Takes the steps over a growable of these arrays, and appends what each answers, with a space before it.
 pub(super) fn run_actions<'a, G: Growable<'a>>(
     growable: &mut G,
     arrays: &[&AnyArray],
@@ -28,7 +28,7 @@ pub(super) fn run_actions<'a, G: Growable<'a>>(
     Ok(())
 }
 
-/// Takes one step, and appends its answer: how many rows there are, an array, or the name of an error.
+// Takes one step, and appends its answer: how many rows there are, an array, or the name of an error.
 fn run_action<'a, G: Growable<'a>>(
     growable: &mut G,
     arrays: &[&AnyArray],
@@ -52,7 +52,7 @@ fn run_action<'a, G: Growable<'a>>(
     }
 }
 
-/// Appends rows of one of the arrays that are there.
+// Appends rows of one of the arrays that are there.
 fn extend<'a, G: Growable<'a>>(
     growable: &mut G,
     arrays: &[&AnyArray],
@@ -74,7 +74,7 @@ fn extend<'a, G: Growable<'a>>(
     Ok(growable.extend(index, start, len))
 }
 
-/// Appends the rows of one of the arrays that are there which a filter of its length keeps.
+// Appends the rows of one of the arrays that are there which a filter of its length keeps.
 fn extend_into<'a, G: Growable<'a>>(
     growable: &mut G,
     arrays: &[&AnyArray],

@@ -55,7 +55,7 @@ impl Nested for StructArray {
     }
 }
 
-/// A growable of arrays that lie in memory so, of one data type.
+// A growable of arrays that lie in memory so, of one data type.
 pub(super) fn run_typed(
     alloc: Global,
     arrays: &[&AnyArray],
@@ -82,7 +82,7 @@ pub(super) fn run_typed(
     }
 }
 
-/// The same of arrays with children.
+// The same of arrays with children.
 fn run_nested_type(
     alloc: Global,
     arrays: &[&AnyArray],
@@ -109,7 +109,7 @@ fn run_nested_type(
     }
 }
 
-/// The same of numbers or intervals of one element type.
+// The same of numbers or intervals of one element type.
 fn run_primitive(
     alloc: Global,
     arrays: &[&AnyArray],
@@ -138,7 +138,7 @@ fn run_primitive(
     }
 }
 
-/// A growable of nulls, of the data type of the arrays.
+// A growable of nulls, of the data type of the arrays.
 fn run_null(alloc: Global, arrays: &[&AnyArray], plan: &Plan, out: &mut String) -> Result<(), Fault>
     requires some { 0 < length arrays.now }
     requires kind { physical_type_of (first_type (layouts_in arrays.now)) ≡ physical.Null }
@@ -156,7 +156,7 @@ fn run_null(alloc: Global, arrays: &[&AnyArray], plan: &Plan, out: &mut String) 
     }
 }
 
-/// A growable of arrays that lie in memory as its values do.
+// A growable of arrays that lie in memory as its values do.
 fn run_flat<'a, G: GrowableValues + 'a>(
     alloc: Global,
     arrays: &[&'a AnyArray],
@@ -190,7 +190,7 @@ fn run_flat<'a, G: GrowableValues + 'a>(
     }
 }
 
-/// A growable of arrays with children, of one kind.
+// A growable of arrays with children, of one kind.
 fn run_nested<'a, A: Nested + 'a>(
     alloc: Global,
     arrays: &[&'a AnyArray],
@@ -224,7 +224,7 @@ fn run_nested<'a, A: Nested + 'a>(
     }
 }
 
-/// A growable of dictionaries.
+// A growable of dictionaries.
 fn run_dictionaries(
     alloc: Global,
     arrays: &[&AnyArray],
@@ -248,7 +248,7 @@ fn run_dictionaries(
     }
 }
 
-/// Arrays of any type as arrays of dictionaries.
+// Arrays of any type as arrays of dictionaries.
 fn bind_dictionaries<'a>(
     alloc: Global,
     arrays: &[&'a AnyArray],
@@ -266,7 +266,7 @@ fn bind_dictionaries<'a>(
     Ok(bound)
 }
 
-/// An array of any type as one of dictionaries.
+// An array of any type as one of dictionaries.
 fn as_dictionary(array: &AnyArray) -> &DictionaryArray
     requires { kind_of array.now ≡ dictionary_kind }
     ensures { keyed_layout result.now ≡ layout_of array.now }
@@ -277,7 +277,7 @@ fn as_dictionary(array: &AnyArray) -> &DictionaryArray
     }
 }
 
-/// A growable of unions.
+// A growable of unions.
 fn run_unions(
     alloc: Global,
     arrays: &[&AnyArray],
@@ -301,7 +301,7 @@ fn run_unions(
     }
 }
 
-/// Arrays of any type as arrays of unions.
+// Arrays of any type as arrays of unions.
 fn bind_unions<'a>(alloc: Global, arrays: &[&'a AnyArray]) -> Result<Vec<&'a UnionArray>, Error>
     requires one_type { AreOfOneType (layouts_in arrays.now) }
     requires kind { kind_in (physical_type_of (first_type (layouts_in arrays.now))) ≡ union_kind }
@@ -316,7 +316,7 @@ fn bind_unions<'a>(alloc: Global, arrays: &[&'a AnyArray]) -> Result<Vec<&'a Uni
     Ok(bound)
 }
 
-/// An array of any type as one of unions.
+// An array of any type as one of unions.
 fn as_union(array: &AnyArray) -> &UnionArray
     requires { kind_of array.now ≡ union_kind }
     ensures { union_layout result.now ≡ layout_of array.now }

@@ -115,7 +115,7 @@ impl AnyKeys {
     }
 }
 
-/// The key of row `i`, or `None` where it is null.
+// The key of row `i`, or `None` where it is null.
 fn key_at<K: DictionaryKey>(keys: &PrimitiveArray<K>, i: usize) -> Option<usize>
     requires within { i < length (rows_by (map K.slot) keys.now) }
     requires not_negative { IsKeyIn (slice_index_or (rows_by (map K.slot) keys.now) i Null) }
@@ -130,7 +130,7 @@ fn key_at<K: DictionaryKey>(keys: &PrimitiveArray<K>, i: usize) -> Option<usize>
     }
 }
 
-/// Whether index `i` is null or that of one of so many rows.
+// Whether index `i` is null or that of one of so many rows.
 fn is_within<I: Index>(indices: &PrimitiveArray<I>, i: usize, len: usize) -> bool
     requires { i < length (rows_by (map I.slot) indices.now) }
     ensures { IsTrue result ↔ IsKey len (slice_index_or (rows_by (map I.slot) indices.now) i Null) }

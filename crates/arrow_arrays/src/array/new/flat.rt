@@ -29,7 +29,7 @@ use arrow_types::error::Error;
 use arrow_types::types::{NativeType, Offset, PrimitiveType};
 use std::alloc::Global;
 
-/// So many values whose bits are all zero.
+// So many values whose bits are all zero.
 pub(super) fn zeros<T: NativeType>(alloc: Global, count: usize) -> Result<Buffer<T>, Error>
     ensures ok { IfOk result (λ values. values ≡ replicate count T.zero) }
     ensures err { IsOkUnless result Error.OutOfMemory }
@@ -39,7 +39,7 @@ pub(super) fn zeros<T: NativeType>(alloc: Global, count: usize) -> Result<Buffer
     Buffer::from_vec(alloc, values)
 }
 
-/// The offsets of so many rows of no item.
+// The offsets of so many rows of no item.
 pub(super) fn zero_offsets<O: Offset>(
     alloc: Global,
     length: usize,
@@ -52,7 +52,7 @@ pub(super) fn zero_offsets<O: Offset>(
     offsets.into_buffer()
 }
 
-/// Null rows of a data type without children.
+// Null rows of a data type without children.
 pub(super) fn null_rows(
     alloc: Global,
     data_type: DataType,
@@ -79,7 +79,7 @@ pub(super) fn null_rows(
     }
 }
 
-/// Nulls of the null type.
+// Nulls of the null type.
 fn nulls(data_type: DataType, length: usize) -> AnyArray
     requires { IsCarriedAs physical.Null (type_of data_type) }
     ensures { IsNulls (type_of data_type) length result }
@@ -90,7 +90,7 @@ fn nulls(data_type: DataType, length: usize) -> AnyArray
     AnyArray::Null(array)
 }
 
-/// Null truth values.
+// Null truth values.
 fn null_booleans(alloc: Global, data_type: DataType, length: usize) -> Result<AnyArray, Error>
     requires { IsCarriedAs physical.Boolean (type_of data_type) }
     ensures ok { IfOk result (IsNulls (type_of data_type) length) }
@@ -104,7 +104,7 @@ fn null_booleans(alloc: Global, data_type: DataType, length: usize) -> Result<An
     Ok(AnyArray::Boolean(array))
 }
 
-/// Null numbers or intervals of one element type.
+// Null numbers or intervals of one element type.
 fn null_values<T: NativeType>(
     alloc: Global,
     data_type: DataType,
@@ -123,7 +123,7 @@ fn null_values<T: NativeType>(
     Ok(array)
 }
 
-/// Null texts or bytes, under offsets of either width.
+// Null texts or bytes, under offsets of either width.
 fn null_bytes<O: Offset, K: ByteKind>(
     alloc: Global,
     data_type: DataType,
@@ -145,7 +145,7 @@ fn null_bytes<O: Offset, K: ByteKind>(
     Ok(array)
 }
 
-/// How many bytes a row of the data type has; of another type, 0.
+// How many bytes a row of the data type has; of another type, 0.
 fn row_size(data_type: &DataType) -> usize
     ensures { result ≡ fixed_size_in (type_of data_type.now) }
 {
@@ -156,11 +156,7 @@ fn row_size(data_type: &DataType) -> usize
     }
 }
 
-/// Null rows of bytes of a fixed size.
-///
-/// # Errors
-/// `Overflow` where the bytes of all rows are not counted by a `usize`, otherwise `OutOfMemory` where
-/// memory is refused.
+// Null rows of bytes of a fixed size.
 fn null_fixed_bytes(alloc: Global, data_type: DataType, length: usize) -> Result<AnyArray, Error>
     requires { IsCarriedAs physical.FixedSizeBinary (type_of data_type) }
     ensures ok { IfOk result (IsNulls (type_of data_type) length) }
@@ -178,7 +174,7 @@ fn null_fixed_bytes(alloc: Global, data_type: DataType, length: usize) -> Result
     Ok(AnyArray::FixedSizeBinary(array))
 }
 
-/// Null numbers or intervals.
+// Null numbers or intervals.
 fn null_primitives(
     alloc: Global,
     data_type: DataType,
@@ -209,7 +205,7 @@ fn null_primitives(
     Ok(AnyArray::Primitive(array))
 }
 
-/// Keys of a dictionary, all null.
+// Keys of a dictionary, all null.
 pub(super) fn null_keys(alloc: Global, keys: IntegerType, length: usize) -> Result<AnyKeys, Error>
     ensures same { IfOk result (λ any. key_type_of any ≡ keys) }
     ensures rows { IfOk result (λ any. key_rows any ≡ replicate length Null) }

@@ -25,7 +25,7 @@ use arrow_types::datatypes::{DataType, IntegerType};
 use arrow_types::error::Error;
 use std::alloc::Global;
 
-/// Null lists, of no item each.
+// Null lists, of no item each.
 pub(super) fn null_lists(
     alloc: Global,
     data_type: DataType,
@@ -46,7 +46,7 @@ pub(super) fn null_lists(
     Ok(AnyArray::List(array))
 }
 
-/// Null maps, of no entry each.
+// Null maps, of no entry each.
 pub(super) fn null_maps(
     alloc: Global,
     data_type: DataType,
@@ -66,7 +66,7 @@ pub(super) fn null_maps(
     Ok(AnyArray::Map(array))
 }
 
-/// Null lists of a fixed size, over items that are null slots.
+// Null lists of a fixed size, over items that are null slots.
 pub(super) fn null_fixed_lists(
     alloc: Global,
     data_type: DataType,
@@ -85,7 +85,7 @@ pub(super) fn null_fixed_lists(
     Ok(AnyArray::FixedSizeList(array))
 }
 
-/// Null structs, over columns of null slots.
+// Null structs, over columns of null slots.
 pub(super) fn null_structs(
     alloc: Global,
     data_type: DataType,
@@ -105,7 +105,7 @@ pub(super) fn null_structs(
     Ok(AnyArray::Struct(array))
 }
 
-/// The type id of the first field of a union.
+// The type id of the first field of a union.
 fn first_id(data_type: &DataType) -> i8
     requires { IsCarriedAs physical.Union (type_of data_type.now) }
     ensures { result ≡ id_at (field_ids (type_of data_type.now)) 0 }
@@ -117,7 +117,7 @@ fn first_id(data_type: &DataType) -> i8
     }
 }
 
-/// So many rows of the first field of a union, by their type ids.
+// So many rows of the first field of a union, by their type ids.
 fn first_ids(alloc: Global, data_type: &DataType, length: usize) -> Result<Buffer<i8>, Error>
     requires { IsCarriedAs physical.Union (type_of data_type.now) }
     ensures ok { IfOk result (λ ids. ids ≡ replicate length (id_at (field_ids (type_of data_type.now)) 0)) }
@@ -126,7 +126,7 @@ fn first_ids(alloc: Global, data_type: &DataType, length: usize) -> Result<Buffe
     Buffer::from_vec(alloc, vec![in alloc; first_id(data_type); length]?)
 }
 
-/// Rows of a sparse union that are all the first field's, over columns of null slots.
+// Rows of a sparse union that are all the first field's, over columns of null slots.
 pub(super) fn sparse_nulls(
     alloc: Global,
     data_type: DataType,
@@ -147,7 +147,7 @@ pub(super) fn sparse_nulls(
     Ok(AnyArray::Union(array))
 }
 
-/// Rows of a dense union that are all the first one of the first field, a null slot.
+// Rows of a dense union that are all the first one of the first field, a null slot.
 pub(super) fn dense_nulls(
     alloc: Global,
     data_type: DataType,
@@ -169,7 +169,7 @@ pub(super) fn dense_nulls(
     Ok(AnyArray::Union(array))
 }
 
-/// Null rows of a dictionary: null keys.
+// Null rows of a dictionary: null keys.
 pub(super) fn null_dictionaries(
     alloc: Global,
     data_type: DataType,

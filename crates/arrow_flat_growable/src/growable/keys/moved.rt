@@ -78,8 +78,8 @@ impl MovedKey for u64 {
     }
 }
 
-/// How far keys move, as a key: where `by` values stand before those of a dictionary of so many, and none of its keys
-/// passes the greatest of the type by that.
+// How far keys move, as a key: where `by` values stand before those of a dictionary of so many, and none of its keys
+// passes the greatest of the type by that.
 pub(super) fn step_of<K: MovedKey>(by: usize, count: usize) -> Option<K>
     ensures step { IfSome result (λ step. K.number step ≡ pos by) }
     ensures fits { IfSome result (λ step. count ≤ fitting_keys K.greatest by) }
@@ -89,8 +89,8 @@ pub(super) fn step_of<K: MovedKey>(by: usize, count: usize) -> Option<K>
     K::from_usize(by)
 }
 
-/// Appends `len` keys from row `start` on, each greater by `by`, and 0 where one is null: as many at a time as the half of a
-/// word has bits. There is room for them, and none passes the greatest of its type.
+// Appends `len` keys from row `start` on, each greater by `by`, and 0 where one is null: as many at a time as the half of a
+// word has bits. There is room for them, and none passes the greatest of its type.
 pub(super) fn append_moved<K: MovedKey>(
     keys: &mut Vec<K>,
     stored: &[K],
@@ -116,7 +116,7 @@ pub(super) fn append_moved<K: MovedKey>(
     }
 }
 
-/// Which of the rows from row `row` on are valid, a bit each: as far as their bits are in one half of a word.
+// Which of the rows from row `row` on are valid, a bit each: as far as their bits are in one half of a word.
 fn valid_half(validity: Option<&Bitmap>, row: usize) -> u32
     ensures { (k : ℕ) → row % 32 + k < 32 → IfSome (option_copied validity.entry) (λ bits. row + k < length bits) → (bit_at result k == 1) ≡ valid_at (option_copied validity.entry) (row + k) }
 {
@@ -126,14 +126,14 @@ fn valid_half(validity: Option<&Bitmap>, row: usize) -> u32
     }
 }
 
-/// The low half of a word.
+// The low half of a word.
 fn low_half(word: u64) -> u32
     ensures { result ≡ word % 2 ^ 32 }
 {
     (word % (1 << HALF_BITS)) as u32
 }
 
-/// Appends keys, each greater by `by`, and 0 where the bit of its row is not set. There is room for them.
+// Appends keys, each greater by `by`, and 0 where the bit of its row is not set. There is room for them.
 fn append_half<K: MovedKey>(keys: &mut Vec<K>, stored: &[K], half: u32, by: K)
     requires in_half { length stored.now ≤ 32 }
     requires room { vec_len keys.old + length stored.now ≤ vec_capacity keys.old }
@@ -150,8 +150,8 @@ fn append_half<K: MovedKey>(keys: &mut Vec<K>, stored: &[K], half: u32, by: K)
     move_half(keys.slice_mut(done..), half, by);
 }
 
-/// Makes each key greater by `by`, and 0 where the bit of its row is not set. Of a whole half the count is known when the
-/// program is compiled, so that several keys are moved at once.
+// Makes each key greater by `by`, and 0 where the bit of its row is not set. Of a whole half the count is known when the
+// program is compiled, so that several keys are moved at once.
 fn move_half<K: MovedKey>(keys: &mut [K], half: u32, by: K)
     requires in_half { length keys.old ≤ 32 }
     requires onward { pos 0 ≤ℤ K.number by }
@@ -167,7 +167,7 @@ fn move_half<K: MovedKey>(keys: &mut [K], half: u32, by: K)
     }
 }
 
-/// The same of so many keys as there are. No branch depends on a key or a bit.
+// The same of so many keys as there are. No branch depends on a key or a bit.
 #[inline(always)]
 fn move_each<K: MovedKey>(keys: &mut [K], count: usize, half: u32, by: K)
     requires count { count ≡ length keys.old }
@@ -182,7 +182,7 @@ fn move_each<K: MovedKey>(keys: &mut [K], count: usize, half: u32, by: K)
     }
 }
 
-/// A key that is greater by `by`, and 0 where it is not valid.
+// A key that is greater by `by`, and 0 where it is not valid.
 fn moved_key<K: MovedKey>(key: K, by: K, is_valid: bool) -> K
     requires onward { pos 0 ≤ℤ K.number by }
     requires within { IsKey (fitting_keys K.greatest (unsigned_abs (K.number by))) (if is_valid then K.slot key else Null) }
