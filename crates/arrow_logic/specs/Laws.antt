@@ -7,7 +7,7 @@ use Rattle.arrow_types.specs.Carried.{IsCarried}
 use Rattle.arrow_types.specs.Physical.{physical_type_of}
 use Rattle.arrow_types.specs.Slot.{Slot}
 use Rattle.arrow_logic.specs.Nullif.{IsPrimitive}
-use Rattle.arrow_logic.specs.RowByRow.{row_by_row}
+use Rattle.arrow_flat.specs.RowByRow.{row_by_row}
 
 -- how many units a part of a part has at most: what its length says, and no more than the first part has behind its beginning
 abbrev pub length_within : Option ℕ → ℕ → Option ℕ → Option ℕ

@@ -13,7 +13,7 @@ ghost use Rattle.arrow_arrays.specs.Any.{any_array_rows};
 ghost use Rattle.arrow_logic.specs.Laws.{AreTexts, AreTextsOrBytes, GiveAlike, MeetNullif, length_within};
 ghost use Rattle.arrow_logic.specs.Length.{HasLength};
 ghost use Rattle.arrow_logic.specs.Nullif.{CanNullif};
-ghost use Rattle.arrow_logic.specs.RowByRow.{row_by_row};
+ghost use Rattle.arrow_flat.specs.RowByRow.{row_by_row};
 ghost use Rattle.arrow_logic.specs.Substring.{HasParts};
 
 use arrow_arrays::array::AnyArray;
