@@ -51,7 +51,8 @@ pub fn eq(alloc: Global, lhs: &AnyArray, rhs: &AnyArray) -> Result<BooleanArray,
     requires one_length { length (any_array_rows lhs.now) ≡ length (any_array_rows rhs.now) }
     requires has_equality { HasEquality (physical_type_of (any_array_type lhs.now)) }
     ensures array_type { IfOk result (λ array. array.arrow_type ≡ plain boolean) }
-    ensures rows { IfOk result (λ array. boolean_rows array ≡ row_by_row (related relation.eq) (any_array_rows lhs.now) (any_array_rows rhs.now)) }
+    ensures rows { IfOk result (λ array. boolean_rows array
+        ≡ row_by_row (related relation.eq) (any_array_rows lhs.now) (any_array_rows rhs.now)) }
     ensures err { IsOkUnless result Error.OutOfMemory }
 {
     relate(alloc, Relation::Eq, lhs, rhs)
@@ -72,7 +73,8 @@ pub fn eq_and_validity(alloc: Global, lhs: &AnyArray, rhs: &AnyArray) -> Result<
     requires one_length { length (any_array_rows lhs.now) ≡ length (any_array_rows rhs.now) }
     requires has_equality { HasEquality (physical_type_of (any_array_type lhs.now)) }
     ensures array_type { IfOk result (λ array. array.arrow_type ≡ plain boolean) }
-    ensures rows { IfOk result (λ array. boolean_rows array ≡ row_by_row is_same (any_array_rows lhs.now) (any_array_rows rhs.now)) }
+    ensures rows { IfOk result (λ array. boolean_rows array
+        ≡ row_by_row is_same (any_array_rows lhs.now) (any_array_rows rhs.now)) }
     ensures err { IsOkUnless result Error.OutOfMemory }
 {
     same(alloc, lhs, rhs)
@@ -93,7 +95,9 @@ pub fn eq_scalar(alloc: Global, lhs: &AnyArray, rhs: &AnyScalar) -> Result<Boole
     requires one_type { logical (any_array_type lhs.now) ≡ logical (meaning_of rhs.now).0 }
     requires has_equality { HasEqualityThrough (any_array_type lhs.now) }
     ensures array_type { IfOk result (λ array. array.arrow_type ≡ plain boolean) }
-    ensures rows { IfOk result (λ array. boolean_rows array ≡ map (λ s. related relation.eq (through s) (through (meaning_of rhs.now).1)) (any_array_rows lhs.now)) }
+    ensures rows { IfOk result (λ array. boolean_rows array
+        ≡ map (λ s. related relation.eq (through s) (through (meaning_of rhs.now).1))
+        (any_array_rows lhs.now)) }
     ensures err { IsOkUnless result Error.OutOfMemory }
 {
     relate_scalar(alloc, Relation::Eq, lhs, rhs)
@@ -118,7 +122,8 @@ pub fn eq_scalar_and_validity(
     requires one_type { logical (any_array_type lhs.now) ≡ logical (meaning_of rhs.now).0 }
     requires has_equality { HasEqualityThrough (any_array_type lhs.now) }
     ensures array_type { IfOk result (λ array. array.arrow_type ≡ plain boolean) }
-    ensures rows { IfOk result (λ array. boolean_rows array ≡ map (λ s. is_same (through s) (through (meaning_of rhs.now).1)) (any_array_rows lhs.now)) }
+    ensures rows { IfOk result (λ array. boolean_rows array
+        ≡ map (λ s. is_same (through s) (through (meaning_of rhs.now).1)) (any_array_rows lhs.now)) }
     ensures err { IsOkUnless result Error.OutOfMemory }
 {
     same_scalar(alloc, lhs, rhs)
@@ -139,7 +144,8 @@ pub fn neq(alloc: Global, lhs: &AnyArray, rhs: &AnyArray) -> Result<BooleanArray
     requires one_length { length (any_array_rows lhs.now) ≡ length (any_array_rows rhs.now) }
     requires has_equality { HasEquality (physical_type_of (any_array_type lhs.now)) }
     ensures array_type { IfOk result (λ array. array.arrow_type ≡ plain boolean) }
-    ensures rows { IfOk result (λ array. boolean_rows array ≡ row_by_row (related relation.neq) (any_array_rows lhs.now) (any_array_rows rhs.now)) }
+    ensures rows { IfOk result (λ array. boolean_rows array
+        ≡ row_by_row (related relation.neq) (any_array_rows lhs.now) (any_array_rows rhs.now)) }
     ensures err { IsOkUnless result Error.OutOfMemory }
 {
     relate(alloc, Relation::Neq, lhs, rhs)
@@ -164,7 +170,8 @@ pub fn neq_and_validity(
     requires one_length { length (any_array_rows lhs.now) ≡ length (any_array_rows rhs.now) }
     requires has_equality { HasEquality (physical_type_of (any_array_type lhs.now)) }
     ensures array_type { IfOk result (λ array. array.arrow_type ≡ plain boolean) }
-    ensures rows { IfOk result (λ array. boolean_rows array ≡ row_by_row differs (any_array_rows lhs.now) (any_array_rows rhs.now)) }
+    ensures rows { IfOk result (λ array. boolean_rows array
+        ≡ row_by_row differs (any_array_rows lhs.now) (any_array_rows rhs.now)) }
     ensures err { IsOkUnless result Error.OutOfMemory }
 {
     boolean::not(alloc, &same(alloc, lhs, rhs)?)
@@ -185,7 +192,9 @@ pub fn neq_scalar(alloc: Global, lhs: &AnyArray, rhs: &AnyScalar) -> Result<Bool
     requires one_type { logical (any_array_type lhs.now) ≡ logical (meaning_of rhs.now).0 }
     requires has_equality { HasEqualityThrough (any_array_type lhs.now) }
     ensures array_type { IfOk result (λ array. array.arrow_type ≡ plain boolean) }
-    ensures rows { IfOk result (λ array. boolean_rows array ≡ map (λ s. related relation.neq (through s) (through (meaning_of rhs.now).1)) (any_array_rows lhs.now)) }
+    ensures rows { IfOk result (λ array. boolean_rows array
+        ≡ map (λ s. related relation.neq (through s) (through (meaning_of rhs.now).1))
+        (any_array_rows lhs.now)) }
     ensures err { IsOkUnless result Error.OutOfMemory }
 {
     relate_scalar(alloc, Relation::Neq, lhs, rhs)
@@ -209,7 +218,8 @@ pub fn neq_scalar_and_validity(
     requires one_type { logical (any_array_type lhs.now) ≡ logical (meaning_of rhs.now).0 }
     requires has_equality { HasEqualityThrough (any_array_type lhs.now) }
     ensures array_type { IfOk result (λ array. array.arrow_type ≡ plain boolean) }
-    ensures rows { IfOk result (λ array. boolean_rows array ≡ map (λ s. differs (through s) (through (meaning_of rhs.now).1)) (any_array_rows lhs.now)) }
+    ensures rows { IfOk result (λ array. boolean_rows array
+        ≡ map (λ s. differs (through s) (through (meaning_of rhs.now).1)) (any_array_rows lhs.now)) }
     ensures err { IsOkUnless result Error.OutOfMemory }
 {
     boolean::not(alloc, &same_scalar(alloc, lhs, rhs)?)
@@ -231,7 +241,8 @@ pub fn lt(alloc: Global, lhs: &AnyArray, rhs: &AnyArray) -> Result<BooleanArray,
     requires one_length { length (any_array_rows lhs.now) ≡ length (any_array_rows rhs.now) }
     requires has_order { HasOrder (physical_type_of (any_array_type lhs.now)) }
     ensures array_type { IfOk result (λ array. array.arrow_type ≡ plain boolean) }
-    ensures rows { IfOk result (λ array. boolean_rows array ≡ row_by_row (related relation.lt) (any_array_rows lhs.now) (any_array_rows rhs.now)) }
+    ensures rows { IfOk result (λ array. boolean_rows array
+        ≡ row_by_row (related relation.lt) (any_array_rows lhs.now) (any_array_rows rhs.now)) }
     ensures err { IsOkUnless result Error.OutOfMemory }
 {
     relate(alloc, Relation::Lt, lhs, rhs)
@@ -253,7 +264,9 @@ pub fn lt_scalar(alloc: Global, lhs: &AnyArray, rhs: &AnyScalar) -> Result<Boole
     requires one_type { logical (any_array_type lhs.now) ≡ logical (meaning_of rhs.now).0 }
     requires has_order { HasOrderThrough (any_array_type lhs.now) }
     ensures array_type { IfOk result (λ array. array.arrow_type ≡ plain boolean) }
-    ensures rows { IfOk result (λ array. boolean_rows array ≡ map (λ s. related relation.lt (through s) (through (meaning_of rhs.now).1)) (any_array_rows lhs.now)) }
+    ensures rows { IfOk result (λ array. boolean_rows array
+        ≡ map (λ s. related relation.lt (through s) (through (meaning_of rhs.now).1))
+        (any_array_rows lhs.now)) }
     ensures err { IsOkUnless result Error.OutOfMemory }
 {
     relate_scalar(alloc, Relation::Lt, lhs, rhs)
@@ -275,7 +288,8 @@ pub fn lt_eq(alloc: Global, lhs: &AnyArray, rhs: &AnyArray) -> Result<BooleanArr
     requires one_length { length (any_array_rows lhs.now) ≡ length (any_array_rows rhs.now) }
     requires has_order { HasOrder (physical_type_of (any_array_type lhs.now)) }
     ensures array_type { IfOk result (λ array. array.arrow_type ≡ plain boolean) }
-    ensures rows { IfOk result (λ array. boolean_rows array ≡ row_by_row (related relation.lt_eq) (any_array_rows lhs.now) (any_array_rows rhs.now)) }
+    ensures rows { IfOk result (λ array. boolean_rows array
+        ≡ row_by_row (related relation.lt_eq) (any_array_rows lhs.now) (any_array_rows rhs.now)) }
     ensures err { IsOkUnless result Error.OutOfMemory }
 {
     relate(alloc, Relation::LtEq, lhs, rhs)
@@ -297,7 +311,9 @@ pub fn lt_eq_scalar(alloc: Global, lhs: &AnyArray, rhs: &AnyScalar) -> Result<Bo
     requires one_type { logical (any_array_type lhs.now) ≡ logical (meaning_of rhs.now).0 }
     requires has_order { HasOrderThrough (any_array_type lhs.now) }
     ensures array_type { IfOk result (λ array. array.arrow_type ≡ plain boolean) }
-    ensures rows { IfOk result (λ array. boolean_rows array ≡ map (λ s. related relation.lt_eq (through s) (through (meaning_of rhs.now).1)) (any_array_rows lhs.now)) }
+    ensures rows { IfOk result (λ array. boolean_rows array
+        ≡ map (λ s. related relation.lt_eq (through s) (through (meaning_of rhs.now).1))
+        (any_array_rows lhs.now)) }
     ensures err { IsOkUnless result Error.OutOfMemory }
 {
     relate_scalar(alloc, Relation::LtEq, lhs, rhs)
@@ -319,7 +335,8 @@ pub fn gt(alloc: Global, lhs: &AnyArray, rhs: &AnyArray) -> Result<BooleanArray,
     requires one_length { length (any_array_rows lhs.now) ≡ length (any_array_rows rhs.now) }
     requires has_order { HasOrder (physical_type_of (any_array_type lhs.now)) }
     ensures array_type { IfOk result (λ array. array.arrow_type ≡ plain boolean) }
-    ensures rows { IfOk result (λ array. boolean_rows array ≡ row_by_row (related relation.gt) (any_array_rows lhs.now) (any_array_rows rhs.now)) }
+    ensures rows { IfOk result (λ array. boolean_rows array
+        ≡ row_by_row (related relation.gt) (any_array_rows lhs.now) (any_array_rows rhs.now)) }
     ensures err { IsOkUnless result Error.OutOfMemory }
 {
     relate(alloc, Relation::Gt, lhs, rhs)
@@ -341,7 +358,9 @@ pub fn gt_scalar(alloc: Global, lhs: &AnyArray, rhs: &AnyScalar) -> Result<Boole
     requires one_type { logical (any_array_type lhs.now) ≡ logical (meaning_of rhs.now).0 }
     requires has_order { HasOrderThrough (any_array_type lhs.now) }
     ensures array_type { IfOk result (λ array. array.arrow_type ≡ plain boolean) }
-    ensures rows { IfOk result (λ array. boolean_rows array ≡ map (λ s. related relation.gt (through s) (through (meaning_of rhs.now).1)) (any_array_rows lhs.now)) }
+    ensures rows { IfOk result (λ array. boolean_rows array
+        ≡ map (λ s. related relation.gt (through s) (through (meaning_of rhs.now).1))
+        (any_array_rows lhs.now)) }
     ensures err { IsOkUnless result Error.OutOfMemory }
 {
     relate_scalar(alloc, Relation::Gt, lhs, rhs)
@@ -363,7 +382,8 @@ pub fn gt_eq(alloc: Global, lhs: &AnyArray, rhs: &AnyArray) -> Result<BooleanArr
     requires one_length { length (any_array_rows lhs.now) ≡ length (any_array_rows rhs.now) }
     requires has_order { HasOrder (physical_type_of (any_array_type lhs.now)) }
     ensures array_type { IfOk result (λ array. array.arrow_type ≡ plain boolean) }
-    ensures rows { IfOk result (λ array. boolean_rows array ≡ row_by_row (related relation.gt_eq) (any_array_rows lhs.now) (any_array_rows rhs.now)) }
+    ensures rows { IfOk result (λ array. boolean_rows array
+        ≡ row_by_row (related relation.gt_eq) (any_array_rows lhs.now) (any_array_rows rhs.now)) }
     ensures err { IsOkUnless result Error.OutOfMemory }
 {
     relate(alloc, Relation::GtEq, lhs, rhs)
@@ -385,7 +405,9 @@ pub fn gt_eq_scalar(alloc: Global, lhs: &AnyArray, rhs: &AnyScalar) -> Result<Bo
     requires one_type { logical (any_array_type lhs.now) ≡ logical (meaning_of rhs.now).0 }
     requires has_order { HasOrderThrough (any_array_type lhs.now) }
     ensures array_type { IfOk result (λ array. array.arrow_type ≡ plain boolean) }
-    ensures rows { IfOk result (λ array. boolean_rows array ≡ map (λ s. related relation.gt_eq (through s) (through (meaning_of rhs.now).1)) (any_array_rows lhs.now)) }
+    ensures rows { IfOk result (λ array. boolean_rows array
+        ≡ map (λ s. related relation.gt_eq (through s) (through (meaning_of rhs.now).1))
+        (any_array_rows lhs.now)) }
     ensures err { IsOkUnless result Error.OutOfMemory }
 {
     relate_scalar(alloc, Relation::GtEq, lhs, rhs)

@@ -15,8 +15,10 @@ use arrow_relate::relation::Relation;
 
 // Shows that arrays of logically one type are of one kind, and that a relation compares it if it does the type.
 pub(crate) fn have_one_kind(by: Relation, lhs: &AnyArray, rhs: &AnyArray)
-    ensures kinds { logical (any_array_type lhs.now) ≡ logical (any_array_type rhs.now) → kind_of lhs.now ≡ kind_of rhs.now }
-    ensures has_relation { HasRelation (relation_of by) (physical_type_of (any_array_type lhs.now)) → KindHasRelation (relation_of by) (kind_of lhs.now) }
+    ensures kinds { logical (any_array_type lhs.now) ≡ logical (any_array_type rhs.now)
+        → kind_of lhs.now ≡ kind_of rhs.now }
+    ensures has_relation { HasRelation (relation_of by) (physical_type_of (any_array_type lhs.now))
+        → KindHasRelation (relation_of by) (kind_of lhs.now) }
 {
     // The kind of each follows from its data type.
     let _ = lhs.data_type();

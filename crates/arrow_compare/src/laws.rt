@@ -30,39 +30,48 @@ use arrow_types::datatypes::DataType;
 
 /// Whether rows differ is whether they are the same, turned.
 pub fn differs_is_negated_same(lhs: &AnyArray, rhs: &AnyArray)
-    ensures { row_by_row differs (any_array_rows lhs.now) (any_array_rows rhs.now) ≡ map negated (row_by_row is_same (any_array_rows lhs.now) (any_array_rows rhs.now)) }
+    ensures { row_by_row differs (any_array_rows lhs.now) (any_array_rows rhs.now)
+        ≡ map negated (row_by_row is_same (any_array_rows lhs.now) (any_array_rows rhs.now)) }
 {}
 
 /// Whether rows are the same, and whether they differ, is no null.
 pub fn same_is_no_null(lhs: &AnyArray, rhs: &AnyArray)
-    ensures same { All (λ s. is_null s ≡ false) (row_by_row is_same (any_array_rows lhs.now) (any_array_rows rhs.now)) }
-    ensures differs { All (λ s. is_null s ≡ false) (row_by_row differs (any_array_rows lhs.now) (any_array_rows rhs.now)) }
+    ensures same { All (λ s. is_null s ≡ false)
+        (row_by_row is_same (any_array_rows lhs.now) (any_array_rows rhs.now)) }
+    ensures differs { All (λ s. is_null s ≡ false)
+        (row_by_row differs (any_array_rows lhs.now) (any_array_rows rhs.now)) }
 {}
 
 /// It makes no difference for either which side is the left one.
 pub fn same_is_symmetric(lhs: &AnyArray, rhs: &AnyArray)
-    ensures same { row_by_row is_same (any_array_rows lhs.now) (any_array_rows rhs.now) ≡ row_by_row is_same (any_array_rows rhs.now) (any_array_rows lhs.now) }
-    ensures differs { row_by_row differs (any_array_rows lhs.now) (any_array_rows rhs.now) ≡ row_by_row differs (any_array_rows rhs.now) (any_array_rows lhs.now) }
+    ensures same { row_by_row is_same (any_array_rows lhs.now) (any_array_rows rhs.now)
+        ≡ row_by_row is_same (any_array_rows rhs.now) (any_array_rows lhs.now) }
+    ensures differs { row_by_row differs (any_array_rows lhs.now) (any_array_rows rhs.now)
+        ≡ row_by_row differs (any_array_rows rhs.now) (any_array_rows lhs.now) }
 {}
 
 /// Rows of the left side come before those of the right one where these come after.
 pub fn lt_is_gt_of_the_other_side(lhs: &AnyArray, rhs: &AnyArray)
-    ensures { row_by_row (related relation.lt) (any_array_rows lhs.now) (any_array_rows rhs.now) ≡ row_by_row (related relation.gt) (any_array_rows rhs.now) (any_array_rows lhs.now) }
+    ensures { row_by_row (related relation.lt) (any_array_rows lhs.now) (any_array_rows rhs.now)
+        ≡ row_by_row (related relation.gt) (any_array_rows rhs.now) (any_array_rows lhs.now) }
 {}
 
 /// A row differs where it is not equal; a null stays.
 pub fn neq_is_negated_eq(lhs: &AnyArray, rhs: &AnyArray)
-    ensures { row_by_row (related relation.neq) (any_array_rows lhs.now) (any_array_rows rhs.now) ≡ map negated (row_by_row (related relation.eq) (any_array_rows lhs.now) (any_array_rows rhs.now)) }
+    ensures { row_by_row (related relation.neq) (any_array_rows lhs.now) (any_array_rows rhs.now)
+        ≡ map negated (row_by_row (related relation.eq) (any_array_rows lhs.now) (any_array_rows rhs.now)) }
 {}
 
 /// A row is at most another where it does not come after it; a null stays.
 pub fn lt_eq_is_negated_gt(lhs: &AnyArray, rhs: &AnyArray)
-    ensures { row_by_row (related relation.lt_eq) (any_array_rows lhs.now) (any_array_rows rhs.now) ≡ map negated (row_by_row (related relation.gt) (any_array_rows lhs.now) (any_array_rows rhs.now)) }
+    ensures { row_by_row (related relation.lt_eq) (any_array_rows lhs.now) (any_array_rows rhs.now)
+        ≡ map negated (row_by_row (related relation.gt) (any_array_rows lhs.now) (any_array_rows rhs.now)) }
 {}
 
 /// A row is at least another where it does not come before it; a null stays.
 pub fn gt_eq_is_negated_lt(lhs: &AnyArray, rhs: &AnyArray)
-    ensures { row_by_row (related relation.gt_eq) (any_array_rows lhs.now) (any_array_rows rhs.now) ≡ map negated (row_by_row (related relation.lt) (any_array_rows lhs.now) (any_array_rows rhs.now)) }
+    ensures { row_by_row (related relation.gt_eq) (any_array_rows lhs.now) (any_array_rows rhs.now)
+        ≡ map negated (row_by_row (related relation.lt) (any_array_rows lhs.now) (any_array_rows rhs.now)) }
 {}
 
 /// A scalar, a null one too, compares as an array that repeats it: by each relation, by `eq_and_validity` and by
@@ -74,7 +83,8 @@ pub fn gt_eq_is_negated_lt(lhs: &AnyArray, rhs: &AnyArray)
 pub fn scalar_is_repeated(by: Relation, lhs: &AnyArray, rhs: &AnyScalar)
     requires one_type { logical (any_array_type lhs.now) ≡ logical (meaning_of rhs.now).0 }
     requires has_equality { HasEquality (physical_type_of (any_array_type lhs.now)) }
-    ensures related { IsAsRepeated (related (relation_of by)) (any_array_rows lhs.now) (meaning_of rhs.now).1 }
+    ensures related { IsAsRepeated (related (relation_of by)) (any_array_rows lhs.now)
+        (meaning_of rhs.now).1 }
     ensures same { IsAsRepeated is_same (any_array_rows lhs.now) (meaning_of rhs.now).1 }
     ensures differs { IsAsRepeated differs (any_array_rows lhs.now) (meaning_of rhs.now).1 }
 {
@@ -85,13 +95,17 @@ pub fn scalar_is_repeated(by: Relation, lhs: &AnyArray, rhs: &AnyScalar)
 
 /// Rows with those taken away that equal the other side's are all null where both sides are one.
 pub fn nulled_by_itself(array: &AnyArray)
-    ensures { row_by_row nulled (any_array_rows array.now) (any_array_rows array.now) ≡ replicate (length (any_array_rows array.now)) Null }
+    ensures { row_by_row nulled (any_array_rows array.now) (any_array_rows array.now)
+        ≡ replicate (length (any_array_rows array.now)) Null }
 {}
 
 /// Rows that a predicate chooses of two sides are those that the predicate, turned, chooses of the sides the other way round;
 /// a null of the predicate stays.
 pub fn chosen_by_negated(predicate: &BooleanArray, lhs: &AnyArray, rhs: &AnyArray)
-    ensures { chosen (map negated (boolean_rows predicate.now)) (any_array_rows lhs.now) (any_array_rows rhs.now) (any_array_type lhs.now) ≡ chosen (boolean_rows predicate.now) (any_array_rows rhs.now) (any_array_rows lhs.now) (any_array_type lhs.now) }
+    ensures { chosen (map negated (boolean_rows predicate.now)) (any_array_rows lhs.now)
+        (any_array_rows rhs.now) (any_array_type lhs.now)
+        ≡ chosen (boolean_rows predicate.now) (any_array_rows rhs.now) (any_array_rows lhs.now)
+        (any_array_type lhs.now) }
 {}
 
 /// A type that `can_eq` and `can_neq` list meets the condition of `eq` and `neq`.

@@ -45,7 +45,8 @@ pub trait Growable<'a> {
     /// of those named is crowded; `OutOfMemory` where memory is refused.
     fn extend(&mut self, index: usize, start: usize, len: usize) -> Result<(), Error>
         requires { NamesRows (state self.old) index start len }
-        ensures ok { OnOk result (state self.new ≡ appended (state self.old) (named_rows (state self.old) index start len)) }
+        ensures ok { OnOk result (state self.new
+            ≡ appended (state self.old) (named_rows (state self.old) index start len)) }
         ensures fits { OnOk result (FitsItself (state self.new)) }
         ensures err { OnErr result (HasFailed (state self.old) (state self.new)) }
         ensures failed { (result ≡ Err Error.Failed) ↔ ((state self.old).failed ≡ true) }
@@ -58,11 +59,13 @@ pub trait Growable<'a> {
     /// `Failed` where an earlier call refused; `Overflow` only where the rows do not fit the type;
     /// `OutOfMemory` where memory is refused.
     fn extend_validity(&mut self, additional: usize) -> Result<(), Error>
-        ensures ok { OnOk result (state self.new ≡ appended (state self.old) (null_rows_of (state self.old) additional)) }
+        ensures ok { OnOk result (state self.new
+            ≡ appended (state self.old) (null_rows_of (state self.old) additional)) }
         ensures fits { OnOk result (FitsItself (state self.new)) }
         ensures err { OnErr result (HasFailed (state self.old) (state self.new)) }
         ensures failed { (result ≡ Err Error.Failed) ↔ ((state self.old).failed ≡ true) }
-        ensures overflow { result ≡ Err Error.Overflow → FitsWith (state self.old) (null_rows_of (state self.old) additional) → ⊥ }
+        ensures overflow { result ≡ Err Error.Overflow
+            → FitsWith (state self.old) (null_rows_of (state self.old) additional) → ⊥ }
         ensures others { IfErr result IsRefusal };
 
     /// How many rows there are.
@@ -76,7 +79,8 @@ pub trait Growable<'a> {
     /// `Failed` where an earlier call refused; `OutOfMemory` where memory is refused.
     fn as_box(&mut self) -> Result<AnyArray, Error>
         ensures ok { IfOk result (HoldsRows (state self.old)) }
-        ensures left { OnOk result (state self.new ≡ empty_over (state self.old).arrow_type (state self.old).sources) }
+        ensures left { OnOk result (state self.new
+            ≡ empty_over (state self.old).arrow_type (state self.old).sources) }
         ensures err { OnErr result (HasFailed (state self.old) (state self.new)) }
         ensures failed { (result ≡ Err Error.Failed) ↔ ((state self.old).failed ≡ true) }
         ensures others { IfErr result IsFailedOrMemory };

@@ -45,7 +45,8 @@ pub fn unary<I: NativeType, F: Fn(I) -> O, O: NativeType>(
     requires callable { All (F.pre op) array.now.values }
     ensures array_type { IfOk result (λ made. made.arrow_type ≡ type_of data_type) }
     ensures answers { IfOk result (λ made. AllZip (F.post op) array.now.values made.values) }
-    ensures null_rows { IfOk result (λ made. nulls (rows_by (map O.slot) made) ≡ nulls (rows_by (map I.slot) array.now)) }
+    ensures null_rows { IfOk result (λ made. nulls (rows_by (map O.slot) made)
+        ≡ nulls (rows_by (map I.slot) array.now)) }
     ensures err { IsOkUnless result Error.OutOfMemory }
 {
     let stored = array.values().as_slice();
@@ -72,8 +73,10 @@ pub fn try_unary<I: NativeType, F: Fn(I) -> Result<O, Error>, O: NativeType>(
     requires callable { All (F.pre op) array.now.values }
     ensures array_type { IfOk result (λ made. made.arrow_type ≡ type_of data_type) }
     ensures answers { IfOk result (λ made. AllZip (answers_ok (F.post op)) array.now.values made.values) }
-    ensures null_rows { IfOk result (λ made. nulls (rows_by (map O.slot) made) ≡ nulls (rows_by (map I.slot) array.now)) }
-    ensures failed { IfErr result (λ error. (error ≡ Error.OutOfMemory) ⊎ RefusesFirst (F.post op) array.now.values error) }
+    ensures null_rows { IfOk result (λ made. nulls (rows_by (map O.slot) made)
+        ≡ nulls (rows_by (map I.slot) array.now)) }
+    ensures failed { IfErr result (λ error. (error ≡ Error.OutOfMemory)
+        ⊎ RefusesFirst (F.post op) array.now.values error) }
 {
     let stored = array.values().as_slice();
     let values = try_gather(alloc, stored.len(), |row| answer_at(&op, stored, row))?;
@@ -101,7 +104,8 @@ pub fn unary_with_bitmap<I: NativeType, F: Fn(I) -> (O, bool), O: NativeType>(
     ensures answers { IfOk result (λ made. AllZip (F.post op) array.now.values (zip made.0.values made.1)) }
     ensures count { IfOk result (λ made. length made.0.values ≡ length array.now.values) }
     ensures bits { IfOk result (λ made. length made.1 ≡ length array.now.values) }
-    ensures null_rows { IfOk result (λ made. nulls (rows_by (map O.slot) made.0) ≡ nulls (rows_by (map I.slot) array.now)) }
+    ensures null_rows { IfOk result (λ made. nulls (rows_by (map O.slot) made.0)
+        ≡ nulls (rows_by (map I.slot) array.now)) }
     ensures err { IsOkUnless result Error.OutOfMemory }
 {
     let stored = array.values().as_slice();
@@ -127,7 +131,9 @@ pub fn unary_checked<I: NativeType, F: Fn(I) -> Option<O>, O: NativeType>(
     requires layout { physical_type_of (type_of data_type) ≡ physical.Primitive O.PRIMITIVE }
     requires callable { All (F.pre op) array.now.values }
     ensures array_type { IfOk result (λ made. made.arrow_type ≡ type_of data_type) }
-    ensures answers { IfOk result (λ made. AnswersSome (F.post op) O.zero array.now.values (nulls (rows_by (map I.slot) array.now)) made.values (rows_by (map O.slot) made)) }
+    ensures answers { IfOk result (λ made.
+        AnswersSome (F.post op) O.zero array.now.values (nulls (rows_by (map I.slot) array.now)) made.values
+        (rows_by (map O.slot) made)) }
     ensures err { IsOkUnless result Error.OutOfMemory }
 {
     let stored = array.values().as_slice();
@@ -161,8 +167,10 @@ pub fn binary<T: NativeType, D: NativeType, F: Fn(T, D) -> T>(
     requires lengths { length lhs.now.values ≡ length rhs.now.values }
     requires callable { All (λ pair. F.pre op pair.0 pair.1) (zip lhs.now.values rhs.now.values) }
     ensures array_type { IfOk result (λ made. made.arrow_type ≡ type_of data_type) }
-    ensures answers { IfOk result (λ made. AllZip (to_pair (F.post op)) (zip lhs.now.values rhs.now.values) made.values) }
-    ensures null_rows { IfOk result (λ made. nulls (rows_by (map T.slot) made) ≡ either_bits (nulls (rows_by (map T.slot) lhs.now)) (nulls (rows_by (map D.slot) rhs.now))) }
+    ensures answers { IfOk result (λ made.
+        AllZip (to_pair (F.post op)) (zip lhs.now.values rhs.now.values) made.values) }
+    ensures null_rows { IfOk result (λ made. nulls (rows_by (map T.slot) made)
+        ≡ either_bits (nulls (rows_by (map T.slot) lhs.now)) (nulls (rows_by (map D.slot) rhs.now))) }
     ensures err { IsOkUnless result Error.OutOfMemory }
 {
     let left = lhs.values().as_slice();
@@ -200,12 +208,17 @@ pub fn try_binary<T: NativeType, D: NativeType, F: Fn(T, D) -> Result<T, Error>>
 ) -> Result<PrimitiveArray<T>, Error>
     requires layout { physical_type_of (type_of data_type) ≡ physical.Primitive T.PRIMITIVE }
     requires callable { All (λ pair. F.pre op pair.0 pair.1) (zip lhs.now.values rhs.now.values) }
-    ensures lengths { length lhs.now.values ≢ length rhs.now.values → result ≡ Err (Error.InvalidArgumentError ArgumentFault.Lengths) }
+    ensures lengths { length lhs.now.values ≢ length rhs.now.values
+        → result ≡ Err (Error.InvalidArgumentError ArgumentFault.Lengths) }
     ensures equal_lengths { OnOk result (length lhs.now.values ≡ length rhs.now.values) }
     ensures array_type { IfOk result (λ made. made.arrow_type ≡ type_of data_type) }
-    ensures answers { IfOk result (λ made. AllZip (answers_ok (to_pair (F.post op))) (zip lhs.now.values rhs.now.values) made.values) }
-    ensures null_rows { IfOk result (λ made. nulls (rows_by (map T.slot) made) ≡ either_bits (nulls (rows_by (map T.slot) lhs.now)) (nulls (rows_by (map D.slot) rhs.now))) }
-    ensures failed { length lhs.now.values ≡ length rhs.now.values → IfErr result (λ error. (error ≡ Error.OutOfMemory) ⊎ RefusesFirst (to_pair (F.post op)) (zip lhs.now.values rhs.now.values) error) }
+    ensures answers { IfOk result (λ made.
+        AllZip (answers_ok (to_pair (F.post op))) (zip lhs.now.values rhs.now.values) made.values) }
+    ensures null_rows { IfOk result (λ made. nulls (rows_by (map T.slot) made)
+        ≡ either_bits (nulls (rows_by (map T.slot) lhs.now)) (nulls (rows_by (map D.slot) rhs.now))) }
+    ensures failed { length lhs.now.values ≡ length rhs.now.values
+        → IfErr result (λ error. (error ≡ Error.OutOfMemory)
+        ⊎ RefusesFirst (to_pair (F.post op)) (zip lhs.now.values rhs.now.values) error) }
 {
     if lhs.len() != rhs.len() {
         return Err(Error::InvalidArgumentError(ArgumentFault::Lengths));
@@ -245,10 +258,12 @@ pub fn binary_with_bitmap<T: NativeType, D: NativeType, F: Fn(T, D) -> (T, bool)
     requires lengths { length lhs.now.values ≡ length rhs.now.values }
     requires callable { All (λ pair. F.pre op pair.0 pair.1) (zip lhs.now.values rhs.now.values) }
     ensures array_type { IfOk result (λ made. made.0.arrow_type ≡ type_of data_type) }
-    ensures answers { IfOk result (λ made. AllZip (to_pair (F.post op)) (zip lhs.now.values rhs.now.values) (zip made.0.values made.1)) }
+    ensures answers { IfOk result (λ made.
+        AllZip (to_pair (F.post op)) (zip lhs.now.values rhs.now.values) (zip made.0.values made.1)) }
     ensures count { IfOk result (λ made. length made.0.values ≡ length lhs.now.values) }
     ensures bits { IfOk result (λ made. length made.1 ≡ length lhs.now.values) }
-    ensures null_rows { IfOk result (λ made. nulls (rows_by (map T.slot) made.0) ≡ either_bits (nulls (rows_by (map T.slot) lhs.now)) (nulls (rows_by (map D.slot) rhs.now))) }
+    ensures null_rows { IfOk result (λ made. nulls (rows_by (map T.slot) made.0)
+        ≡ either_bits (nulls (rows_by (map T.slot) lhs.now)) (nulls (rows_by (map D.slot) rhs.now))) }
     ensures err { IsOkUnless result Error.OutOfMemory }
 {
     let left = lhs.values().as_slice();
@@ -286,7 +301,10 @@ pub fn binary_checked<T: NativeType, D: NativeType, F: Fn(T, D) -> Option<T>>(
     requires lengths { length lhs.now.values ≡ length rhs.now.values }
     requires callable { All (λ pair. F.pre op pair.0 pair.1) (zip lhs.now.values rhs.now.values) }
     ensures array_type { IfOk result (λ made. made.arrow_type ≡ type_of data_type) }
-    ensures answers { IfOk result (λ made. AnswersSome (to_pair (F.post op)) T.zero (zip lhs.now.values rhs.now.values) (either_bits (nulls (rows_by (map T.slot) lhs.now)) (nulls (rows_by (map D.slot) rhs.now))) made.values (rows_by (map T.slot) made)) }
+    ensures answers { IfOk result (λ made.
+        AnswersSome (to_pair (F.post op)) T.zero (zip lhs.now.values rhs.now.values)
+        (either_bits (nulls (rows_by (map T.slot) lhs.now))
+        (nulls (rows_by (map D.slot) rhs.now))) made.values (rows_by (map T.slot) made)) }
     ensures err { IsOkUnless result Error.OutOfMemory }
 {
     let left = lhs.values().as_slice();
@@ -298,7 +316,8 @@ pub fn binary_checked<T: NativeType, D: NativeType, F: Fn(T, D) -> Option<T>>(
             requires lengths { length left.now ≡ length right.now }
             requires within { row < length left.now }
             requires callable { All (λ pair. F.pre op pair.0 pair.1) (zip left.now right.now) }
-            ensures { answers_at (answers_parts (to_pair (F.post op)) T.zero) (zip left.entry.now right.entry.now) row result }
+            ensures { answers_at (answers_parts (to_pair (F.post op)) T.zero)
+                (zip left.entry.now right.entry.now) row result }
         { parts(answer_at_both(&op, left, right, row)) },
     )?;
     let made = make_of_two(alloc, data_type, values, lhs, rhs)?;
@@ -350,7 +369,8 @@ fn make_of_one<I: NativeType, O: NativeType>(
     requires lengths { length values.items ≡ length array.now.values }
     ensures array_type { IfOk result (λ made. made.arrow_type ≡ type_of data_type) }
     ensures values { IfOk result (λ made. made.values ≡ values.items) }
-    ensures null_rows { IfOk result (λ made. nulls (rows_by (map O.slot) made) ≡ nulls (rows_by (map I.slot) array.now)) }
+    ensures null_rows { IfOk result (λ made. nulls (rows_by (map O.slot) made)
+        ≡ nulls (rows_by (map I.slot) array.now)) }
     ensures err { IsOkUnless result Error.OutOfMemory }
 {
     let validity = combine_validities(alloc, array.validity(), None)?;
@@ -370,7 +390,8 @@ fn make_of_two<T: NativeType, D: NativeType>(
     requires right { length values.items ≡ length rhs.now.values }
     ensures array_type { IfOk result (λ made. made.arrow_type ≡ type_of data_type) }
     ensures values { IfOk result (λ made. made.values ≡ values.items) }
-    ensures null_rows { IfOk result (λ made. nulls (rows_by (map T.slot) made) ≡ either_bits (nulls (rows_by (map T.slot) lhs.now)) (nulls (rows_by (map D.slot) rhs.now))) }
+    ensures null_rows { IfOk result (λ made. nulls (rows_by (map T.slot) made)
+        ≡ either_bits (nulls (rows_by (map T.slot) lhs.now)) (nulls (rows_by (map D.slot) rhs.now))) }
     ensures err { IsOkUnless result Error.OutOfMemory }
 {
     let validity = combine_validities(alloc, lhs.validity(), rhs.validity())?;
@@ -386,7 +407,8 @@ fn valid_where_set<O: NativeType>(
     requires { length bits.now ≡ length array.values }
     ensures array_type { IfOk result (λ made. made.arrow_type ≡ array.arrow_type) }
     ensures values { IfOk result (λ made. made.values ≡ array.values) }
-    ensures null_rows { IfOk result (λ made. nulls (rows_by (map O.slot) made) ≡ either_bits (nulls (rows_by (map O.slot) array)) (map not bits.now)) }
+    ensures null_rows { IfOk result (λ made. nulls (rows_by (map O.slot) made)
+        ≡ either_bits (nulls (rows_by (map O.slot) array)) (map not bits.now)) }
     ensures err { IsOkUnless result Error.OutOfMemory }
 {
     let validity = combine_validities(alloc, array.validity(), Some(bits))?;
@@ -402,7 +424,8 @@ fn make<O: NativeType>(
 ) -> Result<PrimitiveArray<O>, Error>
     requires layout { physical_type_of (type_of data_type) ≡ physical.Primitive O.PRIMITIVE }
     requires fits { FitsRows validity (length values.items) }
-    ensures ok { IfOk result (λ made. made ≡ record { arrow_type = type_of data_type; values = values.items; validity = validity }) }
+    ensures ok { IfOk result (λ made. made
+        ≡ record { arrow_type = type_of data_type; values = values.items; validity = validity }) }
     ensures err { IsOkUnless result Error.OutOfMemory }
 {
     let values = Buffer::from_vec(alloc, values)?;

@@ -37,7 +37,8 @@ use std::alloc::Global;
 pub fn and(alloc: Global, lhs: &BooleanArray, rhs: &BooleanArray) -> Result<BooleanArray, Error>
     requires { length (boolean_rows lhs.now) ≡ length (boolean_rows rhs.now) }
     ensures array_type { IfOk result (λ array. array.arrow_type ≡ plain boolean) }
-    ensures rows { IfOk result (λ array. boolean_rows array ≡ row_by_row both (boolean_rows lhs.now) (boolean_rows rhs.now)) }
+    ensures rows { IfOk result (λ array. boolean_rows array
+        ≡ row_by_row both (boolean_rows lhs.now) (boolean_rows rhs.now)) }
     ensures err { IsOkUnless result Error.OutOfMemory }
 {
     connect(alloc, Connective::And, lhs, rhs)
@@ -55,7 +56,8 @@ pub fn and(alloc: Global, lhs: &BooleanArray, rhs: &BooleanArray) -> Result<Bool
 pub fn or(alloc: Global, lhs: &BooleanArray, rhs: &BooleanArray) -> Result<BooleanArray, Error>
     requires { length (boolean_rows lhs.now) ≡ length (boolean_rows rhs.now) }
     ensures array_type { IfOk result (λ array. array.arrow_type ≡ plain boolean) }
-    ensures rows { IfOk result (λ array. boolean_rows array ≡ row_by_row either (boolean_rows lhs.now) (boolean_rows rhs.now)) }
+    ensures rows { IfOk result (λ array. boolean_rows array
+        ≡ row_by_row either (boolean_rows lhs.now) (boolean_rows rhs.now)) }
     ensures err { IsOkUnless result Error.OutOfMemory }
 {
     connect(alloc, Connective::Or, lhs, rhs)
@@ -88,7 +90,8 @@ pub fn and_scalar(
     scalar: &BooleanScalar,
 ) -> Result<BooleanArray, Error>
     ensures array_type { IfOk result (λ array. array.arrow_type ≡ plain boolean) }
-    ensures rows { IfOk result (λ answer. boolean_rows answer ≡ map (λ s. both s (scalar_slot Boolean scalar.now.value)) (boolean_rows array.now)) }
+    ensures rows { IfOk result (λ answer. boolean_rows answer
+        ≡ map (λ s. both s (scalar_slot Boolean scalar.now.value)) (boolean_rows array.now)) }
     ensures err { IsOkUnless result Error.OutOfMemory }
 {
     connect_scalar(alloc, Connective::And, array, scalar.value())
@@ -106,7 +109,8 @@ pub fn or_scalar(
     scalar: &BooleanScalar,
 ) -> Result<BooleanArray, Error>
     ensures array_type { IfOk result (λ array. array.arrow_type ≡ plain boolean) }
-    ensures rows { IfOk result (λ answer. boolean_rows answer ≡ map (λ s. either s (scalar_slot Boolean scalar.now.value)) (boolean_rows array.now)) }
+    ensures rows { IfOk result (λ answer. boolean_rows answer
+        ≡ map (λ s. either s (scalar_slot Boolean scalar.now.value)) (boolean_rows array.now)) }
     ensures err { IsOkUnless result Error.OutOfMemory }
 {
     connect_scalar(alloc, Connective::Or, array, scalar.value())
@@ -120,7 +124,8 @@ pub fn or_scalar(
 /// Source: arrow2's `boolean::is_null`.
 pub fn is_null(alloc: Global, input: &AnyArray) -> Result<BooleanArray, Error>
     ensures array_type { IfOk result (λ array. array.arrow_type ≡ plain boolean) }
-    ensures rows { IfOk result (λ array. boolean_rows array ≡ map (λ s. Boolean (is_null s)) (any_array_rows input.now)) }
+    ensures rows { IfOk result (λ array. boolean_rows array
+        ≡ map (λ s. Boolean (is_null s)) (any_array_rows input.now)) }
     ensures err { IsOkUnless result Error.OutOfMemory }
 {
     let nulls = match input.validity() {
@@ -138,7 +143,8 @@ pub fn is_null(alloc: Global, input: &AnyArray) -> Result<BooleanArray, Error>
 /// Source: arrow2's `boolean::is_not_null`.
 pub fn is_not_null(alloc: Global, input: &AnyArray) -> Result<BooleanArray, Error>
     ensures array_type { IfOk result (λ array. array.arrow_type ≡ plain boolean) }
-    ensures rows { IfOk result (λ array. boolean_rows array ≡ map (λ s. Boolean (not (is_null s))) (any_array_rows input.now)) }
+    ensures rows { IfOk result (λ array. boolean_rows array
+        ≡ map (λ s. Boolean (not (is_null s))) (any_array_rows input.now)) }
     ensures err { IsOkUnless result Error.OutOfMemory }
 {
     let valid = match input.validity() {
@@ -175,7 +181,8 @@ pub fn all(array: &BooleanArray) -> bool
 
 // Which of the 64 rows from row 64 j on are true, a bit each.
 fn true_word(array: &BooleanArray, j: usize) -> u64
-    ensures { (k : ℕ) → k < 64 → (bit_at result k == 1) ≡ selects (slice_index_or (boolean_rows array.now) (64 * j + k) Null) }
+    ensures { (k : ℕ) → k < 64 → (bit_at result k == 1)
+        ≡ selects (slice_index_or (boolean_rows array.now) (64 * j + k) Null) }
 {
     let word = array.values().word(j);
     match array.validity() {
@@ -200,7 +207,8 @@ fn connect(
 ) -> Result<BooleanArray, Error>
     requires { length (boolean_rows lhs.now) ≡ length (boolean_rows rhs.now) }
     ensures array_type { IfOk result (λ array. array.arrow_type ≡ plain boolean) }
-    ensures rows { IfOk result (λ array. boolean_rows array ≡ row_by_row (slot_by connective) (boolean_rows lhs.now) (boolean_rows rhs.now)) }
+    ensures rows { IfOk result (λ array. boolean_rows array
+        ≡ row_by_row (slot_by connective) (boolean_rows lhs.now) (boolean_rows rhs.now)) }
     ensures err { IsOkUnless result Error.OutOfMemory }
 {
     let validity = combine_validities(alloc, lhs.validity(), rhs.validity())?;
@@ -216,7 +224,8 @@ fn connect_scalar(
     scalar: Option<bool>,
 ) -> Result<BooleanArray, Error>
     ensures array_type { IfOk result (λ array. array.arrow_type ≡ plain boolean) }
-    ensures rows { IfOk result (λ answer. boolean_rows answer ≡ map (λ s. slot_by connective s (scalar_slot Boolean scalar)) (boolean_rows array.now)) }
+    ensures rows { IfOk result (λ answer. boolean_rows answer
+        ≡ map (λ s. slot_by connective s (scalar_slot Boolean scalar)) (boolean_rows array.now)) }
     ensures err { IsOkUnless result Error.OutOfMemory }
 {
     let len = array.len();

@@ -33,7 +33,8 @@ use std::alloc::Global;
 pub fn and(alloc: Global, lhs: &BooleanArray, rhs: &BooleanArray) -> Result<BooleanArray, Error>
     requires { length (boolean_rows lhs.now) ≡ length (boolean_rows rhs.now) }
     ensures array_type { IfOk result (λ array. array.arrow_type ≡ plain boolean) }
-    ensures rows { IfOk result (λ array. boolean_rows array ≡ row_by_row kleene_both (boolean_rows lhs.now) (boolean_rows rhs.now)) }
+    ensures rows { IfOk result (λ array. boolean_rows array
+        ≡ row_by_row kleene_both (boolean_rows lhs.now) (boolean_rows rhs.now)) }
     ensures err { IsOkUnless result Error.OutOfMemory }
 {
     connect(alloc, Connective::And, lhs, rhs)
@@ -51,7 +52,8 @@ pub fn and(alloc: Global, lhs: &BooleanArray, rhs: &BooleanArray) -> Result<Bool
 pub fn or(alloc: Global, lhs: &BooleanArray, rhs: &BooleanArray) -> Result<BooleanArray, Error>
     requires { length (boolean_rows lhs.now) ≡ length (boolean_rows rhs.now) }
     ensures array_type { IfOk result (λ array. array.arrow_type ≡ plain boolean) }
-    ensures rows { IfOk result (λ array. boolean_rows array ≡ row_by_row kleene_either (boolean_rows lhs.now) (boolean_rows rhs.now)) }
+    ensures rows { IfOk result (λ array. boolean_rows array
+        ≡ row_by_row kleene_either (boolean_rows lhs.now) (boolean_rows rhs.now)) }
     ensures err { IsOkUnless result Error.OutOfMemory }
 {
     connect(alloc, Connective::Or, lhs, rhs)
@@ -69,7 +71,8 @@ pub fn and_scalar(
     scalar: &BooleanScalar,
 ) -> Result<BooleanArray, Error>
     ensures array_type { IfOk result (λ array. array.arrow_type ≡ plain boolean) }
-    ensures rows { IfOk result (λ answer. boolean_rows answer ≡ map (λ s. kleene_both s (scalar_slot Boolean scalar.now.value)) (boolean_rows array.now)) }
+    ensures rows { IfOk result (λ answer. boolean_rows answer
+        ≡ map (λ s. kleene_both s (scalar_slot Boolean scalar.now.value)) (boolean_rows array.now)) }
     ensures err { IsOkUnless result Error.OutOfMemory }
 {
     connect_scalar(alloc, Connective::And, array, scalar.value())
@@ -87,7 +90,8 @@ pub fn or_scalar(
     scalar: &BooleanScalar,
 ) -> Result<BooleanArray, Error>
     ensures array_type { IfOk result (λ array. array.arrow_type ≡ plain boolean) }
-    ensures rows { IfOk result (λ answer. boolean_rows answer ≡ map (λ s. kleene_either s (scalar_slot Boolean scalar.now.value)) (boolean_rows array.now)) }
+    ensures rows { IfOk result (λ answer. boolean_rows answer
+        ≡ map (λ s. kleene_either s (scalar_slot Boolean scalar.now.value)) (boolean_rows array.now)) }
     ensures err { IsOkUnless result Error.OutOfMemory }
 {
     connect_scalar(alloc, Connective::Or, array, scalar.value())
@@ -120,7 +124,8 @@ fn connect(
 ) -> Result<BooleanArray, Error>
     requires { length (boolean_rows lhs.now) ≡ length (boolean_rows rhs.now) }
     ensures array_type { IfOk result (λ array. array.arrow_type ≡ plain boolean) }
-    ensures rows { IfOk result (λ array. boolean_rows array ≡ row_by_row (kleene_by connective) (boolean_rows lhs.now) (boolean_rows rhs.now)) }
+    ensures rows { IfOk result (λ array. boolean_rows array
+        ≡ row_by_row (kleene_by connective) (boolean_rows lhs.now) (boolean_rows rhs.now)) }
     ensures err { IsOkUnless result Error.OutOfMemory }
 {
     // A validity has a bit for each value.
@@ -139,7 +144,9 @@ fn known_rows(
     rhs: &BooleanArray,
 ) -> Result<Option<Bitmap>, Error>
     requires { length (boolean_rows lhs.now) ≡ length (boolean_rows rhs.now) }
-    ensures ok { IfOk result (λ bits. bits ≡ combined (known_side lhs.now.validity (map (decides connective) (boolean_rows rhs.now))) (known_side rhs.now.validity (map (decides connective) (boolean_rows lhs.now)))) }
+    ensures ok { IfOk result (λ bits. bits
+        ≡ combined (known_side lhs.now.validity (map (decides connective) (boolean_rows rhs.now)))
+        (known_side rhs.now.validity (map (decides connective) (boolean_rows lhs.now)))) }
     ensures err { IsOkUnless result Error.OutOfMemory }
 {
     let (left, right) = (lhs.values(), rhs.values());
@@ -161,7 +168,8 @@ fn known_side(
     other: &BooleanArray,
 ) -> Result<Option<Bitmap>, Error>
     requires { FitsRows (option_copied validity) (length (boolean_rows other.now)) }
-    ensures ok { IfOk result (λ known. known ≡ known_side (option_copied validity.entry) (map (decides connective) (boolean_rows other.now))) }
+    ensures ok { IfOk result (λ known. known
+        ≡ known_side (option_copied validity.entry) (map (decides connective) (boolean_rows other.now))) }
     ensures err { IsOkUnless result Error.OutOfMemory }
 {
     match validity {
@@ -181,7 +189,8 @@ fn connect_scalar(
     scalar: Option<bool>,
 ) -> Result<BooleanArray, Error>
     ensures array_type { IfOk result (λ array. array.arrow_type ≡ plain boolean) }
-    ensures rows { IfOk result (λ answer. boolean_rows answer ≡ map (λ s. kleene_by connective s (scalar_slot Boolean scalar)) (boolean_rows array.now)) }
+    ensures rows { IfOk result (λ answer. boolean_rows answer
+        ≡ map (λ s. kleene_by connective s (scalar_slot Boolean scalar)) (boolean_rows array.now)) }
     ensures err { IsOkUnless result Error.OutOfMemory }
 {
     let len = array.len();

@@ -107,7 +107,8 @@ impl Connective {
         requires left { length left_valid.now ≡ length left.now }
         requires right_valid { length left_valid.now ≡ length right_valid.now }
         requires right { length left_valid.now ≡ length right.now }
-        ensures ok { IfOk result (λ bits. bits ≡ by_fours (known_bit self) left_valid.now left.now right_valid.now right.now) }
+        ensures ok { IfOk result (λ bits. bits
+            ≡ by_fours (known_bit self) left_valid.now left.now right_valid.now right.now) }
         ensures err { IsOkUnless result Error.OutOfMemory }
     {
         match self {

@@ -22,37 +22,48 @@ use arrow_types::datatypes::DataType;
 
 /// It makes no difference which side of an `and` is the left one.
 pub fn both_is_commutative(lhs: &BooleanArray, rhs: &BooleanArray)
-    ensures { row_by_row both (boolean_rows lhs.now) (boolean_rows rhs.now) ≡ row_by_row both (boolean_rows rhs.now) (boolean_rows lhs.now) }
+    ensures { row_by_row both (boolean_rows lhs.now) (boolean_rows rhs.now)
+        ≡ row_by_row both (boolean_rows rhs.now) (boolean_rows lhs.now) }
 {}
 
 /// The same of an `or`.
 pub fn either_is_commutative(lhs: &BooleanArray, rhs: &BooleanArray)
-    ensures { row_by_row either (boolean_rows lhs.now) (boolean_rows rhs.now) ≡ row_by_row either (boolean_rows rhs.now) (boolean_rows lhs.now) }
+    ensures { row_by_row either (boolean_rows lhs.now) (boolean_rows rhs.now)
+        ≡ row_by_row either (boolean_rows rhs.now) (boolean_rows lhs.now) }
 {}
 
 /// The same of Kleene's `and`.
 pub fn kleene_both_is_commutative(lhs: &BooleanArray, rhs: &BooleanArray)
-    ensures { row_by_row kleene_both (boolean_rows lhs.now) (boolean_rows rhs.now) ≡ row_by_row kleene_both (boolean_rows rhs.now) (boolean_rows lhs.now) }
+    ensures { row_by_row kleene_both (boolean_rows lhs.now) (boolean_rows rhs.now)
+        ≡ row_by_row kleene_both (boolean_rows rhs.now) (boolean_rows lhs.now) }
 {}
 
 /// The same of Kleene's `or`.
 pub fn kleene_either_is_commutative(lhs: &BooleanArray, rhs: &BooleanArray)
-    ensures { row_by_row kleene_either (boolean_rows lhs.now) (boolean_rows rhs.now) ≡ row_by_row kleene_either (boolean_rows rhs.now) (boolean_rows lhs.now) }
+    ensures { row_by_row kleene_either (boolean_rows lhs.now) (boolean_rows rhs.now)
+        ≡ row_by_row kleene_either (boolean_rows rhs.now) (boolean_rows lhs.now) }
 {}
 
 /// It makes no difference which two of three arrays an `and` takes first.
 pub fn both_is_associative(left: &BooleanArray, middle: &BooleanArray, right: &BooleanArray)
-    ensures { row_by_row both (row_by_row both (boolean_rows left.now) (boolean_rows middle.now)) (boolean_rows right.now) ≡ row_by_row both (boolean_rows left.now) (row_by_row both (boolean_rows middle.now) (boolean_rows right.now)) }
+    ensures { row_by_row both (row_by_row both (boolean_rows left.now) (boolean_rows middle.now))
+        (boolean_rows right.now) ≡ row_by_row both (boolean_rows left.now)
+        (row_by_row both (boolean_rows middle.now) (boolean_rows right.now)) }
 {}
 
 /// The same of an `or`.
 pub fn either_is_associative(left: &BooleanArray, middle: &BooleanArray, right: &BooleanArray)
-    ensures { row_by_row either (row_by_row either (boolean_rows left.now) (boolean_rows middle.now)) (boolean_rows right.now) ≡ row_by_row either (boolean_rows left.now) (row_by_row either (boolean_rows middle.now) (boolean_rows right.now)) }
+    ensures { row_by_row either (row_by_row either (boolean_rows left.now) (boolean_rows middle.now))
+        (boolean_rows right.now) ≡ row_by_row either (boolean_rows left.now)
+        (row_by_row either (boolean_rows middle.now) (boolean_rows right.now)) }
 {}
 
 /// The same of Kleene's `and`.
 pub fn kleene_both_is_associative(left: &BooleanArray, middle: &BooleanArray, right: &BooleanArray)
-    ensures { row_by_row kleene_both (row_by_row kleene_both (boolean_rows left.now) (boolean_rows middle.now)) (boolean_rows right.now) ≡ row_by_row kleene_both (boolean_rows left.now) (row_by_row kleene_both (boolean_rows middle.now) (boolean_rows right.now)) }
+    ensures { row_by_row kleene_both
+        (row_by_row kleene_both (boolean_rows left.now) (boolean_rows middle.now)) (boolean_rows right.now)
+        ≡ row_by_row kleene_both (boolean_rows left.now)
+        (row_by_row kleene_both (boolean_rows middle.now) (boolean_rows right.now)) }
 {}
 
 /// The same of Kleene's `or`.
@@ -61,17 +72,23 @@ pub fn kleene_either_is_associative(
     middle: &BooleanArray,
     right: &BooleanArray,
 )
-    ensures { row_by_row kleene_either (row_by_row kleene_either (boolean_rows left.now) (boolean_rows middle.now)) (boolean_rows right.now) ≡ row_by_row kleene_either (boolean_rows left.now) (row_by_row kleene_either (boolean_rows middle.now) (boolean_rows right.now)) }
+    ensures { row_by_row kleene_either
+        (row_by_row kleene_either (boolean_rows left.now) (boolean_rows middle.now))
+        (boolean_rows right.now) ≡ row_by_row kleene_either (boolean_rows left.now)
+        (row_by_row kleene_either (boolean_rows middle.now) (boolean_rows right.now)) }
 {}
 
 /// De Morgan's law of Kleene's `and`: turned, it is the `or` of both sides turned.
 pub fn negated_kleene_both(lhs: &BooleanArray, rhs: &BooleanArray)
-    ensures { map negated (row_by_row kleene_both (boolean_rows lhs.now) (boolean_rows rhs.now)) ≡ row_by_row kleene_either (map negated (boolean_rows lhs.now)) (map negated (boolean_rows rhs.now)) }
+    ensures { map negated (row_by_row kleene_both (boolean_rows lhs.now) (boolean_rows rhs.now))
+        ≡ row_by_row kleene_either (map negated (boolean_rows lhs.now))
+        (map negated (boolean_rows rhs.now)) }
 {}
 
 /// De Morgan's law of Kleene's `or`: turned, it is the `and` of both sides turned.
 pub fn negated_kleene_either(lhs: &BooleanArray, rhs: &BooleanArray)
-    ensures { map negated (row_by_row kleene_either (boolean_rows lhs.now) (boolean_rows rhs.now)) ≡ row_by_row kleene_both (map negated (boolean_rows lhs.now)) (map negated (boolean_rows rhs.now)) }
+    ensures { map negated (row_by_row kleene_either (boolean_rows lhs.now) (boolean_rows rhs.now))
+        ≡ row_by_row kleene_both (map negated (boolean_rows lhs.now)) (map negated (boolean_rows rhs.now)) }
 {}
 
 /// Truth values that are turned twice are those of before.
@@ -81,7 +98,8 @@ pub fn negated_twice(array: &BooleanArray)
 
 /// Which rows are no nulls is which rows are null, turned.
 pub fn valid_is_negated_null(input: &AnyArray)
-    ensures { map (λ s. Boolean (not (is_null s))) (any_array_rows input.now) ≡ map negated (map (λ s. Boolean (is_null s)) (any_array_rows input.now)) }
+    ensures { map (λ s. Boolean (not (is_null s))) (any_array_rows input.now)
+        ≡ map negated (map (λ s. Boolean (is_null s)) (any_array_rows input.now)) }
 {}
 
 /// A part of a part of a text is a part of the text, which begins as many characters later; so is one from the front of
@@ -93,7 +111,8 @@ pub fn part_of_part_of_text(
     next_start: u64,
     next_len: Option<u64>,
 )
-    ensures { part (pos next_start) next_len (part (pos start) len (Text text.now)) ≡ part (pos (start + next_start)) (length_within len next_start next_len) (Text text.now) }
+    ensures { part (pos next_start) next_len (part (pos start) len (Text text.now))
+        ≡ part (pos (start + next_start)) (length_within len next_start next_len) (Text text.now) }
 {}
 
 /// The same of bytes.
@@ -104,7 +123,8 @@ pub fn part_of_part_of_bytes(
     next_start: u64,
     next_len: Option<u64>,
 )
-    ensures { part (pos next_start) next_len (part (pos start) len (Bytes bytes.now)) ≡ part (pos (start + next_start)) (length_within len next_start next_len) (Bytes bytes.now) }
+    ensures { part (pos next_start) next_len (part (pos start) len (Bytes bytes.now))
+        ≡ part (pos (start + next_start)) (length_within len next_start next_len) (Bytes bytes.now) }
 {}
 
 /// A type that `can_length` lists is carried, and its arrays are texts. So `length` refuses none of them.
@@ -166,8 +186,10 @@ pub fn each_row_goes_by_rows<A: Rows>(array: &A, other: &A)
 /// # Requires
 /// There are as many batches on both sides, each as long as the other one of its pair.
 pub fn row_by_row_goes_by_batches<L: Rows, R: Rows>(lhs: &[&L], rhs: &[&R])
-    requires { AreAlikeLong (map (λ batch. L.rows batch.now) lhs.now) (map (λ batch. R.rows batch.now) rhs.now) }
-    ensures { GiveByBatch (map (λ batch. L.rows batch.now) lhs.now) (map (λ batch. R.rows batch.now) rhs.now) }
+    requires { AreAlikeLong (map (λ batch. L.rows batch.now) lhs.now)
+        (map (λ batch. R.rows batch.now) rhs.now) }
+    ensures { GiveByBatch (map (λ batch. L.rows batch.now) lhs.now)
+        (map (λ batch. R.rows batch.now) rhs.now) }
 {}
 
 /// A kernel that answers of each row of an array answers of batches that are concatenated what it answers of each batch,

@@ -41,10 +41,13 @@ const HALF_BITS: usize = 32;
 ///
 /// Source: arrow2's `length::length`.
 pub fn length(alloc: Global, array: &AnyArray) -> Result<AnyArray, Error>
-    ensures array_type { IfOk result (λ lengths. any_array_type lengths ≡ length_type (any_array_type array.now)) }
+    ensures array_type { IfOk result (λ lengths. any_array_type lengths
+        ≡ length_type (any_array_type array.now)) }
     ensures rows { IfOk result (λ lengths. any_array_rows lengths ≡ map bytes_of (any_array_rows array.now)) }
-    ensures stored { IfOk result (λ lengths. stored_numbers lengths ≡ map stored_length (any_array_rows array.now)) }
-    ensures refused { (result ≡ Err (Error.InvalidArgumentError ArgumentFault.LengthType)) ↔ (HasLength (any_array_type array.now) → ⊥) }
+    ensures stored { IfOk result (λ lengths. stored_numbers lengths
+        ≡ map stored_length (any_array_rows array.now)) }
+    ensures refused { (result ≡ Err (Error.InvalidArgumentError ArgumentFault.LengthType))
+        ↔ (HasLength (any_array_type array.now) → ⊥) }
     ensures others { IfErr result IsLengthRefusal }
 {
     if !can_length(array.data_type()) {
@@ -81,8 +84,10 @@ fn lengths_of<O: Offset>(
 ) -> Result<PrimitiveArray<O>, Error>
     requires { IsCarriedAs (physical.Primitive O.PRIMITIVE) (type_of data_type) }
     ensures array_type { IfOk result (λ lengths. lengths.arrow_type ≡ type_of data_type) }
-    ensures rows { IfOk result (λ lengths. rows_by (map O.slot) lengths ≡ map bytes_of (rows_by (byte_slots text) texts.now)) }
-    ensures stored { IfOk result (λ lengths. map O.slot lengths.values ≡ map stored_length (rows_by (byte_slots text) texts.now)) }
+    ensures rows { IfOk result (λ lengths. rows_by (map O.slot) lengths
+        ≡ map bytes_of (rows_by (byte_slots text) texts.now)) }
+    ensures stored { IfOk result (λ lengths. map O.slot lengths.values
+        ≡ map stored_length (rows_by (byte_slots text) texts.now)) }
     ensures err { IsOkUnless result Error.OutOfMemory }
 {
     let lengths = stored_lengths(alloc, texts)?;
@@ -96,7 +101,8 @@ fn lengths_of<O: Offset>(
 
 // How many bytes each row has, and 0 for each null: by one pass over the offsets, 64 rows at a time.
 fn stored_lengths<O: Offset>(alloc: Global, texts: &Utf8Array<O>) -> Result<Vec<O>, Error>
-    ensures ok { IfOk result (λ lengths. map O.number lengths.items ≡ map pos (kept 0 length texts.now.validity (row_bytes texts.now.values))) }
+    ensures ok { IfOk result (λ lengths. map O.number lengths.items
+        ≡ map pos (kept 0 length texts.now.validity (row_bytes texts.now.values))) }
     ensures err { IsOkUnless result Error.OutOfMemory }
 {
     // The rows lie in the values as the offsets say.
@@ -136,7 +142,9 @@ fn append_lengths<O: Offset>(
     requires in_word { count ≤ 64 }
     requires within { start + count < length offsets.now }
     requires room { vec_len lengths.old + count ≤ vec_capacity lengths.old }
-    ensures items { map O.number lengths.new.items ≡ map O.number lengths.old.items ++ map (λ k. pos (word_length word offsets.now start k)) (range_with_len 0 count) }
+    ensures items { map O.number lengths.new.items
+        ≡ map O.number lengths.old.items
+        ++ map (λ k. pos (word_length word offsets.now start k)) (range_with_len 0 count) }
     ensures len { vec_len lengths.new ≡ vec_len lengths.old + count }
     ensures capacity { vec_capacity lengths.new ≡ vec_capacity lengths.old }
 {
@@ -165,7 +173,9 @@ fn append_half<O: Offset>(
     requires in_half { count ≤ 32 }
     requires within { start + count < length offsets.now }
     requires room { vec_len lengths.old + count ≤ vec_capacity lengths.old }
-    ensures items { map O.number lengths.new.items ≡ map O.number lengths.old.items ++ map (λ k. pos (word_length half offsets.now start k)) (range_with_len 0 count) }
+    ensures items { map O.number lengths.new.items
+        ≡ map O.number lengths.old.items
+        ++ map (λ k. pos (word_length half offsets.now start k)) (range_with_len 0 count) }
     ensures len { vec_len lengths.new ≡ vec_len lengths.old + count }
     ensures capacity { vec_capacity lengths.new ≡ vec_capacity lengths.old }
 {

@@ -43,7 +43,8 @@ pub fn primitive_nullif<T: NativeType>(
 ) -> Result<PrimitiveArray<T>, Error>
     requires { length (rows_by (map T.slot) lhs.now) ≡ length (rows_by (map T.slot) rhs.now) }
     ensures array_type { IfOk result (λ array. array.arrow_type ≡ lhs.now.arrow_type) }
-    ensures rows { IfOk result (λ array. rows_by (map T.slot) array ≡ row_by_row nulled (rows_by (map T.slot) lhs.now) (rows_by (map T.slot) rhs.now)) }
+    ensures rows { IfOk result (λ array. rows_by (map T.slot) array
+        ≡ row_by_row nulled (rows_by (map T.slot) lhs.now) (rows_by (map T.slot) rhs.now)) }
     ensures err { IsOkUnless result Error.OutOfMemory }
 {
     prove!(lhs.len() == rhs.len());
@@ -63,7 +64,8 @@ pub fn primitive_nullif_scalar<T: NativeType>(
     rhs: T,
 ) -> Result<PrimitiveArray<T>, Error>
     ensures array_type { IfOk result (λ array. array.arrow_type ≡ lhs.now.arrow_type) }
-    ensures rows { IfOk result (λ array. rows_by (map T.slot) array ≡ map (λ s. nulled s (T.slot rhs)) (rows_by (map T.slot) lhs.now)) }
+    ensures rows { IfOk result (λ array. rows_by (map T.slot) array
+        ≡ map (λ s. nulled s (T.slot rhs)) (rows_by (map T.slot) lhs.now)) }
     ensures err { IsOkUnless result Error.OutOfMemory }
 {
     let equal = equal_to_value(alloc, lhs.values().as_slice(), rhs)?;
@@ -85,7 +87,8 @@ pub fn nullif(alloc: Global, lhs: &AnyArray, rhs: &AnyArray) -> Result<AnyArray,
     requires lengths { length (any_array_rows lhs.now) ≡ length (any_array_rows rhs.now) }
     requires layout { IsPrimitive (physical_type_of (any_array_type lhs.now)) }
     ensures array_type { IfOk result (λ array. any_array_type array ≡ any_array_type lhs.now) }
-    ensures rows { IfOk result (λ array. any_array_rows array ≡ row_by_row nulled (any_array_rows lhs.now) (any_array_rows rhs.now)) }
+    ensures rows { IfOk result (λ array. any_array_rows array
+        ≡ row_by_row nulled (any_array_rows lhs.now) (any_array_rows rhs.now)) }
     ensures err { IsOkUnless result Error.OutOfMemory }
 {
     Ok(AnyArray::Primitive(any_nullif(alloc, as_primitive(lhs), as_primitive(rhs))?))
@@ -105,7 +108,8 @@ pub fn nullif_scalar(alloc: Global, lhs: &AnyArray, rhs: &AnyScalar) -> Result<A
     requires valid { IsValue (meaning_of rhs.now).1 }
     requires layout { IsPrimitive (physical_type_of (any_array_type lhs.now)) }
     ensures array_type { IfOk result (λ array. any_array_type array ≡ any_array_type lhs.now) }
-    ensures rows { IfOk result (λ array. any_array_rows array ≡ map (λ s. nulled s (meaning_of rhs.now).1) (any_array_rows lhs.now)) }
+    ensures rows { IfOk result (λ array. any_array_rows array
+        ≡ map (λ s. nulled s (meaning_of rhs.now).1) (any_array_rows lhs.now)) }
     ensures err { IsOkUnless result Error.OutOfMemory }
 {
     let array = any_nullif_scalar(alloc, as_primitive(lhs), as_primitive_scalar(rhs))?;
@@ -142,7 +146,8 @@ fn equal_rows<T: NativeType>(
     rows: &PrimitiveArray<T>,
 ) -> Result<Bitmap, Error>
     requires { length stored.now ≡ length rows.now.values }
-    ensures ok { IfOk result (λ bits. bits ≡ within_valid rows.now.validity (row_by_row T.eq stored.now rows.now.values)) }
+    ensures ok { IfOk result (λ bits. bits
+        ≡ within_valid rows.now.validity (row_by_row T.eq stored.now rows.now.values)) }
     ensures count { IfOk result (λ bits. length bits ≡ length stored.now) }
     ensures err { IsOkUnless result Error.OutOfMemory }
 {
@@ -160,7 +165,8 @@ fn null_where<T: NativeType>(
     nulls: &Bitmap,
 ) -> Result<PrimitiveArray<T>, Error>
     requires { length nulls.now ≡ length array.now.values }
-    ensures ok { IfOk result (λ made. made ≡ with_bits array.now (Some (valid_but array.now.validity nulls.now))) }
+    ensures ok { IfOk result (λ made. made
+        ≡ with_bits array.now (Some (valid_but array.now.validity nulls.now))) }
     ensures err { IsOkUnless result Error.OutOfMemory }
 {
     let valid = valid_unless(alloc, array.validity(), nulls)?;
@@ -235,7 +241,8 @@ fn any_nullif(alloc: Global, lhs: &AnyPrimitive, rhs: &AnyPrimitive) -> Result<A
     requires types { any_type lhs.now ≡ any_type rhs.now }
     requires lengths { length (any_rows lhs.now) ≡ length (any_rows rhs.now) }
     ensures array_type { IfOk result (λ array. any_type array ≡ any_type lhs.now) }
-    ensures rows { IfOk result (λ array. any_rows array ≡ row_by_row nulled (any_rows lhs.now) (any_rows rhs.now)) }
+    ensures rows { IfOk result (λ array. any_rows array
+        ≡ row_by_row nulled (any_rows lhs.now) (any_rows rhs.now)) }
     ensures err { IsOkUnless result Error.OutOfMemory }
 {
     have_one_element(lhs, rhs);
@@ -264,7 +271,8 @@ fn any_nullif_scalar(
     requires types { any_type lhs.now ≡ any_scalar_type rhs.now }
     requires valid { IsValue (any_scalar_slot rhs.now) }
     ensures array_type { IfOk result (λ array. any_type array ≡ any_type lhs.now) }
-    ensures rows { IfOk result (λ array. any_rows array ≡ map (λ s. nulled s (any_scalar_slot rhs.now)) (any_rows lhs.now)) }
+    ensures rows { IfOk result (λ array. any_rows array
+        ≡ map (λ s. nulled s (any_scalar_slot rhs.now)) (any_rows lhs.now)) }
     ensures err { IsOkUnless result Error.OutOfMemory }
 {
     have_one_scalar_element(lhs, rhs);
@@ -311,7 +319,8 @@ fn nullif_elements<T: AnyElement>(
     requires element { element_of rhs.now ≡ T.PRIMITIVE }
     requires lengths { length (rows_by (map T.slot) lhs.now) ≡ length (any_rows rhs.now) }
     ensures array_type { IfOk result (λ array. any_type array ≡ lhs.now.arrow_type) }
-    ensures rows { IfOk result (λ array. any_rows array ≡ row_by_row nulled (rows_by (map T.slot) lhs.now) (any_rows rhs.now)) }
+    ensures rows { IfOk result (λ array. any_rows array
+        ≡ row_by_row nulled (rows_by (map T.slot) lhs.now) (any_rows rhs.now)) }
     ensures err { IsOkUnless result Error.OutOfMemory }
 {
     T::to_any(&primitive_nullif(alloc, lhs, T::of_any(rhs))?)
@@ -326,7 +335,8 @@ fn nullif_value<T: AnyElement>(
     requires element { element_of lhs.now ≡ T.PRIMITIVE }
     requires valid { IsValue (slot_by T.slot rhs.now.value) }
     ensures array_type { IfOk result (λ array. any_type array ≡ any_type lhs.now) }
-    ensures rows { IfOk result (λ array. any_rows array ≡ map (λ s. nulled s (slot_by T.slot rhs.now.value)) (any_rows lhs.now)) }
+    ensures rows { IfOk result (λ array. any_rows array
+        ≡ map (λ s. nulled s (slot_by T.slot rhs.now.value)) (any_rows lhs.now)) }
     ensures err { IsOkUnless result Error.OutOfMemory }
 {
     let Some(value) = rhs.value() else {

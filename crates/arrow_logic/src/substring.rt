@@ -52,8 +52,10 @@ pub fn substring(
     length: &Option<u64>,
 ) -> Result<AnyArray, Error>
     ensures array_type { IfOk result (λ parts. any_array_type parts ≡ any_array_type array.now) }
-    ensures rows { IfOk result (λ parts. any_array_rows parts ≡ map (part start length.now) (any_array_rows array.now)) }
-    ensures refused { (result ≡ Err (Error.InvalidArgumentError ArgumentFault.SubstringType)) ↔ (HasParts (any_array_type array.now) → ⊥) }
+    ensures rows { IfOk result (λ parts. any_array_rows parts
+        ≡ map (part start length.now) (any_array_rows array.now)) }
+    ensures refused { (result ≡ Err (Error.InvalidArgumentError ArgumentFault.SubstringType))
+        ↔ (HasParts (any_array_type array.now) → ⊥) }
     ensures others { IfErr result IsSubstringRefusal }
 {
     if !can_substring(array.data_type()) {
@@ -93,7 +95,8 @@ fn parts_of<O: Offset, K: Units>(
     count: Option<u64>,
 ) -> Result<FlatArray<ByteRows<O, K>>, Error>
     ensures array_type { IfOk result (λ parts. parts.arrow_type ≡ rows.now.arrow_type) }
-    ensures rows { IfOk result (λ parts. rows_by (byte_slots K.slot) parts ≡ map (part start count) (rows_by (byte_slots K.slot) rows.now)) }
+    ensures rows { IfOk result (λ parts. rows_by (byte_slots K.slot) parts
+        ≡ map (part start count) (rows_by (byte_slots K.slot) rows.now)) }
     ensures err { IsOkUnless result Error.OutOfMemory }
 {
     // The rows lie in the values as the offsets say, and each is of its kind.
@@ -112,7 +115,8 @@ fn copy_parts<O: Offset, K: Units>(
     start: i64,
     count: Option<u64>,
 ) -> Result<(OffsetsBuffer<O>, Vec<u8>), Error>
-    ensures parts { IfOk result (λ made. pieces made.0 made.1.items ≡ kept [] (K.cut start count) rows.now.validity (row_bytes rows.now.values)) }
+    ensures parts { IfOk result (λ made. pieces made.0 made.1.items
+        ≡ kept [] (K.cut start count) rows.now.validity (row_bytes rows.now.values)) }
     ensures within { IfOk result (λ made. last_of made.0 ≡ length made.1.items) }
     ensures long { IfOk result (λ made. length made.0 ≡ length rows.now.values.offsets) }
     ensures err { IsOkUnless result Error.OutOfMemory }
@@ -135,7 +139,8 @@ fn copy_parts_by<O: Offset, K: Units>(
     by_bytes: bool,
 ) -> Result<(OffsetsBuffer<O>, Vec<u8>), Error>
     requires by_bytes { IsTrue by_bytes → All (IsCutByBytes K.cut) (row_bytes rows.now.values) }
-    ensures parts { IfOk result (λ made. pieces made.0 made.1.items ≡ kept [] (K.cut start count) rows.now.validity (row_bytes rows.now.values)) }
+    ensures parts { IfOk result (λ made. pieces made.0 made.1.items
+        ≡ kept [] (K.cut start count) rows.now.validity (row_bytes rows.now.values)) }
     ensures within { IfOk result (λ made. last_of made.0 ≡ length made.1.items) }
     ensures long { IfOk result (λ made. length made.0 ≡ length rows.now.values.offsets) }
     ensures err { IsOkUnless result Error.OutOfMemory }
@@ -183,8 +188,11 @@ fn span_of<O: Offset, K: Units>(
     requires by_bytes { IsTrue by_bytes → All (IsCutByBytes K.cut) (row_bytes rows.now.values) }
     ensures rises { result.0 ≤ result.1 }
     ensures within { result.1 ≤ length rows.now.values.bytes }
-    ensures part { sliced rows.now.values.bytes result.0 (result.1 - result.0) ≡ slice_index_or (kept [] (K.cut start count) rows.now.validity (row_bytes rows.now.values)) row [] }
-    ensures few { result.1 - result.0 ≤ slice_index rows.now.values.offsets (row + 1) - slice_index rows.now.values.offsets row }
+    ensures part { sliced rows.now.values.bytes result.0 (result.1 - result.0)
+        ≡ slice_index_or (kept [] (K.cut start count) rows.now.validity
+        (row_bytes rows.now.values)) row [] }
+    ensures few { result.1 - result.0
+        ≤ slice_index rows.now.values.offsets (row + 1) - slice_index rows.now.values.offsets row }
 {
     if !rows.is_valid(row) {
         return (0, 0);

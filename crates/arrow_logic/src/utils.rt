@@ -28,7 +28,8 @@ pub fn combine_validities(
     rhs: Option<&Bitmap>,
 ) -> Result<Option<Bitmap>, Error>
     requires { AreOneLength (option_copied lhs) (option_copied rhs) }
-    ensures ok { IfOk result (λ validity. validity ≡ combined (option_copied lhs.entry) (option_copied rhs.entry)) }
+    ensures ok { IfOk result (λ validity. validity
+        ≡ combined (option_copied lhs.entry) (option_copied rhs.entry)) }
     ensures err { IsOkUnless result Error.OutOfMemory }
 {
     match (lhs, rhs) {
@@ -45,7 +46,8 @@ pub fn combine_validities(
 ///
 /// Source: arrow2's `check_same_len`.
 pub fn check_same_len(lhs: &AnyArray, rhs: &AnyArray) -> Result<(), Error>
-    ensures lengths { (result ≡ Err (Error.InvalidArgumentError ArgumentFault.Lengths)) ↔ (length (any_array_rows lhs.now) ≢ length (any_array_rows rhs.now)) }
+    ensures lengths { (result ≡ Err (Error.InvalidArgumentError ArgumentFault.Lengths))
+        ↔ (length (any_array_rows lhs.now) ≢ length (any_array_rows rhs.now)) }
     ensures others { IfErr result (λ error. error ≡ Error.InvalidArgumentError ArgumentFault.Lengths) }
 {
     if lhs.len() == rhs.len() {

@@ -60,7 +60,8 @@ pub fn finish_eq_validities(
     requires left { FitsRows lhs (length (boolean_rows out)) }
     requires right { FitsRows rhs (length (boolean_rows out)) }
     ensures array_type { IfOk result (λ array. array.arrow_type ≡ plain boolean) }
-    ensures rows { IfOk result (λ array. boolean_rows array ≡ finished finished_eq (boolean_rows out) lhs rhs) }
+    ensures rows { IfOk result (λ array. boolean_rows array
+        ≡ finished finished_eq (boolean_rows out) lhs rhs) }
     ensures err { IsOkUnless result Error.OutOfMemory }
 {
     finish::<Equal>(alloc, out, lhs, rhs)
@@ -85,7 +86,8 @@ pub fn finish_neq_validities(
     requires left { FitsRows lhs (length (boolean_rows out)) }
     requires right { FitsRows rhs (length (boolean_rows out)) }
     ensures array_type { IfOk result (λ array. array.arrow_type ≡ plain boolean) }
-    ensures rows { IfOk result (λ array. boolean_rows array ≡ finished finished_neq (boolean_rows out) lhs rhs) }
+    ensures rows { IfOk result (λ array. boolean_rows array
+        ≡ finished finished_neq (boolean_rows out) lhs rhs) }
     ensures err { IsOkUnless result Error.OutOfMemory }
 {
     finish::<NotEqual>(alloc, out, lhs, rhs)
@@ -101,7 +103,8 @@ pub(crate) fn finish<E: Sameness>(
     requires left { FitsRows lhs (length (boolean_rows out)) }
     requires right { FitsRows rhs (length (boolean_rows out)) }
     ensures array_type { IfOk result (λ array. array.arrow_type ≡ plain boolean) }
-    ensures rows { IfOk result (λ array. boolean_rows array ≡ finished E.finishes (boolean_rows out) lhs rhs) }
+    ensures rows { IfOk result (λ array. boolean_rows array
+        ≡ finished E.finishes (boolean_rows out) lhs rhs) }
     ensures err { IsOkUnless result Error.OutOfMemory }
 {
     let _ = out.len();
@@ -118,7 +121,8 @@ fn finished_bits<E: Sameness>(
 ) -> Result<Bitmap, Error>
     requires left { FitsRows lhs.now (length stored.now) }
     requires right { FitsRows rhs.now (length stored.now) }
-    ensures ok { IfOk result (λ bits. map Boolean bits ≡ finished E.finishes (map Boolean stored.now) lhs.now rhs.now) }
+    ensures ok { IfOk result (λ bits. map Boolean bits
+        ≡ finished E.finishes (map Boolean stored.now) lhs.now rhs.now) }
     ensures err { IsOkUnless result Error.OutOfMemory }
 {
     if lhs.is_none() && rhs.is_none() {
@@ -147,7 +151,8 @@ fn finished_word<E: Sameness>(
 
 // Which of the 64 rows from row `64 * j` on are valid, a bit each.
 fn valid_word(validity: &Option<Bitmap>, j: usize) -> u64
-    ensures { (len k : ℕ) → FitsRows validity.now len → k < 64 → 64 * j + k < len → (bit_at result k == 1) ≡ valid_at validity.now (64 * j + k) }
+    ensures { (len k : ℕ) → FitsRows validity.now len → k < 64 → 64 * j + k < len
+        → (bit_at result k == 1) ≡ valid_at validity.now (64 * j + k) }
 {
     match validity {
         Some(bits) => bits.word(j),

@@ -35,11 +35,14 @@ pub(crate) trait Sameness: FixedRelation {
 
     /// Its answers to the rows of a word, from those to what is stored and from which rows of each side are valid.
     fn finished_word(stored: u64, left: u64, right: u64) -> u64
-        ensures { (k : ℕ) → k < 64 → Boolean (bit_at result k == 1) ≡ finishes (Boolean (bit_at stored k == 1)) (bit_at left k == 1) (bit_at right k == 1) };
+        ensures { (k : ℕ) → k < 64
+            → Boolean (bit_at result k == 1)
+            ≡ finishes (Boolean (bit_at stored k == 1)) (bit_at left k == 1) (bit_at right k == 1) };
 
     /// Shows what it tells of two rows, by its answer to what is stored and by which of them are valid.
     fn shows_rows()
-        ensures { (p q : Bool) (s r : Slot) (b : Bool) → related Self.op s r ≡ Boolean b → finishes (Boolean b) p q ≡ tells (if p then s else Null) (if q then r else Null) };
+        ensures { (p q : Bool) (s r : Slot) (b : Bool) → related Self.op s r ≡ Boolean b
+            → finishes (Boolean b) p q ≡ tells (if p then s else Null) (if q then r else Null) };
 
     // an answer stays where both rows are valid
     ghost finishes_valid: { (b : Bool) → finishes (Boolean b) true true ≡ Boolean b };

@@ -34,7 +34,8 @@ pub(crate) trait RelatedBy<R: FixedRelation>: Values {
         rhs: &FlatArray<Self>,
     ) -> Result<Bitmap, Error>
         requires { length (rows_by Self.slots lhs.now) ≡ length (rows_by Self.slots rhs.now) }
-        ensures ok { IfOk result (λ bits. map Boolean bits ≡ row_by_row (related R.op) (Self.slots lhs.now.values) (Self.slots rhs.now.values)) }
+        ensures ok { IfOk result (λ bits. map Boolean bits
+            ≡ row_by_row (related R.op) (Self.slots lhs.now.values) (Self.slots rhs.now.values)) }
         ensures err { IsOkUnless result Error.OutOfMemory };
 }
 
@@ -55,7 +56,8 @@ pub(crate) trait RelatedToScalar<R: FixedRelation, S>: Values {
     /// `OutOfMemory` where memory is refused.
     fn related_scalar_bits(alloc: Global, lhs: &FlatArray<Self>, rhs: S) -> Result<Bitmap, Error>
         requires { IsScalar rhs }
-        ensures ok { IfOk result (λ bits. map Boolean bits ≡ map (λ s. related R.op s (scalar_slot rhs)) (Self.slots lhs.now.values)) }
+        ensures ok { IfOk result (λ bits. map Boolean bits
+            ≡ map (λ s. related R.op s (scalar_slot rhs)) (Self.slots lhs.now.values)) }
         ensures err { IsOkUnless result Error.OutOfMemory };
 }
 
@@ -67,7 +69,8 @@ pub(crate) fn relate_by<R: FixedRelation, V: RelatedBy<R>>(
 ) -> Result<BooleanArray, Error>
     requires { length (rows_by V.slots lhs.now) ≡ length (rows_by V.slots rhs.now) }
     ensures array_type { IfOk result (λ array. array.arrow_type ≡ plain boolean) }
-    ensures rows { IfOk result (λ array. boolean_rows array ≡ row_by_row (related R.op) (rows_by V.slots lhs.now) (rows_by V.slots rhs.now)) }
+    ensures rows { IfOk result (λ array. boolean_rows array
+        ≡ row_by_row (related R.op) (rows_by V.slots lhs.now) (rows_by V.slots rhs.now)) }
     ensures err { IsOkUnless result Error.OutOfMemory }
 {
     let bits = V::related_bits(alloc, lhs, rhs)?;
@@ -83,7 +86,8 @@ pub(crate) fn relate_scalar_by<R: FixedRelation, V: RelatedToScalar<R, S>, S>(
 ) -> Result<BooleanArray, Error>
     requires { V.IsScalar rhs }
     ensures array_type { IfOk result (λ array. array.arrow_type ≡ plain boolean) }
-    ensures rows { IfOk result (λ array. boolean_rows array ≡ map (λ s. related R.op s (V.scalar_slot rhs)) (rows_by V.slots lhs.now)) }
+    ensures rows { IfOk result (λ array. boolean_rows array
+        ≡ map (λ s. related R.op s (V.scalar_slot rhs)) (rows_by V.slots lhs.now)) }
     ensures err { IsOkUnless result Error.OutOfMemory }
 {
     let bits = V::related_scalar_bits(alloc, lhs, rhs)?;
@@ -100,7 +104,8 @@ pub(crate) fn same_by<E: Sameness, V: RelatedBy<E>>(
 ) -> Result<BooleanArray, Error>
     requires { length (rows_by V.slots lhs.now) ≡ length (rows_by V.slots rhs.now) }
     ensures array_type { IfOk result (λ array. array.arrow_type ≡ plain boolean) }
-    ensures rows { IfOk result (λ array. boolean_rows array ≡ row_by_row E.tells (rows_by V.slots lhs.now) (rows_by V.slots rhs.now)) }
+    ensures rows { IfOk result (λ array. boolean_rows array
+        ≡ row_by_row E.tells (rows_by V.slots lhs.now) (rows_by V.slots rhs.now)) }
     ensures err { IsOkUnless result Error.OutOfMemory }
 {
     let bits = V::related_bits(alloc, lhs, rhs)?;
@@ -117,7 +122,8 @@ pub(crate) fn same_scalar_by<E: Sameness, V: RelatedToScalar<E, S>, S>(
 ) -> Result<BooleanArray, Error>
     requires { V.IsScalar rhs }
     ensures array_type { IfOk result (λ array. array.arrow_type ≡ plain boolean) }
-    ensures rows { IfOk result (λ array. boolean_rows array ≡ map (λ s. E.tells s (V.scalar_slot rhs)) (rows_by V.slots lhs.now)) }
+    ensures rows { IfOk result (λ array. boolean_rows array
+        ≡ map (λ s. E.tells s (V.scalar_slot rhs)) (rows_by V.slots lhs.now)) }
     ensures err { IsOkUnless result Error.OutOfMemory }
 {
     let bits = V::related_scalar_bits(alloc, lhs, rhs)?;

@@ -1,5 +1,7 @@
 pub mod AnswerLemmas
 pub mod ArrayLemmas
+pub mod BatchLemmas
+pub mod BatchRanges
 pub mod ChoiceLemmas
 pub mod ChosenLemmas
 pub mod ChunkLemmas
@@ -12,8 +14,8 @@ pub mod KeptLemmas
 pub mod KeyLemmas
 pub mod LawLemmas
 pub mod PlanLemmas
-pub mod RangeLemmas
 pub mod RangedLemmas
+pub mod RangeLemmas
 pub mod RunBits
 pub mod SetBytes
 pub mod SetLemmas

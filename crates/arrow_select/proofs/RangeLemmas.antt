@@ -24,7 +24,7 @@ on_side r = (0, r.0, r.1)
 -- ---- the lower bound
 
 -- whether a row comes right behind another one on its side
-abbrev goes_on : Option (ℕ × ℕ) → ℕ × ℕ → Bool
+abbrev pub goes_on : Option (ℕ × ℕ) → ℕ × ℕ → Bool
 goes_on None q = false
 goes_on (Some p) q = p.0 == q.0 && suc p.1 == q.1
 
@@ -33,7 +33,7 @@ abbrev pub cuts : Option (ℕ × ℕ) → List (ℕ × ℕ) → ℕ
 cuts p [] = 0
 cuts p (q ∷ qs) = if goes_on p q then cuts (Some q) qs else suc (cuts (Some q) qs)
 
-cuts_on : (s i n : ℕ) (rest : List (ℕ × ℕ)) → cuts (Some (s, i)) (map (λ row. (s, row)) (rows_from (suc i) n) ++ rest) ≡ cuts (Some (s, i + n)) rest
+pub cuts_on : (s i n : ℕ) (rest : List (ℕ × ℕ)) → cuts (Some (s, i)) (map (λ row. (s, row)) (rows_from (suc i) n) ++ rest) ≡ cuts (Some (s, i + n)) rest
 cuts_on s i zero rest =
     let none : i ≡ i + 0 = omega arith in
     ap (λ k. cuts (Some (s, k)) rest) none
@@ -54,7 +54,7 @@ least_range s i (suc n) p rest m few =
     let more = cuts (Some (s, i)) (map (λ row. (s, row)) (rows_from (suc i) n) ++ rest) in
     omega (arith, one_more (goes_on p (s, i)) more, cuts_on s i n rest, few (Some (s, i + n)))
 
-least : (p : Option (ℕ × ℕ)) (rs : List (ℕ × ℕ × ℕ)) → cuts p (named_sides rs) ≤ length rs
+pub least : (p : Option (ℕ × ℕ)) (rs : List (ℕ × ℕ × ℕ)) → cuts p (named_sides rs) ≤ length rs
 least p [] = omega arith
 least p (r ∷ rs) = least_range r.0 r.1 r.2 p (named_sides rs) (length rs) (λ q. least q rs)
 
@@ -146,7 +146,7 @@ all_shortest rs row labels h =
 
 -- ---- ranges without sides
 
-named_on_side : (rs : List (ℕ × ℕ)) → named_sides (map on_side rs) ≡ map (λ row. (0, row)) (named rs)
+pub named_on_side : (rs : List (ℕ × ℕ)) → named_sides (map on_side rs) ≡ map (λ row. (0, row)) (named rs)
 named_on_side [] = refl
 named_on_side (r ∷ rs) =
     ap (λ qs. map (λ row. (0, row)) (rows_from r.0 r.1) ++ qs) (named_on_side rs) ∙ sym (map-append (λ row. (0, row)) (rows_from r.0 r.1) (named rs))

@@ -1,5 +1,6 @@
 pub mod Answers
 pub mod Arrays
+pub mod Batches
 pub mod Choice
 pub mod Examples
 pub mod Extended

@@ -26,13 +26,16 @@ use std::alloc::Global;
 ///
 /// Source: arrow2's `concatenate`.
 pub fn concatenate(alloc: Global, arrays: &[&AnyArray]) -> Result<AnyArray, Error>
-    ensures none { (result ≡ Err (Error.InvalidArgumentError ArgumentFault.ConcatenateEmpty)) ↔ (arrays.now ≡ []) }
-    ensures types { (result ≡ Err (Error.InvalidArgumentError ArgumentFault.ConcatenateTypes)) ↔ HasTwo (types_in arrays.now) }
+    ensures none { (result ≡ Err (Error.InvalidArgumentError ArgumentFault.ConcatenateEmpty))
+        ↔ (arrays.now ≡ []) }
+    ensures types { (result ≡ Err (Error.InvalidArgumentError ArgumentFault.ConcatenateTypes))
+        ↔ HasTwo (types_in arrays.now) }
     ensures array_type { IfOk result (λ all. All (λ t. t ≡ any_array_type all) (types_in arrays.now)) }
     ensures rows { IfOk result (λ all. any_array_rows all ≡ joined (rows_in arrays.now)) }
     ensures fits { IfOk result (λ all. Fits (any_array_type all) (any_array_rows all)) }
     ensures overflow { result ≡ Err Error.Overflow → CannotJoin (layouts_in arrays.now) }
-    ensures no_keys { result ≡ Err Error.Overflow → All (λ t. HasNoDictionary t → Fits t (joined (rows_in arrays.now)) → ⊥) (types_in arrays.now) }
+    ensures no_keys { result ≡ Err Error.Overflow
+        → All (λ t. HasNoDictionary t → Fits t (joined (rows_in arrays.now)) → ⊥) (types_in arrays.now) }
     ensures others { IfErr result IsConcatenateRefusal }
 {
     let Some(first) = arrays.first() else {
@@ -48,7 +51,8 @@ pub fn concatenate(alloc: Global, arrays: &[&AnyArray]) -> Result<AnyArray, Erro
 
 // Whether all arrays are of the first one's type.
 fn have_one_type(arrays: &[&AnyArray], first: &AnyArray) -> bool
-    ensures { MatchBool result (All (λ t. t ≡ any_array_type first.now) (types_in arrays.now)) (HasOther (any_array_type first.now) (types_in arrays.now)) }
+    ensures { MatchBool result (All (λ t. t ≡ any_array_type first.now) (types_in arrays.now))
+        (HasOther (any_array_type first.now) (types_in arrays.now)) }
 {
     for array in arrays {
         if !is_of_type(array, first) {

@@ -45,9 +45,12 @@ pub use words::extend_from_word;
 pub fn filter(alloc: Global, array: &AnyArray, filter: &BooleanArray) -> Result<AnyArray, Error>
     requires lengths { length (boolean_rows filter.now) ≡ length (any_array_rows array.now) }
     ensures array_type { IfOk result (λ kept. any_array_type kept ≡ any_array_type array.now) }
-    ensures rows { IfOk result (λ kept. any_array_rows kept ≡ select (mask_of (boolean_rows filter.now)) (any_array_rows array.now)) }
+    ensures rows { IfOk result (λ kept. any_array_rows kept
+        ≡ select (mask_of (boolean_rows filter.now)) (any_array_rows array.now)) }
     ensures fits { IfOk result (λ kept. Fits (any_array_type kept) (any_array_rows kept)) }
-    ensures overflow { result ≡ Err Error.Overflow → Fits (any_array_type array.now) (select (mask_of (boolean_rows filter.now)) (any_array_rows array.now)) → ⊥ }
+    ensures overflow { result ≡ Err Error.Overflow
+        → Fits (any_array_type array.now)
+        (select (mask_of (boolean_rows filter.now)) (any_array_rows array.now)) → ⊥ }
     ensures others { IfErr result IsGrowthError }
 {
     let mask = mask_of_predicate(alloc, filter)?;
@@ -72,9 +75,11 @@ pub fn filter_chunk(
 ) -> Result<Chunk, Error>
     requires lengths { HaveRows (length (boolean_rows filter_values.now)) columns.now }
     ensures types { IfOk result (λ kept. map type_of_layout kept ≡ map type_of_layout columns.now) }
-    ensures rows { IfOk result (λ kept. map rows kept ≡ map (selected_rows (mask_of (boolean_rows filter_values.now))) columns.now) }
+    ensures rows { IfOk result (λ kept. map rows kept
+        ≡ map (selected_rows (mask_of (boolean_rows filter_values.now))) columns.now) }
     ensures fits { IfOk result (λ kept. All (λ column. Fits (type_of_layout column) (rows column)) kept) }
-    ensures overflow { result ≡ Err Error.Overflow → FirstDoesNotFit (mask_of (boolean_rows filter_values.now)) columns.now }
+    ensures overflow { result ≡ Err Error.Overflow
+        → FirstDoesNotFit (mask_of (boolean_rows filter_values.now)) columns.now }
     ensures others { IfErr result IsGrowthError }
 {
     let mask = mask_of_predicate(alloc, filter_values)?;
@@ -92,9 +97,12 @@ fn filter_columns(
     mask: &Bitmap,
 ) -> Result<Vec<AnyArray>, Error>
     requires lengths { HaveRows (length mask.now) (map layout_of columns.now) }
-    ensures types { IfOk result (λ kept. map type_of_layout (map layout_of kept.items) ≡ map type_of_layout (map layout_of columns.now)) }
-    ensures rows { IfOk result (λ kept. map rows (map layout_of kept.items) ≡ map (selected_rows mask.now) (map layout_of columns.now)) }
-    ensures fits { IfOk result (λ kept. All (λ column. Fits (type_of_layout column) (rows column)) (map layout_of kept.items)) }
+    ensures types { IfOk result (λ kept. map type_of_layout (map layout_of kept.items)
+        ≡ map type_of_layout (map layout_of columns.now)) }
+    ensures rows { IfOk result (λ kept. map rows (map layout_of kept.items)
+        ≡ map (selected_rows mask.now) (map layout_of columns.now)) }
+    ensures fits { IfOk result (λ kept.
+        All (λ column. Fits (type_of_layout column) (rows column)) (map layout_of kept.items)) }
     ensures overflow { result ≡ Err Error.Overflow → FirstDoesNotFit mask.now (map layout_of columns.now) }
     ensures others { IfErr result IsGrowthError }
 {

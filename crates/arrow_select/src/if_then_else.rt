@@ -49,13 +49,23 @@ pub fn if_then_else(
     lhs: &AnyArray,
     rhs: &AnyArray,
 ) -> Result<AnyArray, Error>
-    ensures types { (result ≡ Err (Error.InvalidArgumentError ArgumentFault.IfThenElseTypes)) ↔ (any_array_type lhs.now ≢ any_array_type rhs.now) }
-    ensures lengths { (result ≡ Err (Error.InvalidArgumentError ArgumentFault.IfThenElseLengths)) ↔ ((any_array_type lhs.now ≡ any_array_type rhs.now) × (AreOneLength (boolean_rows predicate.now) (any_array_rows lhs.now) (any_array_rows rhs.now) → ⊥)) }
+    ensures types { (result ≡ Err (Error.InvalidArgumentError ArgumentFault.IfThenElseTypes))
+        ↔ (any_array_type lhs.now ≢ any_array_type rhs.now) }
+    ensures lengths { (result ≡ Err (Error.InvalidArgumentError ArgumentFault.IfThenElseLengths))
+        ↔ ((any_array_type lhs.now ≡ any_array_type rhs.now)
+        × (AreOneLength (boolean_rows predicate.now) (any_array_rows lhs.now) (any_array_rows rhs.now)
+        → ⊥)) }
     ensures array_type { IfOk result (λ all. any_array_type all ≡ any_array_type lhs.now) }
-    ensures rows { IfOk result (λ all. any_array_rows all ≡ chosen (boolean_rows predicate.now) (any_array_rows lhs.now) (any_array_rows rhs.now) (any_array_type lhs.now)) }
+    ensures rows { IfOk result (λ all. any_array_rows all
+        ≡ chosen (boolean_rows predicate.now) (any_array_rows lhs.now) (any_array_rows rhs.now)
+        (any_array_type lhs.now)) }
     ensures fits { IfOk result (λ all. Fits (any_array_type all) (any_array_rows all)) }
-    ensures overflow { result ≡ Err Error.Overflow → CannotChoose (boolean_rows predicate.now) (layout_of lhs.now) (layout_of rhs.now) }
-    ensures no_keys { result ≡ Err Error.Overflow → HasNoDictionary (any_array_type lhs.now) → Fits (any_array_type lhs.now) (chosen (boolean_rows predicate.now) (any_array_rows lhs.now) (any_array_rows rhs.now) (any_array_type lhs.now)) → ⊥ }
+    ensures overflow { result ≡ Err Error.Overflow
+        → CannotChoose (boolean_rows predicate.now) (layout_of lhs.now) (layout_of rhs.now) }
+    ensures no_keys { result ≡ Err Error.Overflow → HasNoDictionary (any_array_type lhs.now)
+        → Fits (any_array_type lhs.now)
+        (chosen (boolean_rows predicate.now) (any_array_rows lhs.now) (any_array_rows rhs.now)
+        (any_array_type lhs.now)) → ⊥ }
     ensures others { IfErr result IsIfThenElseRefusal }
 {
     if !is_of_type(lhs, rhs) {
@@ -79,11 +89,15 @@ fn chosen_rows(
     rhs: &AnyArray,
 ) -> Result<AnyArray, Error>
     requires one_type { any_array_type lhs.now ≡ any_array_type rhs.now }
-    requires lengths { AreOneLength (boolean_rows predicate.now) (any_array_rows lhs.now) (any_array_rows rhs.now) }
+    requires lengths { AreOneLength (boolean_rows predicate.now) (any_array_rows lhs.now)
+        (any_array_rows rhs.now) }
     ensures array_type { IfOk result (λ all. any_array_type all ≡ any_array_type lhs.now) }
-    ensures rows { IfOk result (λ all. any_array_rows all ≡ chosen (boolean_rows predicate.now) (any_array_rows lhs.now) (any_array_rows rhs.now) (any_array_type lhs.now)) }
+    ensures rows { IfOk result (λ all. any_array_rows all
+        ≡ chosen (boolean_rows predicate.now) (any_array_rows lhs.now) (any_array_rows rhs.now)
+        (any_array_type lhs.now)) }
     ensures fits { IfOk result (λ all. Fits (any_array_type all) (any_array_rows all)) }
-    ensures overflow { result ≡ Err Error.Overflow → CannotChoose (boolean_rows predicate.now) (layout_of lhs.now) (layout_of rhs.now) }
+    ensures overflow { result ≡ Err Error.Overflow
+        → CannotChoose (boolean_rows predicate.now) (layout_of lhs.now) (layout_of rhs.now) }
     ensures others { IfErr result IsGrowthError }
 {
     match (lhs, rhs) {
@@ -111,11 +125,15 @@ fn chosen_by_runs(
     rhs: &AnyArray,
 ) -> Result<AnyArray, Error>
     requires bound { grown_of growable ≡ bound_to (layout_of lhs.now ∷ layout_of rhs.now ∷ []) }
-    requires lengths { AreOneLength (boolean_rows predicate.now) (any_array_rows lhs.now) (any_array_rows rhs.now) }
+    requires lengths { AreOneLength (boolean_rows predicate.now) (any_array_rows lhs.now)
+        (any_array_rows rhs.now) }
     ensures array_type { IfOk result (λ all. any_array_type all ≡ any_array_type lhs.now) }
-    ensures rows { IfOk result (λ all. any_array_rows all ≡ chosen (boolean_rows predicate.now) (any_array_rows lhs.now) (any_array_rows rhs.now) (any_array_type lhs.now)) }
+    ensures rows { IfOk result (λ all. any_array_rows all
+        ≡ chosen (boolean_rows predicate.now) (any_array_rows lhs.now) (any_array_rows rhs.now)
+        (any_array_type lhs.now)) }
     ensures fits { IfOk result (λ all. Fits (any_array_type all) (any_array_rows all)) }
-    ensures overflow { result ≡ Err Error.Overflow → CannotAppendChosen (boolean_rows predicate.now) (layout_of lhs.now) (layout_of rhs.now) }
+    ensures overflow { result ≡ Err Error.Overflow
+        → CannotAppendChosen (boolean_rows predicate.now) (layout_of lhs.now) (layout_of rhs.now) }
     ensures others { IfErr result IsGrowthError }
 {
     let mut growable = growable;
@@ -131,9 +149,13 @@ fn append_by_kind(
     rhs: &AnyArray,
 ) -> Result<(), Error>
     requires bound { grown_of growable.old ≡ bound_to (layout_of lhs.now ∷ layout_of rhs.now ∷ []) }
-    requires lengths { AreOneLength (boolean_rows predicate.now) (any_array_rows lhs.now) (any_array_rows rhs.now) }
-    ensures ok { OnOk result (HasAppended (layout_of lhs.now ∷ layout_of rhs.now ∷ []) (grown_of growable.new) (chosen (boolean_rows predicate.now) (any_array_rows lhs.now) (any_array_rows rhs.now) (any_array_type lhs.now))) }
-    ensures overflow { result ≡ Err Error.Overflow → CannotAppendChosen (boolean_rows predicate.now) (layout_of lhs.now) (layout_of rhs.now) }
+    requires lengths { AreOneLength (boolean_rows predicate.now) (any_array_rows lhs.now)
+        (any_array_rows rhs.now) }
+    ensures ok { OnOk result (HasAppended (layout_of lhs.now ∷ layout_of rhs.now ∷ [])
+        (grown_of growable.new) (chosen (boolean_rows predicate.now) (any_array_rows lhs.now)
+        (any_array_rows rhs.now) (any_array_type lhs.now))) }
+    ensures overflow { result ≡ Err Error.Overflow
+        → CannotAppendChosen (boolean_rows predicate.now) (layout_of lhs.now) (layout_of rhs.now) }
     ensures others { IfErr result IsGrowthError }
 {
     match growable {
@@ -159,9 +181,13 @@ fn append_chosen<'a, G: Growable<'a>>(
     rhs: &AnyArray,
 ) -> Result<(), Error>
     requires bound { G.state growable.old ≡ bound_to (layout_of lhs.now ∷ layout_of rhs.now ∷ []) }
-    requires lengths { AreOneLength (boolean_rows predicate.now) (any_array_rows lhs.now) (any_array_rows rhs.now) }
-    ensures ok { OnOk result (HasAppended (layout_of lhs.now ∷ layout_of rhs.now ∷ []) (G.state growable.new) (chosen (boolean_rows predicate.now) (any_array_rows lhs.now) (any_array_rows rhs.now) (any_array_type lhs.now))) }
-    ensures overflow { result ≡ Err Error.Overflow → CannotAppendChosen (boolean_rows predicate.now) (layout_of lhs.now) (layout_of rhs.now) }
+    requires lengths { AreOneLength (boolean_rows predicate.now) (any_array_rows lhs.now)
+        (any_array_rows rhs.now) }
+    ensures ok { OnOk result (HasAppended (layout_of lhs.now ∷ layout_of rhs.now ∷ [])
+        (G.state growable.new) (chosen (boolean_rows predicate.now) (any_array_rows lhs.now)
+        (any_array_rows rhs.now) (any_array_type lhs.now))) }
+    ensures overflow { result ≡ Err Error.Overflow
+        → CannotAppendChosen (boolean_rows predicate.now) (layout_of lhs.now) (layout_of rhs.now) }
     ensures others { IfErr result IsGrowthError }
 {
     prove!(lhs.len() == rhs.len());
@@ -183,7 +209,8 @@ fn append_run<'a, G: Growable<'a>>(
     requires left { NamesRows (G.state growable.old) 0 start count }
     requires right { NamesRows (G.state growable.old) 1 start count }
     requires well { (G.state growable.old).failed ≡ false }
-    ensures ok { OnOk result (G.state growable.new ≡ appended (G.state growable.old) (run_rows (G.state growable.old) truth start count)) }
+    ensures ok { OnOk result (G.state growable.new
+        ≡ appended (G.state growable.old) (run_rows (G.state growable.old) truth start count)) }
     ensures fits { OnOk result (FitsItself (G.state growable.new)) }
     ensures overflow { result ≡ Err Error.Overflow → CannotHoldRun (G.state growable.old) truth start count }
     ensures others { IfErr result IsGrowthError }
@@ -207,7 +234,8 @@ pub fn if_then_else_ranges(
     alloc: Global,
     predicate: &BooleanArray,
 ) -> Result<Vec<(usize, usize, usize)>, Error>
-    ensures named { IfOk result (λ ranges. named_sides ranges.items ≡ sides_from 0 (boolean_rows predicate.now)) }
+    ensures named { IfOk result (λ ranges. named_sides ranges.items
+        ≡ sides_from 0 (boolean_rows predicate.now)) }
     ensures shortest { IfOk result (λ ranges. IsShortestOfSides ranges.items) }
     ensures err { IsOkUnless result Error.OutOfMemory }
 {

@@ -8,7 +8,8 @@ use arrow_arrays::array::AnyArray;
 
 // Shows that each of several arrays holds no dictionary, if its type holds none.
 pub(crate) fn show_all_no_keys(arrays: &[&AnyArray])
-    ensures { All (λ array. HasNoDictionary (any_array_type array.now) → HasNoKeys (layout_of array.now)) arrays.now }
+    ensures { All (λ array. HasNoDictionary (any_array_type array.now)
+        → HasNoKeys (layout_of array.now)) arrays.now }
 {
     for array in arrays {
         show_no_keys(array);
@@ -56,7 +57,8 @@ fn show_no_keys(array: &AnyArray)
 // Shows the same of the children of an array.
 #[cycle(keys)]
 fn show_no_keys_in(children: &[AnyArray])
-    ensures { All (λ child. HasNoDictionary (any_array_type child) → HasNoKeys (layout_of child)) children.now }
+    ensures { All (λ child. HasNoDictionary (any_array_type child)
+        → HasNoKeys (layout_of child)) children.now }
 {
     for child in children {
         show_no_keys(child);

@@ -15,6 +15,8 @@ ghost use Rattle.arrow_select.specs.Laws.{CanTakeByFields, IsChoice, IsStructOrU
 ghost use Rattle.arrow_select.specs.Selected.{FirstDoesNotFit};
 ghost use Rattle.arrow_select.specs.Taken.{AreIndices};
 
+pub mod batches;
+
 use crate::filter::Filter;
 use arrow_arrays::array::AnyArray;
 use arrow_arrays::chunk::Chunk;
@@ -25,7 +27,9 @@ use arrow_types::types::Index;
 /// The rows at which a predicate is true are the rows by index of the places where it is.
 pub fn select_is_gather(array: &AnyArray, filter: &BooleanArray)
     requires { length (boolean_rows filter.now) ≡ length (any_array_rows array.now) }
-    ensures { select (mask_of (boolean_rows filter.now)) (any_array_rows array.now) ≡ gather (any_array_rows array.now) (true_places (mask_of (boolean_rows filter.now))) (any_array_type array.now) }
+    ensures { select (mask_of (boolean_rows filter.now)) (any_array_rows array.now)
+        ≡ gather (any_array_rows array.now) (true_places (mask_of (boolean_rows filter.now)))
+        (any_array_type array.now) }
 {}
 
 /// Rows by index of rows by index are the rows by the indices that the second ones name of the first.
@@ -35,7 +39,11 @@ pub fn gather_of_gather<I: Index, J: Index>(
     second: &PrimitiveArray<J>,
 )
     requires inside { AreIndices (length (rows_by (map I.slot) first.now)) (rows_by (map J.slot) second.now) }
-    ensures { gather (gather (any_array_rows array.now) (rows_by (map I.slot) first.now) (any_array_type array.now)) (rows_by (map J.slot) second.now) (any_array_type array.now) ≡ gather (any_array_rows array.now) (gather (rows_by (map I.slot) first.now) (rows_by (map J.slot) second.now) first.now.arrow_type) (any_array_type array.now) }
+    ensures { gather (gather (any_array_rows array.now) (rows_by (map I.slot) first.now)
+        (any_array_type array.now)) (rows_by (map J.slot) second.now) (any_array_type array.now)
+        ≡ gather (any_array_rows array.now)
+        (gather (rows_by (map I.slot) first.now) (rows_by (map J.slot) second.now) first.now.arrow_type)
+        (any_array_type array.now) }
 {
     // The null slot of the indices' type is null.
     let _ = first.data_type();
@@ -43,7 +51,10 @@ pub fn gather_of_gather<I: Index, J: Index>(
 
 /// It makes no difference which of three arrays are joined first.
 pub fn joined_is_associative(left: &AnyArray, middle: &AnyArray, right: &AnyArray)
-    ensures { joined (joined (any_array_rows left.now ∷ any_array_rows middle.now ∷ []) ∷ any_array_rows right.now ∷ []) ≡ joined (any_array_rows left.now ∷ joined (any_array_rows middle.now ∷ any_array_rows right.now ∷ []) ∷ []) }
+    ensures { joined (joined (any_array_rows left.now ∷ any_array_rows middle.now ∷ [])
+        ∷ any_array_rows right.now ∷ [])
+        ≡ joined (any_array_rows left.now
+        ∷ joined (any_array_rows middle.now ∷ any_array_rows right.now ∷ []) ∷ []) }
 {}
 
 /// An array that is cut in two and joined has its rows again.
@@ -52,7 +63,9 @@ pub fn joined_is_associative(left: &AnyArray, middle: &AnyArray, right: &AnyArra
 /// It is cut at a row, or behind the last.
 pub fn joined_of_cut(array: &AnyArray, at: usize)
     requires { at ≤ length (any_array_rows array.now) }
-    ensures { joined (sliced (any_array_rows array.now) 0 at ∷ sliced (any_array_rows array.now) at (length (any_array_rows array.now) - at) ∷ []) ≡ any_array_rows array.now }
+    ensures { joined (sliced (any_array_rows array.now) 0 at
+        ∷ sliced (any_array_rows array.now) at (length (any_array_rows array.now) - at) ∷ [])
+        ≡ any_array_rows array.now }
 {}
 
 /// Arrays of the same types and rows are concatenated to the same type and rows.
@@ -87,8 +100,10 @@ pub fn shift_goes_by_rows(
     offset: i64,
 )
     requires same { any_array_meaning other.now ≡ any_array_meaning array.now }
-    requires moved { any_array_meaning moved.now ≡ (any_array_type array.now, shifted (any_array_rows array.now) offset (any_array_type array.now)) }
-    requires other_moved { any_array_meaning other_moved.now ≡ (any_array_type other.now, shifted (any_array_rows other.now) offset (any_array_type other.now)) }
+    requires moved { any_array_meaning moved.now
+        ≡ (any_array_type array.now, shifted (any_array_rows array.now) offset (any_array_type array.now)) }
+    requires other_moved { any_array_meaning other_moved.now
+        ≡ (any_array_type other.now, shifted (any_array_rows other.now) offset (any_array_type other.now)) }
     ensures { any_array_meaning other_moved.now ≡ any_array_meaning moved.now }
 {}
 
@@ -106,8 +121,18 @@ pub fn filter_goes_by_rows(
 )
     requires same { any_array_meaning other.now ≡ any_array_meaning array.now }
     requires filters { boolean_rows other_filter.now ≡ boolean_rows filter.now }
-    requires kept { any_array_meaning kept.now ≡ (any_array_type array.now, select (mask_of (boolean_rows filter.now)) (any_array_rows array.now)) }
-    requires other_kept { any_array_meaning other_kept.now ≡ (any_array_type other.now, select (mask_of (boolean_rows other_filter.now)) (any_array_rows other.now)) }
+    requires kept { any_array_meaning kept.now
+        ≡ (
+          any_array_type array.now,
+          select (mask_of (boolean_rows filter.now))
+              (any_array_rows array.now),
+        ) }
+    requires other_kept { any_array_meaning other_kept.now
+        ≡ (
+          any_array_type other.now,
+          select (mask_of (boolean_rows other_filter.now))
+              (any_array_rows other.now),
+        ) }
     ensures { any_array_meaning other_kept.now ≡ any_array_meaning kept.now }
 {}
 
@@ -125,8 +150,18 @@ pub fn take_goes_by_rows<I: Index, J: Index>(
 )
     requires same { any_array_meaning other.now ≡ any_array_meaning array.now }
     requires indices { rows_by (map J.slot) other_indices.now ≡ rows_by (map I.slot) indices.now }
-    requires taken { any_array_meaning taken.now ≡ (any_array_type array.now, gather (any_array_rows array.now) (rows_by (map I.slot) indices.now) (any_array_type array.now)) }
-    requires other_taken { any_array_meaning other_taken.now ≡ (any_array_type other.now, gather (any_array_rows other.now) (rows_by (map J.slot) other_indices.now) (any_array_type other.now)) }
+    requires taken { any_array_meaning taken.now
+        ≡ (
+          any_array_type array.now,
+          gather (any_array_rows array.now) (rows_by (map I.slot) indices.now)
+              (any_array_type array.now),
+        ) }
+    requires other_taken { any_array_meaning other_taken.now
+        ≡ (
+          any_array_type other.now,
+          gather (any_array_rows other.now)
+              (rows_by (map J.slot) other_indices.now) (any_array_type other.now),
+        ) }
     ensures { any_array_meaning other_taken.now ≡ any_array_meaning taken.now }
 {}
 

@@ -56,9 +56,14 @@ pub fn take<O: Index>(
 ) -> Result<AnyArray, Error>
     requires inside { AreIndices (length (any_array_rows values.now)) (rows_by (map O.slot) indices.now) }
     ensures array_type { IfOk result (λ taken. any_array_type taken ≡ any_array_type values.now) }
-    ensures rows { IfOk result (λ taken. any_array_rows taken ≡ gather (any_array_rows values.now) (rows_by (map O.slot) indices.now) (any_array_type values.now)) }
+    ensures rows { IfOk result (λ taken. any_array_rows taken
+        ≡ gather (any_array_rows values.now) (rows_by (map O.slot) indices.now)
+        (any_array_type values.now)) }
     ensures fits { IfOk result (λ taken. Fits (any_array_type taken) (any_array_rows taken)) }
-    ensures overflow { result ≡ Err Error.Overflow → Fits (any_array_type values.now) (gather (any_array_rows values.now) (rows_by (map O.slot) indices.now) (any_array_type values.now)) → ⊥ }
+    ensures overflow { result ≡ Err Error.Overflow
+        → Fits (any_array_type values.now)
+        (gather (any_array_rows values.now) (rows_by (map O.slot) indices.now) (any_array_type values.now))
+        → ⊥ }
     ensures others { IfErr result IsGrowthError }
 {
     match values {

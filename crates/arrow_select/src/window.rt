@@ -28,11 +28,15 @@ use std::alloc::Global;
 ///
 /// Source: arrow2's `shift`.
 pub fn shift(alloc: Global, array: &AnyArray, offset: i64) -> Result<AnyArray, Error>
-    ensures passes { (result ≡ Err (Error.InvalidArgumentError ArgumentFault.ShiftOffset)) ↔ PassesLength offset (length (any_array_rows array.now)) }
+    ensures passes { (result ≡ Err (Error.InvalidArgumentError ArgumentFault.ShiftOffset))
+        ↔ PassesLength offset (length (any_array_rows array.now)) }
     ensures array_type { IfOk result (λ moved. any_array_type moved ≡ any_array_type array.now) }
-    ensures rows { IfOk result (λ moved. any_array_rows moved ≡ shifted (any_array_rows array.now) offset (any_array_type array.now)) }
+    ensures rows { IfOk result (λ moved. any_array_rows moved
+        ≡ shifted (any_array_rows array.now) offset (any_array_type array.now)) }
     ensures fits { IfOk result (λ moved. Fits (any_array_type moved) (any_array_rows moved)) }
-    ensures overflow { result ≡ Err Error.Overflow → Fits (any_array_type array.now) (shifted (any_array_rows array.now) offset (any_array_type array.now)) → ⊥ }
+    ensures overflow { result ≡ Err Error.Overflow
+        → Fits (any_array_type array.now)
+        (shifted (any_array_rows array.now) offset (any_array_type array.now)) → ⊥ }
     ensures others { IfErr result IsShiftRefusal }
 {
     let distance = offset.unsigned_abs() as usize;
@@ -55,9 +59,12 @@ fn rows_between(
     requires bound { grown_of growable ≡ bound_to (layout_of array.now ∷ []) }
     requires within { front + behind ≤ length (any_array_rows array.now) }
     ensures array_type { IfOk result (λ moved. any_array_type moved ≡ any_array_type array.now) }
-    ensures rows { IfOk result (λ moved. any_array_rows moved ≡ between (any_array_rows array.now) front behind (any_array_type array.now)) }
+    ensures rows { IfOk result (λ moved. any_array_rows moved
+        ≡ between (any_array_rows array.now) front behind (any_array_type array.now)) }
     ensures fits { IfOk result (λ moved. Fits (any_array_type moved) (any_array_rows moved)) }
-    ensures overflow { result ≡ Err Error.Overflow → Fits (any_array_type array.now) (between (any_array_rows array.now) front behind (any_array_type array.now)) → ⊥ }
+    ensures overflow { result ≡ Err Error.Overflow
+        → Fits (any_array_type array.now)
+        (between (any_array_rows array.now) front behind (any_array_type array.now)) → ⊥ }
     ensures others { IfErr result IsGrowthError }
 {
     let mut growable = growable;
@@ -75,8 +82,11 @@ fn append_between(
 ) -> Result<(), Error>
     requires bound { grown_of growable.old ≡ bound_to (layout_of array.now ∷ []) }
     requires within { front + behind ≤ length (any_array_rows array.now) }
-    ensures ok { OnOk result (HasAppended (layout_of array.now ∷ []) (grown_of growable.new) (between (any_array_rows array.now) front behind (any_array_type array.now))) }
-    ensures overflow { result ≡ Err Error.Overflow → Fits (any_array_type array.now) (between (any_array_rows array.now) front behind (any_array_type array.now)) → ⊥ }
+    ensures ok { OnOk result (HasAppended (layout_of array.now ∷ []) (grown_of growable.new)
+        (between (any_array_rows array.now) front behind (any_array_type array.now))) }
+    ensures overflow { result ≡ Err Error.Overflow
+        → Fits (any_array_type array.now)
+        (between (any_array_rows array.now) front behind (any_array_type array.now)) → ⊥ }
     ensures others { IfErr result IsGrowthError }
 {
     growable.extend_validity(front)?;

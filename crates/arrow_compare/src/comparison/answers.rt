@@ -26,7 +26,8 @@ pub(super) fn take_answers(
 ) -> Result<BooleanArray, Error>
     requires { AreKeys (length (boolean_rows answers.now)) (key_rows keys.now) }
     ensures array_type { IfOk result (λ array. array.arrow_type ≡ answers.now.arrow_type) }
-    ensures rows { IfOk result (λ array. boolean_rows array ≡ gather (boolean_rows answers.now) (key_rows keys.now) answers.now.arrow_type) }
+    ensures rows { IfOk result (λ array. boolean_rows array
+        ≡ gather (boolean_rows answers.now) (key_rows keys.now) answers.now.arrow_type) }
     ensures err { IsOkUnless result Error.OutOfMemory }
 {
     match keys {
@@ -48,7 +49,8 @@ pub(super) fn known_or(
     answers: &BooleanArray,
 ) -> Result<BooleanArray, Error>
     ensures array_type { IfOk result (λ array. array.arrow_type ≡ plain boolean) }
-    ensures rows { IfOk result (λ array. boolean_rows array ≡ map (known_or spare) (boolean_rows answers.now)) }
+    ensures rows { IfOk result (λ array. boolean_rows array
+        ≡ map (known_or spare) (boolean_rows answers.now)) }
     ensures err { IsOkUnless result Error.OutOfMemory }
 {
     Ok(truths(known_bits(alloc, spare, answers)?, None))

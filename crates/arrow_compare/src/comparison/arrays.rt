@@ -34,7 +34,8 @@ pub(super) fn relate(
     requires one_length { length (any_array_rows lhs.now) ≡ length (any_array_rows rhs.now) }
     requires has_relation { HasRelation (relation_of by) (physical_type_of (any_array_type lhs.now)) }
     ensures array_type { IfOk result (λ array. array.arrow_type ≡ plain boolean) }
-    ensures rows { IfOk result (λ array. boolean_rows array ≡ row_by_row (related (relation_of by)) (any_array_rows lhs.now) (any_array_rows rhs.now)) }
+    ensures rows { IfOk result (λ array. boolean_rows array
+        ≡ row_by_row (related (relation_of by)) (any_array_rows lhs.now) (any_array_rows rhs.now)) }
     ensures err { IsOkUnless result Error.OutOfMemory }
 {
     have_one_kind(by, lhs, rhs);
@@ -65,7 +66,8 @@ pub(super) fn same(alloc: Global, lhs: &AnyArray, rhs: &AnyArray) -> Result<Bool
     requires one_length { length (any_array_rows lhs.now) ≡ length (any_array_rows rhs.now) }
     requires has_equality { HasEquality (physical_type_of (any_array_type lhs.now)) }
     ensures array_type { IfOk result (λ array. array.arrow_type ≡ plain boolean) }
-    ensures rows { IfOk result (λ array. boolean_rows array ≡ row_by_row is_same (any_array_rows lhs.now) (any_array_rows rhs.now)) }
+    ensures rows { IfOk result (λ array. boolean_rows array
+        ≡ row_by_row is_same (any_array_rows lhs.now) (any_array_rows rhs.now)) }
     ensures err { IsOkUnless result Error.OutOfMemory }
 {
     have_one_kind(Relation::Eq, lhs, rhs);
@@ -101,7 +103,8 @@ fn relate_primitive(
     requires one_length { length (any_rows lhs.now) ≡ length (any_rows rhs.now) }
     requires has_relation { KindHasRelation (relation_of by) (primitive_kind (element_of lhs.now)) }
     ensures array_type { IfOk result (λ array. array.arrow_type ≡ plain boolean) }
-    ensures rows { IfOk result (λ array. boolean_rows array ≡ row_by_row (related (relation_of by)) (any_rows lhs.now) (any_rows rhs.now)) }
+    ensures rows { IfOk result (λ array. boolean_rows array
+        ≡ row_by_row (related (relation_of by)) (any_rows lhs.now) (any_rows rhs.now)) }
     ensures err { IsOkUnless result Error.OutOfMemory }
 {
     match lhs {
@@ -130,7 +133,8 @@ fn relate_numbers<T: AnyElement + NativeOrd>(
     requires one_element { element_of rhs.now ≡ T.PRIMITIVE }
     requires one_length { length (rows_by (map T.slot) lhs.now) ≡ length (any_rows rhs.now) }
     ensures array_type { IfOk result (λ array. array.arrow_type ≡ plain boolean) }
-    ensures rows { IfOk result (λ array. boolean_rows array ≡ row_by_row (related (relation_of by)) (rows_by (map T.slot) lhs.now) (any_rows rhs.now)) }
+    ensures rows { IfOk result (λ array. boolean_rows array
+        ≡ row_by_row (related (relation_of by)) (rows_by (map T.slot) lhs.now) (any_rows rhs.now)) }
     ensures err { IsOkUnless result Error.OutOfMemory }
 {
     primitive::relate(alloc, by, lhs, T::of_any(rhs))
@@ -147,7 +151,8 @@ fn relate_intervals<T: AnyElement>(
     requires one_length { length (rows_by (map T.slot) lhs.now) ≡ length (any_rows rhs.now) }
     requires equality { IsEquality (relation_of by) }
     ensures array_type { IfOk result (λ array. array.arrow_type ≡ plain boolean) }
-    ensures rows { IfOk result (λ array. boolean_rows array ≡ row_by_row (related (relation_of by)) (rows_by (map T.slot) lhs.now) (any_rows rhs.now)) }
+    ensures rows { IfOk result (λ array. boolean_rows array
+        ≡ row_by_row (related (relation_of by)) (rows_by (map T.slot) lhs.now) (any_rows rhs.now)) }
     ensures err { IsOkUnless result Error.OutOfMemory }
 {
     match by {
@@ -166,7 +171,8 @@ fn same_primitive(
     requires one_element { element_of lhs.now ≡ element_of rhs.now }
     requires one_length { length (any_rows lhs.now) ≡ length (any_rows rhs.now) }
     ensures array_type { IfOk result (λ array. array.arrow_type ≡ plain boolean) }
-    ensures rows { IfOk result (λ array. boolean_rows array ≡ row_by_row is_same (any_rows lhs.now) (any_rows rhs.now)) }
+    ensures rows { IfOk result (λ array. boolean_rows array
+        ≡ row_by_row is_same (any_rows lhs.now) (any_rows rhs.now)) }
     ensures err { IsOkUnless result Error.OutOfMemory }
 {
     match lhs {
@@ -194,7 +200,8 @@ fn same_elements<T: AnyElement>(
     requires one_element { element_of rhs.now ≡ T.PRIMITIVE }
     requires one_length { length (rows_by (map T.slot) lhs.now) ≡ length (any_rows rhs.now) }
     ensures array_type { IfOk result (λ array. array.arrow_type ≡ plain boolean) }
-    ensures rows { IfOk result (λ array. boolean_rows array ≡ row_by_row is_same (rows_by (map T.slot) lhs.now) (any_rows rhs.now)) }
+    ensures rows { IfOk result (λ array. boolean_rows array
+        ≡ row_by_row is_same (rows_by (map T.slot) lhs.now) (any_rows rhs.now)) }
     ensures err { IsOkUnless result Error.OutOfMemory }
 {
     primitive::eq_and_validity(alloc, lhs, T::of_any(rhs))

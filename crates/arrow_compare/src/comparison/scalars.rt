@@ -36,7 +36,9 @@ pub(super) fn relate_scalar(
     requires one_type { logical (any_array_type lhs.now) ≡ logical (meaning_of rhs.now).0 }
     requires has_relation { HasRelationThrough (relation_of by) (any_array_type lhs.now) }
     ensures array_type { IfOk result (λ array. array.arrow_type ≡ plain boolean) }
-    ensures rows { IfOk result (λ array. boolean_rows array ≡ map (λ s. related (relation_of by) (through s) (through (meaning_of rhs.now).1)) (any_array_rows lhs.now)) }
+    ensures rows { IfOk result (λ array. boolean_rows array
+        ≡ map (λ s. related (relation_of by) (through s) (through (meaning_of rhs.now).1))
+        (any_array_rows lhs.now)) }
     ensures err { IsOkUnless result Error.OutOfMemory }
 {
     match value_of(rhs) {
@@ -55,7 +57,8 @@ pub(super) fn same_scalar(
     requires one_type { logical (any_array_type lhs.now) ≡ logical (meaning_of rhs.now).0 }
     requires has_equality { HasEqualityThrough (any_array_type lhs.now) }
     ensures array_type { IfOk result (λ array. array.arrow_type ≡ plain boolean) }
-    ensures rows { IfOk result (λ array. boolean_rows array ≡ map (λ s. is_same (through s) (through (meaning_of rhs.now).1)) (any_array_rows lhs.now)) }
+    ensures rows { IfOk result (λ array. boolean_rows array
+        ≡ map (λ s. is_same (through s) (through (meaning_of rhs.now).1)) (any_array_rows lhs.now)) }
     ensures err { IsOkUnless result Error.OutOfMemory }
 {
     match value_of(rhs) {
@@ -70,7 +73,8 @@ pub(super) fn same_scalar(
 // The scalar through its dictionaries, or `None` where it, or the value at any depth, is null.
 #[cycle(value)]
 fn value_of(scalar: &AnyScalar) -> Option<&AnyScalar>
-    ensures { MatchOption result (through (meaning_of scalar.now).1 ≡ Null) (λ value. IsThrough (meaning_of scalar.now) value.now) }
+    ensures { MatchOption result (through (meaning_of scalar.now).1 ≡ Null)
+        (λ value. IsThrough (meaning_of scalar.now) value.now) }
 {
     scalar_has_kind(scalar);
     if !scalar.is_valid() {
@@ -94,11 +98,14 @@ fn relate_value(
     lhs: &AnyArray,
     value: &AnyScalar,
 ) -> Result<BooleanArray, Error>
-    requires one_kind { scalar_kind value.now ≡ kind_in (physical_type_of (type_through (any_array_type lhs.now))) }
+    requires one_kind { scalar_kind value.now
+        ≡ kind_in (physical_type_of (type_through (any_array_type lhs.now))) }
     requires has_relation { KindHasRelation (relation_of by) (scalar_kind value.now) }
     requires valid { is_null (meaning_of value.now).1 ≡ false }
     ensures array_type { IfOk result (λ array. array.arrow_type ≡ plain boolean) }
-    ensures rows { IfOk result (λ array. boolean_rows array ≡ map (λ s. related (relation_of by) (through s) (meaning_of value.now).1) (any_array_rows lhs.now)) }
+    ensures rows { IfOk result (λ array. boolean_rows array
+        ≡ map (λ s. related (relation_of by) (through s) (meaning_of value.now).1)
+        (any_array_rows lhs.now)) }
     ensures err { IsOkUnless result Error.OutOfMemory }
 {
     // The kind of the array follows from its data type.
@@ -117,7 +124,8 @@ fn relate_value(
 fn null_rows(alloc: Global, lhs: &AnyArray) -> Result<BooleanArray, Error>
     requires has_equality { HasEqualityThrough (any_array_type lhs.now) }
     ensures array_type { IfOk result (λ array. array.arrow_type ≡ plain boolean) }
-    ensures rows { IfOk result (λ array. boolean_rows array ≡ map (λ s. Boolean (is_null (through s))) (any_array_rows lhs.now)) }
+    ensures rows { IfOk result (λ array. boolean_rows array
+        ≡ map (λ s. Boolean (is_null (through s))) (any_array_rows lhs.now)) }
     ensures err { IsOkUnless result Error.OutOfMemory }
 {
     // The kind of the array follows from its data type.

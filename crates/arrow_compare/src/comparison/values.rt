@@ -33,7 +33,8 @@ pub(super) fn relate_flat(
     requires has_relation { KindHasRelation (relation_of by) (scalar_kind rhs.now) }
     requires valid { is_null (meaning_of rhs.now).1 ≡ false }
     ensures array_type { IfOk result (λ array. array.arrow_type ≡ plain boolean) }
-    ensures rows { IfOk result (λ array. boolean_rows array ≡ map (λ s. related (relation_of by) s (meaning_of rhs.now).1) (any_array_rows lhs.now)) }
+    ensures rows { IfOk result (λ array. boolean_rows array
+        ≡ map (λ s. related (relation_of by) s (meaning_of rhs.now).1) (any_array_rows lhs.now)) }
     ensures err { IsOkUnless result Error.OutOfMemory }
 {
     match (lhs, rhs) {
@@ -81,7 +82,8 @@ fn relate_primitive(
     requires has_relation { KindHasRelation (relation_of by) (primitive_kind (scalar_element rhs.now)) }
     requires valid { is_null (any_scalar_slot rhs.now) ≡ false }
     ensures array_type { IfOk result (λ array. array.arrow_type ≡ plain boolean) }
-    ensures rows { IfOk result (λ array. boolean_rows array ≡ map (λ s. related (relation_of by) s (any_scalar_slot rhs.now)) (any_rows lhs.now)) }
+    ensures rows { IfOk result (λ array. boolean_rows array
+        ≡ map (λ s. related (relation_of by) s (any_scalar_slot rhs.now)) (any_rows lhs.now)) }
     ensures err { IsOkUnless result Error.OutOfMemory }
 {
     match rhs {
@@ -110,7 +112,8 @@ fn relate_number<T: AnyElement + NativeOrd>(
     requires one_element { element_of lhs.now ≡ T.PRIMITIVE }
     requires valid { is_null (slot_by T.slot rhs.now.value) ≡ false }
     ensures array_type { IfOk result (λ array. array.arrow_type ≡ plain boolean) }
-    ensures rows { IfOk result (λ array. boolean_rows array ≡ map (λ s. related (relation_of by) s (slot_by T.slot rhs.now.value)) (any_rows lhs.now)) }
+    ensures rows { IfOk result (λ array. boolean_rows array
+        ≡ map (λ s. related (relation_of by) s (slot_by T.slot rhs.now.value)) (any_rows lhs.now)) }
     ensures err { IsOkUnless result Error.OutOfMemory }
 {
     primitive::relate_scalar(alloc, by, T::of_any(lhs), known(rhs.value()))
@@ -127,7 +130,8 @@ fn relate_interval<T: AnyElement>(
     requires equality { IsEquality (relation_of by) }
     requires valid { is_null (slot_by T.slot rhs.now.value) ≡ false }
     ensures array_type { IfOk result (λ array. array.arrow_type ≡ plain boolean) }
-    ensures rows { IfOk result (λ array. boolean_rows array ≡ map (λ s. related (relation_of by) s (slot_by T.slot rhs.now.value)) (any_rows lhs.now)) }
+    ensures rows { IfOk result (λ array. boolean_rows array
+        ≡ map (λ s. related (relation_of by) s (slot_by T.slot rhs.now.value)) (any_rows lhs.now)) }
     ensures err { IsOkUnless result Error.OutOfMemory }
 {
     match by {

@@ -104,8 +104,10 @@ impl<O: Offset, K: GrowableKind> GrowableBytes<O, K> {
     ) -> Result<(), Error>
         requires some { 0 < len }
         requires part { start + len ≤ length (row_bytes array.now.values) }
-        ensures ok { OnOk result (row_bytes self.new ≡ row_bytes self.old ++ sliced (row_bytes array.now.values) start len) }
-        ensures overflow { result ≡ Err Error.Overflow → O.greatest < total (row_bytes self.old ++ sliced (row_bytes array.now.values) start len) }
+        ensures ok { OnOk result (row_bytes self.new
+            ≡ row_bytes self.old ++ sliced (row_bytes array.now.values) start len) }
+        ensures overflow { result ≡ Err Error.Overflow
+            → O.greatest < total (row_bytes self.old ++ sliced (row_bytes array.now.values) start len) }
         ensures others { IfErr result IsGrowthError }
     {
         let (rows, values) = parts(array);
@@ -123,8 +125,12 @@ impl<O: Offset, K: GrowableKind> GrowableBytes<O, K> {
         requires some { 0 < len }
         requires part { start + len ≤ length (row_bytes array.now.values) }
         requires covered { start + len ≤ length validity.now }
-        ensures ok { OnOk result (row_bytes self.new ≡ row_bytes self.old ++ filled (sliced validity.now start len) (sliced (row_bytes array.now.values) start len)) }
-        ensures overflow { result ≡ Err Error.Overflow → O.greatest < total (row_bytes self.old ++ filled (sliced validity.now start len) (sliced (row_bytes array.now.values) start len)) }
+        ensures ok { OnOk result (row_bytes self.new
+            ≡ row_bytes self.old ++ filled (sliced validity.now start len)
+            (sliced (row_bytes array.now.values) start len)) }
+        ensures overflow { result ≡ Err Error.Overflow
+            → O.greatest < total (row_bytes self.old
+            ++ filled (sliced validity.now start len) (sliced (row_bytes array.now.values) start len)) }
         ensures others { IfErr result IsGrowthError }
     {
         let (rows, values) = parts(array);
@@ -147,8 +153,11 @@ impl<O: Offset, K: GrowableKind> GrowableBytes<O, K> {
         len: usize,
     ) -> Result<(), Error>
         requires { start + len ≤ length (row_bytes array.now.values) }
-        ensures ok { OnOk result (row_bytes self.new ≡ row_bytes self.old ++ stored_rows array.now.validity array.now.values start len) }
-        ensures overflow { result ≡ Err Error.Overflow → O.greatest < total (row_bytes self.old ++ stored_rows array.now.validity array.now.values start len) }
+        ensures ok { OnOk result (row_bytes self.new
+            ≡ row_bytes self.old ++ stored_rows array.now.validity array.now.values start len) }
+        ensures overflow { result ≡ Err Error.Overflow
+            → O.greatest < total (row_bytes self.old
+            ++ stored_rows array.now.validity array.now.values start len) }
         ensures others { IfErr result IsGrowthError }
     {
         if len == 0 {
@@ -185,8 +194,13 @@ fn copy_rows<O: Offset>(
     requires within { last_of rows.now ≤ length values.now }
     ensures sound { IsOffsets offsets.old }
     ensures rows_sound { IsOffsets rows.now }
-    ensures ok { OnOk result ((offsets.new ≡ with_rows offsets.old rows.now start len) × (bytes.new.items ≡ bytes.old.items ++ sliced values.now (slice_index rows.now start) (slice_index rows.now (start + len) - slice_index rows.now start))) }
-    ensures overflow { result ≡ Err Error.Overflow → O.greatest < last_of offsets.old + (slice_index rows.now (start + len) - slice_index rows.now start) }
+    ensures ok { OnOk result ((offsets.new ≡ with_rows offsets.old rows.now start len)
+        × (bytes.new.items ≡ bytes.old.items
+        ++ sliced values.now (slice_index rows.now start)
+        (slice_index rows.now (start + len) - slice_index rows.now start))) }
+    ensures overflow { result ≡ Err Error.Overflow
+        → O.greatest < last_of offsets.old +
+        (slice_index rows.now (start + len) - slice_index rows.now start) }
     ensures others { IfErr result IsGrowthError }
     ensures unchanged { OnErr result ((offsets.new ≡ offsets.old) × (bytes.new.items ≡ bytes.old.items)) }
 {
@@ -218,8 +232,12 @@ fn copy_valid_rows<O: Offset>(
     requires within { last_of rows.now ≤ length values.now }
     ensures sound { IsOffsets offsets.old }
     ensures rows_sound { IsOffsets rows.now }
-    ensures ok { OnOk result ((offsets.new ≡ with_valid_rows offsets.old (sliced validity.now start len) rows.now start) × (bytes.new.items ≡ bytes.old.items ++ valid_values (sliced validity.now start len) rows.now values.now start)) }
-    ensures overflow { result ≡ Err Error.Overflow → O.greatest < last_of offsets.old + valid_items (sliced validity.now start len) rows.now start }
+    ensures ok { OnOk result ((offsets.new
+        ≡ with_valid_rows offsets.old (sliced validity.now start len) rows.now start)
+        × (bytes.new.items ≡ bytes.old.items
+        ++ valid_values (sliced validity.now start len) rows.now values.now start)) }
+    ensures overflow { result ≡ Err Error.Overflow
+        → O.greatest < last_of offsets.old + valid_items (sliced validity.now start len) rows.now start }
     ensures others { IfErr result IsGrowthError }
     ensures unchanged { OnErr result ((offsets.new ≡ offsets.old) × (bytes.new.items ≡ bytes.old.items)) }
 {
@@ -260,7 +278,8 @@ fn unset_from(validity: &Bitmap, first: usize, count: usize) -> u64
     requires some { 0 < count }
     requires in_word { first % 64 + count ≤ 64 }
     ensures within { (k : ℕ) → bit_at result k ≡ 1 → k < count }
-    ensures unset { (k : ℕ) → k < count → slice_index_or validity.now (first + k) false ≡ false → bit_at result k ≡ 1 }
+    ensures unset { (k : ℕ) → k < count → slice_index_or validity.now (first + k) false ≡ false
+        → bit_at result k ≡ 1 }
 {
     let word = validity.word(first / WORD_BITS) >> (first % WORD_BITS);
     !word & (u64::MAX >> (WORD_BITS - count))
@@ -270,7 +289,8 @@ fn unset_from(validity: &Bitmap, first: usize, count: usize) -> u64
 #[inline(always)]
 fn are_empty<O: Offset>(rows: &OffsetsBuffer<O>, start: usize, word: u64) -> bool
     requires { (k : ℕ) → bit_at word k ≡ 1 → start + k + 1 < length rows.now }
-    ensures { IsTrue result → (k : ℕ) → bit_at word k ≡ 1 → slice_index rows.now (start + k + 1) ≡ slice_index rows.now (start + k) }
+    ensures { IsTrue result → (k : ℕ) → bit_at word k ≡ 1
+        → slice_index rows.now (start + k + 1) ≡ slice_index rows.now (start + k) }
 {
     prove!(0 < rows.len());
     let mut left = word;
@@ -301,8 +321,12 @@ fn copy_set_rows<O: Offset>(
     requires within { last_of rows.now ≤ length values.now }
     ensures sound { IsOffsets offsets.old }
     ensures rows_sound { IsOffsets rows.now }
-    ensures ok { OnOk result ((offsets.new ≡ with_valid_rows offsets.old (sliced validity.now start len) rows.now start) × (bytes.new.items ≡ bytes.old.items ++ valid_values (sliced validity.now start len) rows.now values.now start)) }
-    ensures overflow { result ≡ Err Error.Overflow → O.greatest < last_of offsets.old + valid_items (sliced validity.now start len) rows.now start }
+    ensures ok { OnOk result ((offsets.new
+        ≡ with_valid_rows offsets.old (sliced validity.now start len) rows.now start)
+        × (bytes.new.items ≡ bytes.old.items
+        ++ valid_values (sliced validity.now start len) rows.now values.now start)) }
+    ensures overflow { result ≡ Err Error.Overflow
+        → O.greatest < last_of offsets.old + valid_items (sliced validity.now start len) rows.now start }
     ensures others { IfErr result IsGrowthError }
     ensures unchanged { OnErr result ((offsets.new ≡ offsets.old) × (bytes.new.items ≡ bytes.old.items)) }
 {
@@ -330,10 +354,15 @@ fn append_valid_rows<O: Offset>(
     requires part { start + len < length rows.now }
     requires covered { start + len ≤ length validity.now }
     requires within { last_of rows.now ≤ length values.now }
-    ensures ok { OnOk result ((offsets.new ≡ with_valid_rows offsets.old (sliced validity.now start len) rows.now start) × (bytes.new.items ≡ bytes.old.items ++ valid_values (sliced validity.now start len) rows.now values.now start)) }
-    ensures overflow { result ≡ Err Error.Overflow → O.greatest < last_of offsets.old + valid_items (sliced validity.now start len) rows.now start }
+    ensures ok { OnOk result ((offsets.new
+        ≡ with_valid_rows offsets.old (sliced validity.now start len) rows.now start)
+        × (bytes.new.items ≡ bytes.old.items
+        ++ valid_values (sliced validity.now start len) rows.now values.now start)) }
+    ensures overflow { result ≡ Err Error.Overflow
+        → O.greatest < last_of offsets.old + valid_items (sliced validity.now start len) rows.now start }
     ensures others { IfErr result IsGrowthError }
-    ensures unchanged { OnErr result ((offsets.new ≡ offsets.old) × BeginsWith bytes.old.items bytes.new.items) }
+    ensures unchanged { OnErr result
+        ((offsets.new ≡ offsets.old) × BeginsWith bytes.old.items bytes.new.items) }
 {
     let (first, end) = rows.range(start, len);
     // Room for the bytes of all these rows, which are no more than the array has. It is a wish: a null row takes none.
@@ -355,7 +384,8 @@ fn append_valid_bytes<O: Offset>(
     requires part { start + len < length rows.now }
     requires covered { start + len ≤ length validity.now }
     requires within { last_of rows.now ≤ length values.now }
-    ensures ok { OnOk result (bytes.new.items ≡ bytes.old.items ++ valid_values (sliced validity.now start len) rows.now values.now start) }
+    ensures ok { OnOk result (bytes.new.items
+        ≡ bytes.old.items ++ valid_values (sliced validity.now start len) rows.now values.now start) }
     ensures before { OnErr result (BeginsWith bytes.old.items bytes.new.items) }
     ensures err { IsOkUnless result Error.OutOfMemory }
 {
@@ -385,7 +415,9 @@ fn append_bytes<O: Offset>(
     requires part { start + len < length rows.now }
     requires within { last_of rows.now ≤ length values.now }
     requires until { until ≤ length values.now }
-    ensures ok { OnOk result (bytes.new.items ≡ bytes.old.items ++ sliced values.now (slice_index rows.now start) (slice_index rows.now (start + len) - slice_index rows.now start)) }
+    ensures ok { OnOk result (bytes.new.items
+        ≡ bytes.old.items ++ sliced values.now (slice_index rows.now start)
+        (slice_index rows.now (start + len) - slice_index rows.now start)) }
     ensures unchanged { OnErr result (bytes.new.items ≡ bytes.old.items) }
     ensures err { IsOkUnless result Error.OutOfMemory }
 {

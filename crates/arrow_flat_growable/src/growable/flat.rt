@@ -88,7 +88,8 @@ pub trait GrowableValues: Drop {
         ensures ok { OnOk result (slots self.new ≡ slots self.old ++ stored_slice array.now start len) }
         ensures kind { (t : ArrowType) → are_of self.old t → are_of self.new t }
         ensures fits { (t : ArrowType) → are_of self.old t → OnOk result (Fits t (slots self.new)) }
-        ensures overflow { (t : ArrowType) → are_of self.old t → result ≡ Err Error.Overflow → Fits t (slots self.old ++ stored_slice array.now start len) → ⊥ }
+        ensures overflow { (t : ArrowType) → are_of self.old t → result ≡ Err Error.Overflow
+            → Fits t (slots self.old ++ stored_slice array.now start len) → ⊥ }
         ensures others { IfErr result IsGrowthError };
 
     /// Appends what is stored beneath so many nulls.
@@ -96,7 +97,8 @@ pub trait GrowableValues: Drop {
         ensures ok { OnOk result (slots self.new ≡ slots self.old ++ blanks self.old additional) }
         ensures kind { (t : ArrowType) → are_of self.old t → are_of self.new t }
         ensures fits { (t : ArrowType) → are_of self.old t → OnOk result (Fits t (slots self.new)) }
-        ensures overflow { (t : ArrowType) → are_of self.old t → result ≡ Err Error.Overflow → Fits t (slots self.old ++ blanks self.old additional) → ⊥ }
+        ensures overflow { (t : ArrowType) → are_of self.old t → result ≡ Err Error.Overflow
+            → Fits t (slots self.old ++ blanks self.old additional) → ⊥ }
         ensures others { IfErr result IsGrowthError };
 
     /// An array of these rows under a validity.
@@ -108,7 +110,8 @@ pub trait GrowableValues: Drop {
         requires kind { are_of self (type_of data_type) }
         requires fits { FitsRows validity (length (slots self)) }
         ensures kind { IfOk result (λ array. type_in array ≡ type_of data_type) }
-        ensures rows { IfOk result (λ array. masked (bits_in array) (stored_in array) ≡ masked validity (slots self)) }
+        ensures rows { IfOk result (λ array. masked (bits_in array) (stored_in array)
+            ≡ masked validity (slots self)) }
         ensures err { IsOkUnless result Error.OutOfMemory };
 
     /// An array of any type as one whose rows are stored so.
@@ -208,8 +211,10 @@ impl<'a, G: GrowableValues> FlatGrowable<'a, G> {
         capacity: usize,
     ) -> Result<FlatGrowable<'a, G>, Error>
         requires some { 0 < length arrays.items }
-        requires one_type { AreOfOneType (map (λ r. flat_layout G.type_in G.bits_in G.stored_in r.now) arrays.items) }
-        ensures ok { IfOk result (λ growable. growable ≡ bound_to (map (λ r. flat_layout G.type_in G.bits_in G.stored_in r.now) arrays.entry.items)) }
+        requires one_type { AreOfOneType
+            (map (λ r. flat_layout G.type_in G.bits_in G.stored_in r.now) arrays.items) }
+        ensures ok { IfOk result (λ growable. growable
+            ≡ bound_to (map (λ r. flat_layout G.type_in G.bits_in G.stored_in r.now) arrays.entry.items)) }
         ensures err { IsOkUnless result Error.OutOfMemory }
     {
         let first: &'a G::Array = arrays[0];
@@ -231,7 +236,8 @@ impl<'a, G: GrowableValues> FlatGrowable<'a, G> {
     /// # Errors
     /// `Failed` where an earlier call refused; `OutOfMemory` where memory is refused.
     pub fn into_array(self) -> Result<G::Array, Error>
-        ensures ok { IfOk result (λ array. (G.type_in array ≡ self.entry.arrow_type) × (masked (G.bits_in array) (G.stored_in array) ≡ self.entry.rows)) }
+        ensures ok { IfOk result (λ array. (G.type_in array ≡ self.entry.arrow_type)
+            × (masked (G.bits_in array) (G.stored_in array) ≡ self.entry.rows)) }
         ensures failed { (result ≡ Err Error.Failed) ↔ (self.entry.failed ≡ true) }
         ensures others { IfErr result IsFailedOrMemory }
     {
@@ -259,7 +265,8 @@ fn finish<G: GrowableValues>(
     requires carried { IsCarried (type_of data_type) }
     requires kind { G.are_of values (type_of data_type) }
     requires covered { length validity ≡ length (G.slots values) }
-    ensures ok { IfOk result (λ array. (G.type_in array ≡ type_of data_type) × (masked (G.bits_in array) (G.stored_in array) ≡ mask validity (G.slots values))) }
+    ensures ok { IfOk result (λ array. (G.type_in array ≡ type_of data_type)
+        × (masked (G.bits_in array) (G.stored_in array) ≡ mask validity (G.slots values))) }
     ensures err { IsOkUnless result Error.OutOfMemory }
 {
     let validity = validity.into_validity()?;
@@ -280,10 +287,14 @@ fn append<G: GrowableValues>(
     requires covers { Covers G.spares validity.old (G.slots values.old) }
     ensures covers { OnOk result (Covers G.spares validity.new (G.slots values.new)) }
     ensures count { OnOk result (length validity.new ≡ length validity.old + len) }
-    ensures rows { OnOk result (mask validity.new (G.slots values.new) ≡ mask validity.old (G.slots values.old) ++ sliced (masked (G.bits_in array.now) (G.stored_in array.now)) start len) }
+    ensures rows { OnOk result (mask validity.new (G.slots values.new)
+        ≡ mask validity.old (G.slots values.old)
+        ++ sliced (masked (G.bits_in array.now) (G.stored_in array.now)) start len) }
     ensures kind { (t : ArrowType) → G.are_of values.old t → G.are_of values.new t }
     ensures fits { (t : ArrowType) → G.are_of values.old t → OnOk result (Fits t (G.slots values.new)) }
-    ensures overflow { (t : ArrowType) → G.are_of values.old t → result ≡ Err Error.Overflow → Fits t (mask validity.old (G.slots values.old) ++ sliced (masked (G.bits_in array.now) (G.stored_in array.now)) start len) → ⊥ }
+    ensures overflow { (t : ArrowType) → G.are_of values.old t → result ≡ Err Error.Overflow
+        → Fits t (mask validity.old (G.slots values.old)
+        ++ sliced (masked (G.bits_in array.now) (G.stored_in array.now)) start len) → ⊥ }
     ensures others { IfErr result IsGrowthError }
 {
     validity.extend_from(G::validity(array), start, len)?;
@@ -300,10 +311,12 @@ fn append_nulls<G: GrowableValues>(
     requires covers { Covers G.spares validity.old (G.slots values.old) }
     ensures covers { OnOk result (Covers G.spares validity.new (G.slots values.new)) }
     ensures count { OnOk result (length validity.new ≡ length validity.old + additional) }
-    ensures rows { OnOk result (mask validity.new (G.slots values.new) ≡ mask validity.old (G.slots values.old) ++ replicate additional Null) }
+    ensures rows { OnOk result (mask validity.new (G.slots values.new)
+        ≡ mask validity.old (G.slots values.old) ++ replicate additional Null) }
     ensures kind { (t : ArrowType) → G.are_of values.old t → G.are_of values.new t }
     ensures fits { (t : ArrowType) → G.are_of values.old t → OnOk result (Fits t (G.slots values.new)) }
-    ensures overflow { (t : ArrowType) → G.are_of values.old t → result ≡ Err Error.Overflow → Fits t (mask validity.old (G.slots values.old) ++ replicate additional Null) → ⊥ }
+    ensures overflow { (t : ArrowType) → G.are_of values.old t → result ≡ Err Error.Overflow
+        → Fits t (mask validity.old (G.slots values.old) ++ replicate additional Null) → ⊥ }
     ensures others { IfErr result IsGrowthError }
 {
     validity.extend_nulls(additional)?;

@@ -98,10 +98,13 @@ impl GrowableKeys {
         requires same { grown_key_type self.old ≡ key_type_of others.now }
         requires part { start + len ≤ length (key_rows others.now) }
         requires keys { All IsKeyIn (key_rows others.now) }
-        ensures ok { OnOk result (key_slots self.new ≡ key_slots self.old ++ map (grown_key by) (sliced (key_rows others.now) start len)) }
-        ensures fits { OnOk result (All (KeyFits (greatest_number (key_type_of others.now)) by) (sliced (key_rows others.now) start len)) }
+        ensures ok { OnOk result (key_slots self.new
+            ≡ key_slots self.old ++ map (grown_key by) (sliced (key_rows others.now) start len)) }
+        ensures fits { OnOk result (All (KeyFits (greatest_number (key_type_of others.now)) by)
+            (sliced (key_rows others.now) start len)) }
         ensures same { grown_key_type self.new ≡ grown_key_type self.old }
-        ensures overflow { result ≡ Err Error.Overflow → SomePasses (greatest_number (key_type_of others.now)) by (key_rows others.now) start len }
+        ensures overflow { result ≡ Err Error.Overflow
+            → SomePasses (greatest_number (key_type_of others.now)) by (key_rows others.now) start len }
         ensures others { IfErr result IsGrowthError }
     {
         match (self, others) {
@@ -152,10 +155,13 @@ impl GrowableKeys {
         requires same { grown_key_type self.old ≡ key_type_of others.now }
         requires part { start + len ≤ length (key_rows others.now) }
         requires within { AreKeys count (key_rows others.now) }
-        ensures ok { OnOk result (key_slots self.new ≡ key_slots self.old ++ map (grown_key by) (sliced (key_rows others.now) start len)) }
-        ensures fits { OnOk result (All (KeyFits (greatest_number (key_type_of others.now)) by) (sliced (key_rows others.now) start len)) }
+        ensures ok { OnOk result (key_slots self.new
+            ≡ key_slots self.old ++ map (grown_key by) (sliced (key_rows others.now) start len)) }
+        ensures fits { OnOk result (All (KeyFits (greatest_number (key_type_of others.now)) by)
+            (sliced (key_rows others.now) start len)) }
         ensures same { grown_key_type self.new ≡ grown_key_type self.old }
-        ensures overflow { result ≡ Err Error.Overflow → SomePasses (greatest_number (key_type_of others.now)) by (key_rows others.now) start len }
+        ensures overflow { result ≡ Err Error.Overflow
+            → SomePasses (greatest_number (key_type_of others.now)) by (key_rows others.now) start len }
         ensures others { IfErr result IsGrowthError }
     {
         match (self, others) {
@@ -266,9 +272,13 @@ fn append_within<K: MovedKey>(
 ) -> Result<(), Error>
     requires part { start + len ≤ length (rows_by (map K.slot) others.now) }
     requires within { AreKeys count (rows_by (map K.slot) others.now) }
-    ensures ok { OnOk result (map K.slot keys.new.items ≡ map K.slot keys.old.items ++ map (grown_key by) (sliced (rows_by (map K.slot) others.now) start len)) }
-    ensures fits { OnOk result (All (KeyFits K.greatest by) (sliced (rows_by (map K.slot) others.now) start len)) }
-    ensures overflow { result ≡ Err Error.Overflow → SomePasses K.greatest by (rows_by (map K.slot) others.now) start len }
+    ensures ok { OnOk result (map K.slot keys.new.items
+        ≡ map K.slot keys.old.items
+        ++ map (grown_key by) (sliced (rows_by (map K.slot) others.now) start len)) }
+    ensures fits { OnOk result (All (KeyFits K.greatest by)
+        (sliced (rows_by (map K.slot) others.now) start len)) }
+    ensures overflow { result ≡ Err Error.Overflow
+        → SomePasses K.greatest by (rows_by (map K.slot) others.now) start len }
     ensures others { IfErr result IsGrowthError }
 {
     let Some(step) = step_of::<K>(by, count) else {
@@ -293,9 +303,13 @@ fn append_keys<K: DictionaryKey>(
 ) -> Result<(), Error>
     requires part { start + len ≤ length (rows_by (map K.slot) others.now) }
     requires keys { All IsKeyIn (rows_by (map K.slot) others.now) }
-    ensures ok { OnOk result (map K.slot keys.new.items ≡ map K.slot keys.old.items ++ map (grown_key by) (sliced (rows_by (map K.slot) others.now) start len)) }
-    ensures fits { OnOk result (All (KeyFits K.greatest by) (sliced (rows_by (map K.slot) others.now) start len)) }
-    ensures overflow { result ≡ Err Error.Overflow → SomePasses K.greatest by (rows_by (map K.slot) others.now) start len }
+    ensures ok { OnOk result (map K.slot keys.new.items
+        ≡ map K.slot keys.old.items
+        ++ map (grown_key by) (sliced (rows_by (map K.slot) others.now) start len)) }
+    ensures fits { OnOk result (All (KeyFits K.greatest by)
+        (sliced (rows_by (map K.slot) others.now) start len)) }
+    ensures overflow { result ≡ Err Error.Overflow
+        → SomePasses K.greatest by (rows_by (map K.slot) others.now) start len }
     ensures others { IfErr result IsGrowthError }
 {
     // There are as many rows as a `usize` counts.
@@ -311,10 +325,13 @@ fn append_keys<K: DictionaryKey>(
 fn grown<K: DictionaryKey>(others: &PrimitiveArray<K>, i: usize, by: usize) -> Result<K, Error>
     requires within { i < length (rows_by (map K.slot) others.now) }
     requires key { IsKeyIn (slice_index_or (rows_by (map K.slot) others.now) i Null) }
-    ensures ok { IfOk result (λ key. K.slot key ≡ grown_key by (slice_index_or (rows_by (map K.slot) others.now) i Null)) }
-    ensures fits { OnOk result (KeyFits K.greatest by (slice_index_or (rows_by (map K.slot) others.now) i Null)) }
+    ensures ok { IfOk result (λ key. K.slot key
+        ≡ grown_key by (slice_index_or (rows_by (map K.slot) others.now) i Null)) }
+    ensures fits { OnOk result (KeyFits K.greatest by
+        (slice_index_or (rows_by (map K.slot) others.now) i Null)) }
     ensures err { IsOkUnless result Error.Overflow }
-    ensures overflow { result ≡ Err Error.Overflow → PassesGreatest K.greatest by (slice_index_or (rows_by (map K.slot) others.now) i Null) }
+    ensures overflow { result ≡ Err Error.Overflow
+        → PassesGreatest K.greatest by (slice_index_or (rows_by (map K.slot) others.now) i Null) }
 {
     // The validity has a bit for each row.
     let _ = others.validity();
@@ -333,7 +350,8 @@ fn grown<K: DictionaryKey>(others: &PrimitiveArray<K>, i: usize, by: usize) -> R
 // Appends so many keys 0.
 fn append_zeros<K: DictionaryKey>(keys: &mut Vec<K>, additional: usize) -> Result<(), Error>
     requires { length keys.old.items + additional < 2 ^ 64 }
-    ensures ok { OnOk result (map K.slot keys.new.items ≡ map K.slot keys.old.items ++ replicate additional zero_key) }
+    ensures ok { OnOk result (map K.slot keys.new.items
+        ≡ map K.slot keys.old.items ++ replicate additional zero_key) }
     ensures err { IsOkUnless result Error.OutOfMemory }
 {
     keys.resize(keys.len() + additional, K::default())?;

@@ -87,7 +87,8 @@ impl GrowableNull {
     /// # Errors
     /// `Failed` where an earlier call refused.
     pub fn into_array(self) -> Result<NullArray, Error>
-        ensures ok { IfOk result (λ array. (array.arrow_type ≡ self.arrow_type) × (null_rows array ≡ self.rows)) }
+        ensures ok { IfOk result (λ array. (array.arrow_type ≡ self.arrow_type)
+            × (null_rows array ≡ self.rows)) }
         ensures failed { (result ≡ Err Error.Failed) ↔ (self.failed ≡ true) }
         ensures others { IfErr result IsFailedOrMemory }
     {
@@ -178,7 +179,8 @@ impl<'a> Growable<'a> for GrowableNull {
         ensures fits { OnOk result (FitsItself self.new) }
         ensures err { OnErr result (HasFailed self.old self.new) }
         ensures failed { (result ≡ Err Error.Failed) ↔ (self.old.failed ≡ true) }
-        ensures overflow { result ≡ Err Error.Overflow → FitsWith self.old (null_rows_of self.old additional) → ⊥ }
+        ensures overflow { result ≡ Err Error.Overflow
+            → FitsWith self.old (null_rows_of self.old additional) → ⊥ }
         ensures others { IfErr result IsRefusal }
         ensures takes_no_memory { IfErr result IsFailedOrOverflow }
         ensures exact { (result ≡ Err Error.Overflow) ↔ CannotCount self.old additional }
@@ -235,7 +237,8 @@ impl<'a> BoundNulls<'a> {
     pub fn new(arrays: Vec<&'a NullArray>) -> Result<BoundNulls<'a>, Error>
         requires some { 0 < length arrays.items }
         requires one_type { AreOfOneType (map (λ r. null_layout r.now) arrays.items) }
-        ensures ok { IfOk result (λ growable. growable ≡ bound_to (map (λ r. null_layout r.now) arrays.entry.items)) }
+        ensures ok { IfOk result (λ growable. growable
+            ≡ bound_to (map (λ r. null_layout r.now) arrays.entry.items)) }
         ensures err { IsOkUnless result Error.OutOfMemory }
     {
         let first: &'a NullArray = arrays[0];

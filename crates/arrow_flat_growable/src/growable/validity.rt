@@ -71,7 +71,8 @@ impl GrowableValidity {
         len: usize,
     ) -> Result<(), Error>
         requires { IfSome validity (λ bits. start + len ≤ length bits.now) }
-        ensures ok { OnOk result (self.new ≡ self.old ++ bits_of_slice (option_copied validity.entry) start len) }
+        ensures ok { OnOk result (self.new
+            ≡ self.old ++ bits_of_slice (option_copied validity.entry) start len) }
         ensures overflow { result ≡ Err Error.Overflow → 2 ^ 64 ≤ length self.old + len }
         ensures others { IfErr result IsGrowthError }
     {
@@ -117,7 +118,8 @@ impl GrowableValidity {
     /// `OutOfMemory` where memory is refused.
     pub fn into_validity(self) -> Result<Option<Bitmap>, Error>
         ensures fits { IfOk result (λ validity. FitsRows validity (length self)) }
-        ensures rows { IfOk result (λ validity. (xs : List Slot) → length xs ≡ length self → masked validity xs ≡ mask self xs) }
+        ensures rows { IfOk result (λ validity. (xs : List Slot) → length xs ≡ length self
+            → masked validity xs ≡ mask self xs) }
         ensures err { IsOkUnless result Error.OutOfMemory }
     {
         let Some(bits) = self.bits else {
@@ -143,7 +145,8 @@ fn append(
 ) -> Result<(), Error>
     requires within { IfSome validity (λ part. start + len ≤ length part.now) }
     requires counted { IfSome bits.old (λ bits. length bits ≡ rows) }
-    ensures ok { OnOk result (AppendsValidity bits.old bits.new rows (bits_of_slice (option_copied validity.entry) start len)) }
+    ensures ok { OnOk result (AppendsValidity bits.old bits.new rows
+        (bits_of_slice (option_copied validity.entry) start len)) }
     ensures overflow { result ≡ Err Error.Overflow → 2 ^ 64 ≤ rows + len }
     ensures others { IfErr result IsGrowthError }
     ensures unchanged { OnErr result (AreSameBits bits.old bits.new rows) }

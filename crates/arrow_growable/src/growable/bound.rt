@@ -64,7 +64,8 @@ pub trait NestedArray: Drop {
     /// How many children there are: one for each that the data type says.
     fn width(&self) -> usize
         ensures count { result ≡ length (children_in (layout_in self.now)) }
-        ensures types { map type_of_layout (children_in (layout_in self.now)) ≡ child_types (type_of_layout (layout_in self.now)) };
+        ensures types { map type_of_layout (children_in (layout_in self.now))
+            ≡ child_types (type_of_layout (layout_in self.now)) };
 
     /// Child `f`.
     ///
@@ -299,7 +300,8 @@ impl<'a> BoundNested<'a> {
     pub(crate) fn of_any(alloc: Global, arrays: &[&'a AnyArray]) -> Result<BoundNested<'a>, Error>
         requires some { 0 < length arrays.now }
         requires one_type { AreOfOneType (map (λ a. layout_of a.now) arrays.now) }
-        requires nested { IsNestedType (physical_type_of (first_type (map (λ a. layout_of a.now) arrays.now))) }
+        requires nested { IsNestedType
+            (physical_type_of (first_type (map (λ a. layout_of a.now) arrays.now))) }
         ensures ok { IfOk result (λ bound. bound_layouts bound ≡ map (λ a. layout_of a.now) arrays.now) }
         ensures err { IsOkUnless result Error.OutOfMemory }
     {
@@ -353,8 +355,11 @@ impl<'a> BoundNested<'a> {
     pub(crate) fn column(&self, alloc: Global, f: usize) -> Result<Vec<&'a AnyArray>, Error>
         requires one_type { AreOfOneType (bound_layouts self.now) }
         requires child { f < length (child_types (first_type (bound_layouts self.now))) }
-        ensures ok { IfOk result (λ column. map (λ c. layout_of c.now) column.items ≡ map (nth_child f) (bound_layouts self.now)) }
-        ensures types { OnOk result (All (λ l. type_of_layout l ≡ child_type (first_type (bound_layouts self.now)) f) (map (nth_child f) (bound_layouts self.now))) }
+        ensures ok { IfOk result (λ column. map (λ c. layout_of c.now) column.items
+            ≡ map (nth_child f) (bound_layouts self.now)) }
+        ensures types { OnOk result (All
+            (λ l. type_of_layout l ≡ child_type (first_type (bound_layouts self.now)) f)
+            (map (nth_child f) (bound_layouts self.now))) }
         ensures err { IsOkUnless result Error.OutOfMemory }
     {
         of_bound!(self, arrays => column_of(alloc, arrays, f))
@@ -384,7 +389,8 @@ fn first_data_type<'a, A: NestedArray>(arrays: &[&'a A]) -> &'a DataType
     requires { 0 < length arrays.now }
     ensures same { type_of result.now ≡ first_type (map (λ r. A.layout_in r.now) arrays.now) }
     ensures carried { IsCarried (first_type (map (λ r. A.layout_in r.now) arrays.now)) }
-    ensures kind { kind_in (physical_type_of (first_type (map (λ r. A.layout_in r.now) arrays.now))) ≡ A.kind }
+    ensures kind { kind_in (physical_type_of (first_type (map (λ r. A.layout_in r.now) arrays.now)))
+        ≡ A.kind }
 {
     let first: &'a A = arrays[0];
     first.data_type()
@@ -406,8 +412,11 @@ fn column_of<'a, A: NestedArray>(
 ) -> Result<Vec<&'a AnyArray>, Error>
     requires one_type { AreOfOneType (map (λ r. A.layout_in r.now) arrays.now) }
     requires child { f < length (child_types (first_type (map (λ r. A.layout_in r.now) arrays.now))) }
-    ensures ok { IfOk result (λ column. map (λ c. layout_of c.now) column.items ≡ map (nth_child f) (map (λ r. A.layout_in r.now) arrays.now)) }
-    ensures types { OnOk result (All (λ l. type_of_layout l ≡ child_type (first_type (map (λ r. A.layout_in r.now) arrays.now)) f) (map (nth_child f) (map (λ r. A.layout_in r.now) arrays.now))) }
+    ensures ok { IfOk result (λ column. map (λ c. layout_of c.now) column.items
+        ≡ map (nth_child f) (map (λ r. A.layout_in r.now) arrays.now)) }
+    ensures types { OnOk result (All
+        (λ l. type_of_layout l ≡ child_type (first_type (map (λ r. A.layout_in r.now) arrays.now)) f)
+        (map (nth_child f) (map (λ r. A.layout_in r.now) arrays.now))) }
     ensures err { IsOkUnless result Error.OutOfMemory }
 {
     let mut column: Vec<&'a AnyArray> = Vec::with_capacity(alloc, arrays.len())?;
@@ -424,7 +433,8 @@ fn column_of<'a, A: NestedArray>(
 fn bind<'a, A: NestedArray>(alloc: Global, arrays: &[&'a AnyArray]) -> Result<Vec<&'a A>, Error>
     requires one_type { AreOfOneType (map (λ a. layout_of a.now) arrays.now) }
     requires kind { kind_in (physical_type_of (first_type (map (λ a. layout_of a.now) arrays.now))) ≡ A.kind }
-    ensures ok { IfOk result (λ bound. map (λ r. A.layout_in r.now) bound.items ≡ map (λ a. layout_of a.now) arrays.now) }
+    ensures ok { IfOk result (λ bound. map (λ r. A.layout_in r.now) bound.items
+        ≡ map (λ a. layout_of a.now) arrays.now) }
     ensures err { IsOkUnless result Error.OutOfMemory }
 {
     let mut bound: Vec<&'a A> = Vec::with_capacity(alloc, arrays.len())?;

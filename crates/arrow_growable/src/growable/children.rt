@@ -34,12 +34,17 @@ pub(crate) fn extend_children(
     requires sound { AreSpans rows.now }
     requires part { start + len ≤ span_count rows.now }
     requires covered { IfSome validity (λ bits. start + len ≤ length bits.now) }
-    requires bound { All (λ g. BindsRows g index (span_place rows.now (span_count rows.now))) (map grown_of children.old) }
+    requires bound { All (λ g. BindsRows g index (span_place rows.now (span_count rows.now)))
+        (map grown_of children.old) }
     requires well { All IsWell (map grown_of children.old) }
-    ensures ok { OnOk result (map grown_of children.new ≡ map (grown_by (span_nulls rows.now) (bits_of_slice (option_copied validity.entry) start len) (span_place rows.now) index start) (map grown_of children.old)) }
+    ensures ok { OnOk result (map grown_of children.new
+        ≡ map (grown_by (span_nulls rows.now) (bits_of_slice (option_copied validity.entry) start len)
+        (span_place rows.now) index start) (map grown_of children.old)) }
     ensures fits { OnOk result (All FitsItself (map grown_of children.new)) }
     ensures kept { AreBoundAs (map grown_of children.old) (map grown_of children.new) }
-    ensures overflow { result ≡ Err Error.Overflow → SomeCannotGrow (span_nulls rows.now) (bits_of_slice (option_copied validity.entry) start len) (span_place rows.now) index start (map grown_of children.old) }
+    ensures overflow { result ≡ Err Error.Overflow
+        → SomeCannotGrow (span_nulls rows.now) (bits_of_slice (option_copied validity.entry) start len)
+        (span_place rows.now) index start (map grown_of children.old) }
     ensures others { IfErr result IsGrowthError }
 {
     for child in children {
@@ -63,9 +68,17 @@ fn extend_child(
     requires covered { IfSome validity (λ bits. start + len ≤ length bits.now) }
     requires bound { BindsRows (grown_of child.old) index (span_place rows.now (span_count rows.now)) }
     requires well { IsWell (grown_of child.old) }
-    ensures ok { OnOk result (GrownBy (grown_of child.old) (grown_of child.new) (spread (span_nulls rows.now) (null_slot (grown_of child.old).arrow_type) (bits_of_slice (option_copied validity.entry) start len) (span_place rows.now) (bound_rows (grown_of child.old) index) start)) }
+    ensures ok { OnOk result (GrownBy (grown_of child.old) (grown_of child.new)
+        (spread (span_nulls rows.now) (null_slot (grown_of child.old).arrow_type)
+        (bits_of_slice (option_copied validity.entry) start len) (span_place rows.now)
+        (bound_rows (grown_of child.old) index) start)) }
     ensures kept { SameBound (grown_of child.old) (grown_of child.new) }
-    ensures overflow { result ≡ Err Error.Overflow → CannotGrow (grown_of child.old) index (LiesIn (bits_of_slice (option_copied validity.entry) start len) (span_place rows.now) start) (spread (span_nulls rows.now) (null_slot (grown_of child.old).arrow_type) (bits_of_slice (option_copied validity.entry) start len) (span_place rows.now) (bound_rows (grown_of child.old) index) start) }
+    ensures overflow { result ≡ Err Error.Overflow
+        → CannotGrow (grown_of child.old) index
+        (LiesIn (bits_of_slice (option_copied validity.entry) start len) (span_place rows.now) start)
+        (spread (span_nulls rows.now) (null_slot (grown_of child.old).arrow_type)
+        (bits_of_slice (option_copied validity.entry) start len) (span_place rows.now)
+        (bound_rows (grown_of child.old) index) start) }
     ensures others { IfErr result IsGrowthError }
 {
     match validity {
@@ -94,9 +107,17 @@ fn extend_runs(
     requires covered { start + len ≤ length validity.now }
     requires bound { BindsRows (grown_of child.old) index (span_place rows.now (span_count rows.now)) }
     requires well { IsWell (grown_of child.old) }
-    ensures ok { OnOk result (GrownBy (grown_of child.old) (grown_of child.new) (spread (span_nulls rows.now) (null_slot (grown_of child.old).arrow_type) (sliced validity.now start len) (span_place rows.now) (bound_rows (grown_of child.old) index) start)) }
+    ensures ok { OnOk result (GrownBy (grown_of child.old) (grown_of child.new)
+        (spread (span_nulls rows.now) (null_slot (grown_of child.old).arrow_type)
+        (sliced validity.now start len) (span_place rows.now)
+        (bound_rows (grown_of child.old) index) start)) }
     ensures kept { SameBound (grown_of child.old) (grown_of child.new) }
-    ensures overflow { result ≡ Err Error.Overflow → CannotGrow (grown_of child.old) index (LiesIn (sliced validity.now start len) (span_place rows.now) start) (spread (span_nulls rows.now) (null_slot (grown_of child.old).arrow_type) (sliced validity.now start len) (span_place rows.now) (bound_rows (grown_of child.old) index) start) }
+    ensures overflow { result ≡ Err Error.Overflow
+        → CannotGrow (grown_of child.old) index
+        (LiesIn (sliced validity.now start len) (span_place rows.now) start)
+        (spread (span_nulls rows.now) (null_slot (grown_of child.old).arrow_type)
+        (sliced validity.now start len) (span_place rows.now)
+        (bound_rows (grown_of child.old) index) start) }
     ensures others { IfErr result IsGrowthError }
 {
     prove!(start <= validity.len());
@@ -125,9 +146,15 @@ fn extend_run(
     requires part { start + len ≤ span_count rows.now }
     requires bound { BindsRows (grown_of child.old) index (span_place rows.now (span_count rows.now)) }
     requires well { IsWell (grown_of child.old) }
-    ensures ok { OnOk result (GrownBy (grown_of child.old) (grown_of child.new) (sliced (bound_rows (grown_of child.old) index) (span_place rows.now start) (span_place rows.now (start + len) - span_place rows.now start))) }
+    ensures ok { OnOk result (GrownBy (grown_of child.old) (grown_of child.new)
+        (sliced (bound_rows (grown_of child.old) index) (span_place rows.now start)
+        (span_place rows.now (start + len) - span_place rows.now start))) }
     ensures kept { SameBound (grown_of child.old) (grown_of child.new) }
-    ensures overflow { result ≡ Err Error.Overflow → CannotGrow (grown_of child.old) index (λ j. (span_place rows.now start ≤ j) × (j < span_place rows.now (start + len))) (sliced (bound_rows (grown_of child.old) index) (span_place rows.now start) (span_place rows.now (start + len) - span_place rows.now start)) }
+    ensures overflow { result ≡ Err Error.Overflow
+        → CannotGrow (grown_of child.old) index
+        (λ j. (span_place rows.now start ≤ j) × (j < span_place rows.now (start + len)))
+        (sliced (bound_rows (grown_of child.old) index) (span_place rows.now start)
+        (span_place rows.now (start + len) - span_place rows.now start)) }
     ensures others { IfErr result IsGrowthError }
 {
     let (first, end) = rows.range(start, len);
@@ -138,7 +165,8 @@ fn extend_run(
 #[cycle(extend_validity)]
 pub(crate) fn extend_all_nulls(children: &mut [AnyGrowable], count: usize) -> Result<(), Error>
     requires well { All IsWell (map grown_of children.old) }
-    ensures ok { OnOk result (map grown_of children.new ≡ map (grown_by_nulls count) (map grown_of children.old)) }
+    ensures ok { OnOk result (map grown_of children.new
+        ≡ map (grown_by_nulls count) (map grown_of children.old)) }
     ensures fits { OnOk result (All FitsItself (map grown_of children.new)) }
     ensures kept { AreBoundAs (map grown_of children.old) (map grown_of children.new) }
     ensures overflow { result ≡ Err Error.Overflow → SomeCannotHoldNulls count (map grown_of children.old) }
@@ -154,9 +182,11 @@ pub(crate) fn extend_all_nulls(children: &mut [AnyGrowable], count: usize) -> Re
 #[cycle(extend_validity)]
 pub(crate) fn extend_nulls(child: &mut AnyGrowable, count: usize) -> Result<(), Error>
     requires well { IsWell (grown_of child.old) }
-    ensures ok { OnOk result (GrownBy (grown_of child.old) (grown_of child.new) (null_rows_of (grown_of child.old) count)) }
+    ensures ok { OnOk result (GrownBy (grown_of child.old) (grown_of child.new)
+        (null_rows_of (grown_of child.old) count)) }
     ensures kept { SameBound (grown_of child.old) (grown_of child.new) }
-    ensures overflow { result ≡ Err Error.Overflow → FitsWith (grown_of child.old) (null_rows_of (grown_of child.old) count) → ⊥ }
+    ensures overflow { result ≡ Err Error.Overflow
+        → FitsWith (grown_of child.old) (null_rows_of (grown_of child.old) count) → ⊥ }
     ensures others { IfErr result IsGrowthError }
 {
     if count == 0 {
@@ -172,8 +202,10 @@ pub(crate) fn box_children(
     children: &mut [AnyGrowable],
 ) -> Result<Vec<AnyArray>, Error>
     requires well { All IsWell (map grown_of children.old) }
-    ensures types { IfOk result (λ arrays. map any_array_type arrays.items ≡ map (λ g. g.arrow_type) (map grown_of children.old)) }
-    ensures rows { IfOk result (λ arrays. map any_array_rows arrays.items ≡ map (λ g. g.rows) (map grown_of children.old)) }
+    ensures types { IfOk result (λ arrays. map any_array_type arrays.items
+        ≡ map (λ g. g.arrow_type) (map grown_of children.old)) }
+    ensures rows { IfOk result (λ arrays. map any_array_rows arrays.items
+        ≡ map (λ g. g.rows) (map grown_of children.old)) }
     ensures left { OnOk result (map grown_of children.new ≡ map emptied_of (map grown_of children.old)) }
     ensures kept { AreBoundAs (map grown_of children.old) (map grown_of children.new) }
     ensures err { IsOkUnless result Error.OutOfMemory }

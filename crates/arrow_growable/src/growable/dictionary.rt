@@ -94,7 +94,8 @@ impl<'a> GrowableDictionary<'a> {
     ) -> Result<GrowableDictionary<'a>, Error>
         requires some { 0 < length arrays.now }
         requires one_type { AreOfOneType (map (λ r. keyed_layout r.now) arrays.now) }
-        ensures ok { IfOk result (λ growable. growable ≡ bound_to (map (λ r. keyed_layout r.now) arrays.now)) }
+        ensures ok { IfOk result (λ growable. growable
+            ≡ bound_to (map (λ r. keyed_layout r.now) arrays.now)) }
         ensures overflow { result ≡ Err Error.Overflow → Unjoined (map (λ r. keyed_layout r.now) arrays.now) }
         ensures alone { length arrays.now ≡ 1 → IsOkUnless result Error.OutOfMemory }
         ensures others { IfErr result IsGrowthError }
@@ -113,9 +114,11 @@ impl<'a> GrowableDictionary<'a> {
     ) -> Result<GrowableDictionary<'a>, Error>
         requires some { 0 < length arrays.now }
         requires one_type { AreOfOneType (map (λ r. keyed_layout r.now) arrays.now) }
-        requires child { any_array_type values ≡ values_in (first_type (map (λ r. keyed_layout r.now) arrays.now)) }
+        requires child { any_array_type values
+            ≡ values_in (first_type (map (λ r. keyed_layout r.now) arrays.now)) }
         requires joined { any_array_rows values ≡ joined_values (map (λ r. keyed_layout r.now) arrays.now) }
-        ensures ok { IfOk result (λ growable. growable ≡ bound_to (map (λ r. keyed_layout r.now) arrays.now)) }
+        ensures ok { IfOk result (λ growable. growable
+            ≡ bound_to (map (λ r. keyed_layout r.now) arrays.now)) }
         ensures err { IsOkUnless result Error.OutOfMemory }
     {
         let starts = starts_of(alloc, arrays, values.len())?;
@@ -139,7 +142,8 @@ impl<'a> GrowableDictionary<'a> {
 
     /// Hands out an array of all rows so far, and is left without rows.
     fn take_array(&mut self) -> Result<DictionaryArray, Error>
-        ensures ok { IfOk result (λ array. (array.arrow_type ≡ self.old.arrow_type) × (keyed_rows array ≡ self.old.rows)) }
+        ensures ok { IfOk result (λ array. (array.arrow_type ≡ self.old.arrow_type)
+            × (keyed_rows array ≡ self.old.rows)) }
         ensures left { OnOk result (self.new ≡ empty_over self.old.arrow_type self.old.sources) }
         ensures err { OnErr result (HasFailed self.old self.new) }
         ensures failed { (result ≡ Err Error.Failed) ↔ (self.old.failed ≡ true) }
@@ -166,7 +170,8 @@ impl<'a> GrowableDictionary<'a> {
     /// # Errors
     /// `Failed` where an earlier call refused; `OutOfMemory` where memory is refused.
     pub fn into_array(self) -> Result<DictionaryArray, Error>
-        ensures ok { IfOk result (λ array. (array.arrow_type ≡ self.entry.arrow_type) × (keyed_rows array ≡ self.entry.rows)) }
+        ensures ok { IfOk result (λ array. (array.arrow_type ≡ self.entry.arrow_type)
+            × (keyed_rows array ≡ self.entry.rows)) }
         ensures failed { (result ≡ Err Error.Failed) ↔ (self.entry.failed ≡ true) }
         ensures others { IfErr result IsFailedOrMemory }
     {
@@ -181,8 +186,10 @@ pub(crate) fn bind<'a>(
     arrays: &[&'a AnyArray],
 ) -> Result<Vec<&'a DictionaryArray>, Error>
     requires one_type { AreOfOneType (map (λ a. layout_of a.now) arrays.now) }
-    requires kind { kind_in (physical_type_of (first_type (map (λ a. layout_of a.now) arrays.now))) ≡ dictionary_kind }
-    ensures ok { IfOk result (λ bound. map (λ r. keyed_layout r.now) bound.items ≡ map (λ a. layout_of a.now) arrays.now) }
+    requires kind { kind_in (physical_type_of (first_type (map (λ a. layout_of a.now) arrays.now)))
+        ≡ dictionary_kind }
+    ensures ok { IfOk result (λ bound. map (λ r. keyed_layout r.now) bound.items
+        ≡ map (λ a. layout_of a.now) arrays.now) }
     ensures err { IsOkUnless result Error.OutOfMemory }
 {
     let mut bound: Vec<&'a DictionaryArray> = Vec::with_capacity(alloc, arrays.len())?;
@@ -210,8 +217,10 @@ fn as_dictionary(array: &AnyArray) -> &DictionaryArray
 fn join_values(alloc: Global, arrays: &[&DictionaryArray]) -> Result<AnyArray, Error>
     requires some { 0 < length arrays.now }
     requires one_type { AreOfOneType (map (λ r. keyed_layout r.now) arrays.now) }
-    ensures child { IfOk result (λ values. any_array_type values ≡ values_in (first_type (map (λ r. keyed_layout r.now) arrays.now))) }
-    ensures joined { IfOk result (λ values. any_array_rows values ≡ joined_values (map (λ r. keyed_layout r.now) arrays.now)) }
+    ensures child { IfOk result (λ values. any_array_type values
+        ≡ values_in (first_type (map (λ r. keyed_layout r.now) arrays.now))) }
+    ensures joined { IfOk result (λ values. any_array_rows values
+        ≡ joined_values (map (λ r. keyed_layout r.now) arrays.now)) }
     ensures overflow { result ≡ Err Error.Overflow → Unjoined (map (λ r. keyed_layout r.now) arrays.now) }
     ensures alone { length arrays.now ≡ 1 → IsOkUnless result Error.OutOfMemory }
     ensures others { IfErr result IsGrowthError }
@@ -228,8 +237,10 @@ fn join_values(alloc: Global, arrays: &[&DictionaryArray]) -> Result<AnyArray, E
 
 // The values of each array.
 fn values_of<'a>(alloc: Global, arrays: &[&'a DictionaryArray]) -> Result<Vec<&'a AnyArray>, Error>
-    ensures ok { IfOk result (λ values. map (λ a. layout_of a.now) values.items ≡ map child_of (map (λ r. keyed_layout r.now) arrays.now)) }
-    ensures types { OnOk result (All (λ r. type_of_layout r.now.child ≡ values_in r.now.arrow_type) arrays.now) }
+    ensures ok { IfOk result (λ values. map (λ a. layout_of a.now) values.items
+        ≡ map child_of (map (λ r. keyed_layout r.now) arrays.now)) }
+    ensures types { OnOk result (All
+        (λ r. type_of_layout r.now.child ≡ values_in r.now.arrow_type) arrays.now) }
     ensures err { IsOkUnless result Error.OutOfMemory }
 {
     let mut values: Vec<&'a AnyArray> = Vec::with_capacity(alloc, arrays.len())?;

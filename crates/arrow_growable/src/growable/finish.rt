@@ -44,7 +44,8 @@ pub(crate) fn finish(
     requires form { IsFormOf (type_of data_type) (form_of spans) }
     requires types { map any_array_type values.items ≡ child_types (type_of data_type) }
     requires whole { AreWhole (form_of spans) (length validity) (map any_array_rows values.items) }
-    ensures ok { IfOk result (λ array. (any_array_type array ≡ type_of data_type) × (any_array_rows array ≡ nested_rows (form_of spans) validity (map any_array_rows values.items))) }
+    ensures ok { IfOk result (λ array. (any_array_type array ≡ type_of data_type)
+        × (any_array_rows array ≡ nested_rows (form_of spans) validity (map any_array_rows values.items))) }
     ensures err { IsOkUnless result Error.OutOfMemory }
 {
     let validity = validity.into_validity()?;
@@ -93,7 +94,8 @@ fn list_array(
     requires fits { FitsRows validity (length (offsets_of offsets) - 1) }
     requires within { last_of (offsets_of offsets) ≤ length (any_array_rows values.value) }
     ensures same_type { any_array_type result ≡ type_of data_type }
-    ensures rows { any_array_rows result ≡ masked validity (list_items (offsets_of offsets) (any_array_rows values.value)) }
+    ensures rows { any_array_rows result
+        ≡ masked validity (list_items (offsets_of offsets) (any_array_rows values.value)) }
 {
     let Ok(array) = ListArray::try_new(data_type, offsets, values, validity) else {
         unreachable!();
@@ -113,7 +115,8 @@ fn map_array(
     requires fits { FitsRows validity (length offsets - 1) }
     requires within { last_of offsets ≤ length (any_array_rows values.value) }
     ensures same_type { any_array_type result ≡ type_of data_type }
-    ensures rows { any_array_rows result ≡ masked validity (list_items offsets (any_array_rows values.value)) }
+    ensures rows { any_array_rows result
+        ≡ masked validity (list_items offsets (any_array_rows values.value)) }
 {
     let Ok(array) = MapArray::try_new(data_type, offsets, values, validity) else {
         unreachable!();
@@ -129,9 +132,11 @@ fn fixed_size_list_array(
 ) -> AnyArray
     requires kind { IsCarriedAs physical.FixedSizeList (type_of data_type) }
     requires child { any_array_type values.value ≡ item_type (type_of data_type) }
-    requires fits { FitsItems (list_size (type_of data_type)) (length (any_array_rows values.value)) validity }
+    requires fits { FitsItems (list_size (type_of data_type))
+        (length (any_array_rows values.value)) validity }
     ensures same_type { any_array_type result ≡ type_of data_type }
-    ensures rows { any_array_rows result ≡ masked validity (fixed_items (list_size (type_of data_type)) (any_array_rows values.value)) }
+    ensures rows { any_array_rows result
+        ≡ masked validity (fixed_items (list_size (type_of data_type)) (any_array_rows values.value)) }
 {
     let Ok(array) = FixedSizeListArray::try_new(data_type, values, validity) else {
         unreachable!();
@@ -161,8 +166,16 @@ pub(crate) fn union_array(
     values: Vec<AnyArray>,
     offsets: Option<Vec<i32>>,
 ) -> Result<UnionArray, Error>
-    requires { HoldsUnion (type_of data_type.now) types.items (map layout_of values.items) (offsets_in offsets) }
-    ensures ok { IfOk result (λ array. array ≡ (record { arrow_type = type_of data_type.now; types = types.items; child_rows = child_rows_of (offsets_in offsets); start = 0; children = map layout_of values.items })) }
+    requires { HoldsUnion (type_of data_type.now) types.items (map layout_of values.items)
+        (offsets_in offsets) }
+    ensures ok { IfOk result (λ array. array
+        ≡ (record {
+          arrow_type = type_of data_type.now;
+          types = types.items;
+          child_rows = child_rows_of (offsets_in offsets);
+          start = 0;
+          children = map layout_of values.items;
+        })) }
     ensures err { IsOkUnless result Error.OutOfMemory }
 {
     let types = Buffer::from_vec(alloc, types)?;

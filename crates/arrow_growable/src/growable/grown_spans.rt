@@ -93,10 +93,14 @@ impl GrowableSpans {
         requires sound { AreSpans others.now }
         requires part { start + len ≤ span_count others.now }
         requires covered { IfSome validity (λ bits. start + len ≤ length bits.now) }
-        ensures ok { OnOk result (form_of self.new ≡ form_with (form_of self.old) (bits_of_slice (option_copied validity.entry) start len) (span_offsets others.now) start) }
+        ensures ok { OnOk result (form_of self.new
+            ≡ form_with (form_of self.old) (bits_of_slice (option_copied validity.entry) start len)
+            (span_offsets others.now) start) }
         ensures arrays { grown_arrays self.new ≡ grown_arrays self.old }
         ensures form { emptied (form_of self.new) ≡ emptied (form_of self.old) }
-        ensures overflow { result ≡ Err Error.Overflow → PassesGreatest (grown_arrays self.old) (form_of self.old) (bits_of_slice (option_copied validity.entry) start len) (span_offsets others.now) start }
+        ensures overflow { result ≡ Err Error.Overflow
+            → PassesGreatest (grown_arrays self.old) (form_of self.old)
+            (bits_of_slice (option_copied validity.entry) start len) (span_offsets others.now) start }
         ensures others { IfErr result IsGrowthError }
     {
         match (self, others) {
@@ -153,8 +157,12 @@ fn extend<O: Offset>(
 ) -> Result<(), Error>
     requires part { start + len < length others.now }
     requires covered { IfSome validity (λ bits. start + len ≤ length bits.now) }
-    ensures ok { OnOk result (offsets.new ≡ with_valid_rows offsets.old (bits_of_slice (option_copied validity.entry) start len) others.now start) }
-    ensures overflow { result ≡ Err Error.Overflow → O.greatest < last_of offsets.old + valid_items (bits_of_slice (option_copied validity.entry) start len) others.now start }
+    ensures ok { OnOk result (offsets.new
+        ≡ with_valid_rows offsets.old
+        (bits_of_slice (option_copied validity.entry) start len) others.now start) }
+    ensures overflow { result ≡ Err Error.Overflow
+        → O.greatest < last_of offsets.old + valid_items
+        (bits_of_slice (option_copied validity.entry) start len) others.now start }
     ensures others { IfErr result IsGrowthError }
 {
     // Offsets rise.

@@ -65,7 +65,8 @@ fn count_rows(arrays: &[&AnyArray]) -> usize {
 // Appends all rows of each array that is bound.
 fn append_all(growable: &mut AnyGrowable, arrays: &[&AnyArray]) -> Result<(), Error>
     requires bound { grown_of growable.old ≡ bound_to (layouts_in arrays.now) }
-    ensures ok { OnOk result (HasAppended (layouts_in arrays.now) (grown_of growable.new) (joined (map rows (layouts_in arrays.now)))) }
+    ensures ok { OnOk result (HasAppended (layouts_in arrays.now) (grown_of growable.new)
+        (joined (map rows (layouts_in arrays.now)))) }
     ensures overflow { result ≡ Err Error.Overflow → CannotAppendAll (layouts_in arrays.now) }
     ensures others { IfErr result IsGrowthError }
 {

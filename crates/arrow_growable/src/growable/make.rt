@@ -46,7 +46,8 @@ pub fn make_growable<'a>(
 ) -> Result<AnyGrowable<'a>, Error>
     requires some { 0 < length arrays.now }
     requires one_type { AreOfOneType (map (λ a. layout_of a.now) arrays.now) }
-    ensures ok { IfOk result (λ growable. grown_of growable ≡ bound_to (map (λ a. layout_of a.now) arrays.now)) }
+    ensures ok { IfOk result (λ growable. grown_of growable
+        ≡ bound_to (map (λ a. layout_of a.now) arrays.now)) }
     ensures overflow { result ≡ Err Error.Overflow → Unjoined (map (λ a. layout_of a.now) arrays.now) }
     ensures alone { length arrays.now ≡ 1 → IsOkUnless result Error.OutOfMemory }
     ensures others { IfErr result IsGrowthError }
@@ -83,9 +84,13 @@ pub(crate) fn make_each<'a>(
     capacity: usize,
 ) -> Result<Vec<AnyGrowable<'a>>, Error>
     requires { All CanBind (map (λ column. map (λ a. layout_of a.now) column.items) columns.now) }
-    ensures ok { IfOk result (λ growables. map grown_of growables.items ≡ map bound_to (map (λ column. map (λ a. layout_of a.now) column.items) columns.now)) }
-    ensures overflow { result ≡ Err Error.Overflow → SomeColumnUnjoined (map (λ column. map (λ a. layout_of a.now) column.items) columns.now) }
-    ensures alone { All (λ column. length column ≡ 1) (map (λ column. map (λ a. layout_of a.now) column.items) columns.now) → IsOkUnless result Error.OutOfMemory }
+    ensures ok { IfOk result (λ growables. map grown_of growables.items
+        ≡ map bound_to (map (λ column. map (λ a. layout_of a.now) column.items) columns.now)) }
+    ensures overflow { result ≡ Err Error.Overflow
+        → SomeColumnUnjoined (map (λ column. map (λ a. layout_of a.now) column.items) columns.now) }
+    ensures alone { All (λ column. length column ≡ 1)
+        (map (λ column. map (λ a. layout_of a.now) column.items) columns.now)
+        → IsOkUnless result Error.OutOfMemory }
     ensures others { IfErr result IsGrowthError }
 {
     let mut growables: Vec<AnyGrowable<'a>> = Vec::with_capacity(alloc, columns.len())?;
@@ -107,7 +112,8 @@ fn make_flat<'a>(
     requires one_type { AreOfOneType (map (λ a. layout_of a.now) arrays.now) }
     requires kind { physical_type_of (first_type (map (λ a. layout_of a.now) arrays.now)) ≡ physical_type }
     requires flat { IsFlatType physical_type }
-    ensures ok { IfOk result (λ growable. grown_of growable ≡ bound_to (map (λ a. layout_of a.now) arrays.now)) }
+    ensures ok { IfOk result (λ growable. grown_of growable
+        ≡ bound_to (map (λ a. layout_of a.now) arrays.now)) }
     ensures err { IsOkUnless result Error.OutOfMemory }
 {
     match physical_type {
@@ -196,8 +202,10 @@ fn bound_primitives<'a>(
 ) -> Result<AnyGrowablePrimitive<'a>, Error>
     requires some { 0 < length arrays.now }
     requires one_type { AreOfOneType (map (λ a. layout_of a.now) arrays.now) }
-    requires kind { physical_type_of (first_type (map (λ a. layout_of a.now) arrays.now)) ≡ physical.Primitive element }
-    ensures ok { IfOk result (λ growable. primitive_grown_of growable ≡ bound_to (map (λ a. layout_of a.now) arrays.now)) }
+    requires kind { physical_type_of (first_type (map (λ a. layout_of a.now) arrays.now))
+        ≡ physical.Primitive element }
+    ensures ok { IfOk result (λ growable. primitive_grown_of growable
+        ≡ bound_to (map (λ a. layout_of a.now) arrays.now)) }
     ensures err { IsOkUnless result Error.OutOfMemory }
 {
     // The type is carried, so its elements are none of the floats.

@@ -132,7 +132,8 @@ impl<'a> GrowableNested<'a> {
         requires one_type { AreOfOneType (bound_layouts arrays) }
         requires fresh { IsFresh spans (bound_layouts arrays) }
         requires children { map grown_of children.items ≡ fresh_children (bound_layouts arrays) }
-        requires types { map (λ g. g.arrow_type) (map grown_of children.items) ≡ child_types (first_type (bound_layouts arrays)) }
+        requires types { map (λ g. g.arrow_type) (map grown_of children.items)
+            ≡ child_types (first_type (bound_layouts arrays)) }
         ensures ok { IfOk result (λ growable. growable ≡ bound_to (bound_layouts arrays.entry)) }
         ensures err { IsOkUnless result Error.OutOfMemory }
     {
@@ -161,8 +162,10 @@ fn make_children<'a>(
 ) -> Result<Vec<AnyGrowable<'a>>, Error>
     requires some { 0 < length (bound_layouts arrays.now) }
     requires one_type { AreOfOneType (bound_layouts arrays.now) }
-    ensures ok { IfOk result (λ children. map grown_of children.items ≡ fresh_children (bound_layouts arrays.now)) }
-    ensures types { IfOk result (λ children. map (λ g. g.arrow_type) (map grown_of children.items) ≡ child_types (first_type (bound_layouts arrays.now))) }
+    ensures ok { IfOk result (λ children. map grown_of children.items
+        ≡ fresh_children (bound_layouts arrays.now)) }
+    ensures types { IfOk result (λ children. map (λ g. g.arrow_type) (map grown_of children.items)
+        ≡ child_types (first_type (bound_layouts arrays.now))) }
     ensures overflow { result ≡ Err Error.Overflow → SomeUnjoined (bound_layouts arrays.now) }
     ensures alone { length (bound_layouts arrays.now) ≡ 1 → IsOkUnless result Error.OutOfMemory }
     ensures others { IfErr result IsGrowthError }

@@ -109,7 +109,8 @@ impl<'a> Spans<'a> {
         requires part { start + len ≤ span_count self.now }
         requires covered { start + len ≤ length validity.now }
         ensures slots { IsTrue result → span_nulls self.now ≡ 0 }
-        ensures rows { IsTrue result → NoneBeneath (sliced validity.now start len) (span_place self.now) start }
+        ensures rows { IsTrue result
+            → NoneBeneath (sliced validity.now start len) (span_place self.now) start }
     {
         if !self.have_no_null_slots() {
             return false;

@@ -70,8 +70,10 @@ impl<'a, A: NestedArray> GrowableOf<'a, A> {
     ) -> Result<GrowableOf<'a, A>, Error>
         requires some { 0 < length arrays.items }
         requires one_type { AreOfOneType (map (λ r. A.layout_in r.now) arrays.items) }
-        ensures ok { IfOk result (λ growable. growable ≡ bound_to (map (λ r. A.layout_in r.now) arrays.entry.items)) }
-        ensures overflow { result ≡ Err Error.Overflow → Unjoined (map (λ r. A.layout_in r.now) arrays.entry.items) }
+        ensures ok { IfOk result (λ growable. growable
+            ≡ bound_to (map (λ r. A.layout_in r.now) arrays.entry.items)) }
+        ensures overflow { result ≡ Err Error.Overflow
+            → Unjoined (map (λ r. A.layout_in r.now) arrays.entry.items) }
         ensures alone { length arrays.entry.items ≡ 1 → IsOkUnless result Error.OutOfMemory }
         ensures others { IfErr result IsGrowthError }
     {
@@ -90,7 +92,8 @@ impl<'a, A: NestedArray> GrowableOf<'a, A> {
     /// # Errors
     /// `Failed` where an earlier call refused; `OutOfMemory` where memory is refused.
     pub fn into_array(self) -> Result<A, Error>
-        ensures ok { IfOk result (λ array. (type_of_layout (A.layout_in array) ≡ self.entry.arrow_type) × (rows (A.layout_in array) ≡ self.entry.rows)) }
+        ensures ok { IfOk result (λ array. (type_of_layout (A.layout_in array) ≡ self.entry.arrow_type)
+            × (rows (A.layout_in array) ≡ self.entry.rows)) }
         ensures failed { (result ≡ Err Error.Failed) ↔ (self.entry.failed ≡ true) }
         ensures others { IfErr result IsFailedOrMemory }
     {

@@ -106,8 +106,10 @@ impl<'a> GrowableUnion<'a> {
     ) -> Result<GrowableUnion<'a>, Error>
         requires some { 0 < length arrays.items }
         requires one_type { AreOfOneType (map (λ r. union_layout r.now) arrays.items) }
-        ensures ok { IfOk result (λ growable. growable ≡ bound_to (map (λ r. union_layout r.now) arrays.entry.items)) }
-        ensures overflow { result ≡ Err Error.Overflow → Unjoined (map (λ r. union_layout r.now) arrays.entry.items) }
+        ensures ok { IfOk result (λ growable. growable
+            ≡ bound_to (map (λ r. union_layout r.now) arrays.entry.items)) }
+        ensures overflow { result ≡ Err Error.Overflow
+            → Unjoined (map (λ r. union_layout r.now) arrays.entry.items) }
         ensures alone { length arrays.entry.items ≡ 1 → IsOkUnless result Error.OutOfMemory }
         ensures others { IfErr result IsGrowthError }
     {
@@ -129,9 +131,12 @@ impl<'a> GrowableUnion<'a> {
     ) -> Result<GrowableUnion<'a>, Error>
         requires some { 0 < length arrays.items }
         requires one_type { AreOfOneType (map (λ r. union_layout r.now) arrays.items) }
-        requires children { map grown_of children.items ≡ map bound_to (union_children (map (λ r. union_layout r.now) arrays.items)) }
-        requires types { map (λ g. g.arrow_type) (map grown_of children.items) ≡ field_types (first_type (map (λ r. union_layout r.now) arrays.items)) }
-        ensures ok { IfOk result (λ growable. growable ≡ bound_to (map (λ r. union_layout r.now) arrays.entry.items)) }
+        requires children { map grown_of children.items
+            ≡ map bound_to (union_children (map (λ r. union_layout r.now) arrays.items)) }
+        requires types { map (λ g. g.arrow_type) (map grown_of children.items)
+            ≡ field_types (first_type (map (λ r. union_layout r.now) arrays.items)) }
+        ensures ok { IfOk result (λ growable. growable
+            ≡ bound_to (map (λ r. union_layout r.now) arrays.entry.items)) }
         ensures err { IsOkUnless result Error.OutOfMemory }
     {
         let data_type = first_data_type(&arrays).clone()?;
@@ -154,7 +159,8 @@ impl<'a> GrowableUnion<'a> {
     /// # Errors
     /// `Failed` where an earlier call refused; `OutOfMemory` where memory is refused.
     pub fn into_array(self) -> Result<UnionArray, Error>
-        ensures ok { IfOk result (λ array. (array.arrow_type ≡ self.entry.arrow_type) × (union_rows array ≡ self.entry.rows)) }
+        ensures ok { IfOk result (λ array. (array.arrow_type ≡ self.entry.arrow_type)
+            × (union_rows array ≡ self.entry.rows)) }
         ensures failed { (result ≡ Err Error.Failed) ↔ (self.entry.failed ≡ true) }
         ensures others { IfErr result IsFailedOrMemory }
     {
@@ -165,7 +171,8 @@ impl<'a> GrowableUnion<'a> {
     /// Hands out an array of all rows so far, and is left without rows.
     #[cycle(as_box)]
     fn take_array(&mut self) -> Result<UnionArray, Error>
-        ensures ok { IfOk result (λ array. (array.arrow_type ≡ self.old.arrow_type) × (union_rows array ≡ self.old.rows)) }
+        ensures ok { IfOk result (λ array. (array.arrow_type ≡ self.old.arrow_type)
+            × (union_rows array ≡ self.old.rows)) }
         ensures left { OnOk result (self.new ≡ empty_over self.old.arrow_type self.old.sources) }
         ensures err { OnErr result (HasFailed self.old self.new) }
         ensures failed { (result ≡ Err Error.Failed) ↔ (self.old.failed ≡ true) }
@@ -246,8 +253,10 @@ impl<'a> Growable<'a> for GrowableUnion<'a> {
 // Arrays of any type as arrays of unions.
 pub(crate) fn bind<'a>(alloc: Global, arrays: &[&'a AnyArray]) -> Result<Vec<&'a UnionArray>, Error>
     requires one_type { AreOfOneType (map (λ a. layout_of a.now) arrays.now) }
-    requires kind { kind_in (physical_type_of (first_type (map (λ a. layout_of a.now) arrays.now))) ≡ union_kind }
-    ensures ok { IfOk result (λ bound. map (λ r. union_layout r.now) bound.items ≡ map (λ a. layout_of a.now) arrays.now) }
+    requires kind { kind_in (physical_type_of (first_type (map (λ a. layout_of a.now) arrays.now)))
+        ≡ union_kind }
+    ensures ok { IfOk result (λ bound. map (λ r. union_layout r.now) bound.items
+        ≡ map (λ a. layout_of a.now) arrays.now) }
     ensures err { IsOkUnless result Error.OutOfMemory }
 {
     let mut bound: Vec<&'a UnionArray> = Vec::with_capacity(alloc, arrays.len())?;
@@ -308,7 +317,9 @@ fn all_columns<'a>(
 ) -> Result<Vec<Vec<&'a AnyArray>>, Error>
     requires some { 0 < length arrays.now }
     requires one_type { AreOfOneType (map (λ r. union_layout r.now) arrays.now) }
-    ensures ok { IfOk result (λ columns. map (λ column. map (λ a. layout_of a.now) column.items) columns.items ≡ union_children (map (λ r. union_layout r.now) arrays.now)) }
+    ensures ok { IfOk result (λ columns.
+        map (λ column. map (λ a. layout_of a.now) column.items) columns.items
+        ≡ union_children (map (λ r. union_layout r.now) arrays.now)) }
     ensures types { OnOk result (HaveFieldTypes (map (λ r. union_layout r.now) arrays.now)) }
     ensures err { IsOkUnless result Error.OutOfMemory }
 {
@@ -328,8 +339,11 @@ fn column_of<'a>(
 ) -> Result<Vec<&'a AnyArray>, Error>
     requires one_type { AreOfOneType (map (λ r. union_layout r.now) arrays.now) }
     requires child { f < length (field_types (first_type (map (λ r. union_layout r.now) arrays.now))) }
-    ensures ok { IfOk result (λ column. map (λ a. layout_of a.now) column.items ≡ map (child_at f) (map (λ r. union_layout r.now) arrays.now)) }
-    ensures types { OnOk result (All (λ l. type_of_layout l ≡ variant_type (first_type (map (λ r. union_layout r.now) arrays.now)) f) (map (child_at f) (map (λ r. union_layout r.now) arrays.now))) }
+    ensures ok { IfOk result (λ column. map (λ a. layout_of a.now) column.items
+        ≡ map (child_at f) (map (λ r. union_layout r.now) arrays.now)) }
+    ensures types { OnOk result (All
+        (λ l. type_of_layout l ≡ variant_type (first_type (map (λ r. union_layout r.now) arrays.now)) f)
+        (map (child_at f) (map (λ r. union_layout r.now) arrays.now))) }
     ensures err { IsOkUnless result Error.OutOfMemory }
 {
     let mut column: Vec<&'a AnyArray> = Vec::with_capacity(alloc, arrays.len())?;
@@ -344,7 +358,8 @@ fn column_of<'a>(
 fn child_of(array: &UnionArray, f: usize) -> &AnyArray
     requires { f < length (field_types array.now.arrow_type) }
     ensures child { layout_of result.now ≡ child_at f (union_layout array.now) }
-    ensures field { type_of_layout (child_at f (union_layout array.now)) ≡ variant_type array.now.arrow_type f }
+    ensures field { type_of_layout (child_at f (union_layout array.now))
+        ≡ variant_type array.now.arrow_type f }
 {
     &array.fields()[f]
 }

@@ -33,8 +33,12 @@ fn run_length(array: &UnionArray, row: usize, end: usize) -> usize
     requires part { end ≤ length array.now.types }
     ensures some { 0 < result }
     ensures part { row + result ≤ end }
-    ensures types { sliced array.now.types row result ≡ replicate result (slice_index_or array.now.types row (pos 0)) }
-    ensures places { sliced (child_rows_by array.now.child_rows array.now.start (length array.now.types)) row result ≡ range_with_len (slice_index_or (child_rows_by array.now.child_rows array.now.start (length array.now.types)) row 0) result }
+    ensures types { sliced array.now.types row result
+        ≡ replicate result (slice_index_or array.now.types row (pos 0)) }
+    ensures places { sliced (child_rows_by array.now.child_rows array.now.start
+        (length array.now.types)) row result
+        ≡ range_with_len (slice_index_or
+        (child_rows_by array.now.child_rows array.now.start (length array.now.types)) row 0) result }
 {
     let ids = array.types().as_slice();
     // A dense union has an offset for each row.
@@ -70,7 +74,8 @@ fn risen(ids: &[i8], offsets: &[i32], start: usize, end: usize) -> usize
     ensures some { 0 < result }
     ensures part { start + result ≤ end }
     ensures same { sliced ids.now start result ≡ replicate result (slice_index_or ids.now start (pos 0)) }
-    ensures risen { sliced (map child_row_of offsets.now) start result ≡ range_with_len (child_row_of (slice_index_or offsets.now start (pos 0))) result }
+    ensures risen { sliced (map child_row_of offsets.now) start result
+        ≡ range_with_len (child_row_of (slice_index_or offsets.now start (pos 0))) result }
 {
     let id = ids[start];
     let mut next = offsets[start].to_usize() + 1;

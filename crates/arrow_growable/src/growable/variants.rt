@@ -41,11 +41,23 @@ pub(crate) fn extend_variants(
 ) -> Result<(), Error>
     requires index { index < length arrays.now }
     requires part { start + len ≤ length (rows (source_at (map (λ r. union_layout r.now) arrays.now) index)) }
-    requires bound { IsBoundUnion (map (λ r. union_layout r.now) arrays.now) (source_type (map (λ r. union_layout r.now) arrays.now) index) (offsets_in offsets.old) (map grown_of children.old) }
-    requires holds { HoldsVariants (source_type (map (λ r. union_layout r.now) arrays.now) index) types.old.items (offsets_in offsets.old) (map grown_of children.old) }
-    ensures ok { OnOk result (GrowsVariants (source_type (map (λ r. union_layout r.now) arrays.now) index) types.old.items (offsets_in offsets.old) (map grown_of children.old) types.new.items (offsets_in offsets.new) (map grown_of children.new) (sliced (rows (source_at (map (λ r. union_layout r.now) arrays.now) index)) start len)) }
-    ensures bound { IsBoundUnion (map (λ r. union_layout r.now) arrays.now) (source_type (map (λ r. union_layout r.now) arrays.now) index) (offsets_in offsets.new) (map grown_of children.new) }
-    ensures overflow { result ≡ Err Error.Overflow → RowsRefused (map (λ r. union_layout r.now) arrays.now) types.old.items (offsets_in offsets.old) (map grown_of children.old) index start len }
+    requires bound { IsBoundUnion (map (λ r. union_layout r.now) arrays.now)
+        (source_type (map (λ r. union_layout r.now) arrays.now) index) (offsets_in offsets.old)
+        (map grown_of children.old) }
+    requires holds { HoldsVariants
+        (source_type (map (λ r. union_layout r.now) arrays.now) index) types.old.items
+        (offsets_in offsets.old) (map grown_of children.old) }
+    ensures ok { OnOk result (GrowsVariants
+        (source_type (map (λ r. union_layout r.now) arrays.now) index) types.old.items
+        (offsets_in offsets.old) (map grown_of children.old) types.new.items (offsets_in offsets.new)
+        (map grown_of children.new)
+        (sliced (rows (source_at (map (λ r. union_layout r.now) arrays.now) index)) start len)) }
+    ensures bound { IsBoundUnion (map (λ r. union_layout r.now) arrays.now)
+        (source_type (map (λ r. union_layout r.now) arrays.now) index) (offsets_in offsets.new)
+        (map grown_of children.new) }
+    ensures overflow { result ≡ Err Error.Overflow
+        → RowsRefused (map (λ r. union_layout r.now) arrays.now) types.old.items (offsets_in offsets.old)
+        (map grown_of children.old) index start len }
     ensures others { IfErr result IsGrowthError }
 {
     let array: &UnionArray = arrays[index];
@@ -73,11 +85,18 @@ pub(crate) fn extend_null_variants(
 ) -> Result<(), Error>
     requires room { length types.old.items + count < 2 ^ 64 }
     requires over { IsUnionOver (type_of data_type.now) (offsets_in offsets.old) (map grown_of children.old) }
-    requires holds { HoldsVariants (type_of data_type.now) types.old.items (offsets_in offsets.old) (map grown_of children.old) }
-    ensures ok { OnOk result (GrowsVariants (type_of data_type.now) types.old.items (offsets_in offsets.old) (map grown_of children.old) types.new.items (offsets_in offsets.new) (map grown_of children.new) (replicate count (null_slot (type_of data_type.now)))) }
+    requires holds { HoldsVariants (type_of data_type.now) types.old.items (offsets_in offsets.old)
+        (map grown_of children.old) }
+    ensures ok { OnOk result (GrowsVariants (type_of data_type.now) types.old.items (offsets_in offsets.old)
+        (map grown_of children.old) types.new.items (offsets_in offsets.new) (map grown_of children.new)
+        (replicate count (null_slot (type_of data_type.now)))) }
     ensures kept { AreBoundAs (map grown_of children.old) (map grown_of children.new) }
-    ensures mode { mode_by (child_rows_of (offsets_in offsets.new)) ≡ mode_by (child_rows_of (offsets_in offsets.old)) }
-    ensures overflow { result ≡ Err Error.Overflow → Fits (type_of data_type.now) (variant_rows (type_of data_type.now) types.old.items (offsets_in offsets.old) (map grown_of children.old) ++ replicate count (null_slot (type_of data_type.now))) → ⊥ }
+    ensures mode { mode_by (child_rows_of (offsets_in offsets.new))
+        ≡ mode_by (child_rows_of (offsets_in offsets.old)) }
+    ensures overflow { result ≡ Err Error.Overflow
+        → Fits (type_of data_type.now)
+        (variant_rows (type_of data_type.now) types.old.items (offsets_in offsets.old)
+        (map grown_of children.old) ++ replicate count (null_slot (type_of data_type.now))) → ⊥ }
     ensures others { IfErr result IsGrowthError }
 {
     append_first_id(types, data_type, count)?;
@@ -97,14 +116,23 @@ fn extend_variant(
     requires field { field < length children.old }
     requires bound { BindsRows (nth_grown (map grown_of children.old) field) index (child_row + count) }
     requires well { All IsWell (map grown_of children.old) }
-    requires few { AreFew (offsets_in offsets.old) (length (nth_grown (map grown_of children.old) field).rows) }
-    ensures ok { OnOk result (map grown_of children.new ≡ with_run (offsets_in offsets.old) field (sliced (bound_rows (nth_grown (map grown_of children.old) field) index) child_row count) count (map grown_of children.old)) }
-    ensures places { OnOk result (offsets_in offsets.new ≡ placed_behind (offsets_in offsets.old) (length (nth_grown (map grown_of children.old) field).rows) count) }
-    ensures few { OnOk result (AreFew (offsets_in offsets.old) (length (nth_grown (map grown_of children.old) field).rows + count)) }
+    requires few { AreFew (offsets_in offsets.old)
+        (length (nth_grown (map grown_of children.old) field).rows) }
+    ensures ok { OnOk result (map grown_of children.new
+        ≡ with_run (offsets_in offsets.old) field
+        (sliced (bound_rows (nth_grown (map grown_of children.old) field) index) child_row count) count
+        (map grown_of children.old)) }
+    ensures places { OnOk result (offsets_in offsets.new
+        ≡ placed_behind (offsets_in offsets.old)
+        (length (nth_grown (map grown_of children.old) field).rows) count) }
+    ensures few { OnOk result (AreFew (offsets_in offsets.old)
+        (length (nth_grown (map grown_of children.old) field).rows + count)) }
     ensures well { OnOk result (All IsWell (map grown_of children.new)) }
     ensures kept { AreBoundAs (map grown_of children.old) (map grown_of children.new) }
-    ensures mode { mode_by (child_rows_of (offsets_in offsets.new)) ≡ mode_by (child_rows_of (offsets_in offsets.old)) }
-    ensures overflow { result ≡ Err Error.Overflow → RunRefused (offsets_in offsets.old) field index child_row count (map grown_of children.old) }
+    ensures mode { mode_by (child_rows_of (offsets_in offsets.new))
+        ≡ mode_by (child_rows_of (offsets_in offsets.old)) }
+    ensures overflow { result ≡ Err Error.Overflow
+        → RunRefused (offsets_in offsets.old) field index child_row count (map grown_of children.old) }
     ensures others { IfErr result IsGrowthError }
 {
     match offsets {
@@ -125,10 +153,15 @@ fn extend_sparse(
     requires field { field < length children.old }
     requires bound { BindsRows (nth_grown (map grown_of children.old) field) index (child_row + count) }
     requires well { All IsWell (map grown_of children.old) }
-    ensures ok { OnOk result (map grown_of children.new ≡ with_rows field (sliced (bound_rows (nth_grown (map grown_of children.old) field) index) child_row count) (with_others field count (map grown_of children.old))) }
+    ensures ok { OnOk result (map grown_of children.new
+        ≡ with_rows field (sliced (bound_rows
+        (nth_grown (map grown_of children.old) field) index) child_row count)
+        (with_others field count (map grown_of children.old))) }
     ensures well { OnOk result (All IsWell (map grown_of children.new)) }
     ensures kept { AreBoundAs (map grown_of children.old) (map grown_of children.new) }
-    ensures overflow { result ≡ Err Error.Overflow → CannotHold (nth_grown (map grown_of children.old) field) index child_row count ⊎ OthersCannotHold field count (map grown_of children.old) }
+    ensures overflow { result ≡ Err Error.Overflow
+        → CannotHold (nth_grown (map grown_of children.old) field) index child_row count
+        ⊎ OthersCannotHold field count (map grown_of children.old) }
     ensures others { IfErr result IsGrowthError }
 {
     extend_others(children, field, count)?;
@@ -149,12 +182,18 @@ fn extend_dense(
     requires bound { BindsRows (nth_grown (map grown_of children.old) field) index (child_row + count) }
     requires well { All IsWell (map grown_of children.old) }
     requires few { length (nth_grown (map grown_of children.old) field).rows ≤ 2 ^ 31 }
-    ensures ok { OnOk result (map grown_of children.new ≡ with_rows field (sliced (bound_rows (nth_grown (map grown_of children.old) field) index) child_row count) (map grown_of children.old)) }
-    ensures places { OnOk result (offsets.new.items ≡ offsets.old.items ++ map pos (range_with_len (length (nth_grown (map grown_of children.old) field).rows) count)) }
+    ensures ok { OnOk result (map grown_of children.new
+        ≡ with_rows field (sliced (bound_rows
+        (nth_grown (map grown_of children.old) field) index) child_row count) (map grown_of children.old)) }
+    ensures places { OnOk result (offsets.new.items
+        ≡ offsets.old.items ++ map pos
+        (range_with_len (length (nth_grown (map grown_of children.old) field).rows) count)) }
     ensures few { OnOk result (length (nth_grown (map grown_of children.old) field).rows + count ≤ 2 ^ 31) }
     ensures well { OnOk result (All IsWell (map grown_of children.new)) }
     ensures kept { AreBoundAs (map grown_of children.old) (map grown_of children.new) }
-    ensures overflow { result ≡ Err Error.Overflow → CannotHold (nth_grown (map grown_of children.old) field) index child_row count ⊎ (2 ^ 31 < length (nth_grown (map grown_of children.old) field).rows + count) }
+    ensures overflow { result ≡ Err Error.Overflow
+        → CannotHold (nth_grown (map grown_of children.old) field) index child_row count
+        ⊎ (2 ^ 31 < length (nth_grown (map grown_of children.old) field).rows + count) }
     ensures others { IfErr result IsGrowthError }
 {
     let place = children[field].len();
@@ -174,10 +213,13 @@ fn extend_chosen(
     requires field { field < length children.old }
     requires bound { BindsRows (nth_grown (map grown_of children.old) field) index (child_row + count) }
     requires well { All IsWell (map grown_of children.old) }
-    ensures ok { OnOk result (map grown_of children.new ≡ with_rows field (sliced (bound_rows (nth_grown (map grown_of children.old) field) index) child_row count) (map grown_of children.old)) }
+    ensures ok { OnOk result (map grown_of children.new
+        ≡ with_rows field (sliced (bound_rows
+        (nth_grown (map grown_of children.old) field) index) child_row count) (map grown_of children.old)) }
     ensures well { OnOk result (All IsWell (map grown_of children.new)) }
     ensures kept { AreBoundAs (map grown_of children.old) (map grown_of children.new) }
-    ensures overflow { result ≡ Err Error.Overflow → CannotHold (nth_grown (map grown_of children.old) field) index child_row count }
+    ensures overflow { result ≡ Err Error.Overflow
+        → CannotHold (nth_grown (map grown_of children.old) field) index child_row count }
     ensures others { IfErr result IsGrowthError }
 {
     children[field].extend(index, child_row, count)
@@ -187,10 +229,12 @@ fn extend_chosen(
 fn extend_others(children: &mut [AnyGrowable], field: usize, count: usize) -> Result<(), Error>
     requires field { field < length children.old }
     requires well { All IsWell (map grown_of children.old) }
-    ensures ok { OnOk result (map grown_of children.new ≡ with_others field count (map grown_of children.old)) }
+    ensures ok { OnOk result (map grown_of children.new
+        ≡ with_others field count (map grown_of children.old)) }
     ensures well { OnOk result (All IsWell (map grown_of children.new)) }
     ensures kept { AreBoundAs (map grown_of children.old) (map grown_of children.new) }
-    ensures overflow { result ≡ Err Error.Overflow → OthersCannotHold field count (map grown_of children.old) }
+    ensures overflow { result ≡ Err Error.Overflow
+        → OthersCannotHold field count (map grown_of children.old) }
     ensures others { IfErr result IsGrowthError }
 {
     extend_all_nulls(&mut children[..field], count)?;
@@ -207,13 +251,20 @@ fn extend_null_variant(
     requires some { 0 < length children.old }
     requires well { All IsWell (map grown_of children.old) }
     requires few { AreFew (offsets_in offsets.old) (length (nth_grown (map grown_of children.old) 0).rows) }
-    ensures ok { OnOk result (map grown_of children.new ≡ with_run (offsets_in offsets.old) 0 (null_rows_of (nth_grown (map grown_of children.old) 0) count) count (map grown_of children.old)) }
-    ensures places { OnOk result (offsets_in offsets.new ≡ placed_behind (offsets_in offsets.old) (length (nth_grown (map grown_of children.old) 0).rows) count) }
-    ensures few { OnOk result (AreFew (offsets_in offsets.old) (length (nth_grown (map grown_of children.old) 0).rows + count)) }
+    ensures ok { OnOk result (map grown_of children.new
+        ≡ with_run (offsets_in offsets.old) 0
+        (null_rows_of (nth_grown (map grown_of children.old) 0) count) count (map grown_of children.old)) }
+    ensures places { OnOk result (offsets_in offsets.new
+        ≡ placed_behind (offsets_in offsets.old)
+        (length (nth_grown (map grown_of children.old) 0).rows) count) }
+    ensures few { OnOk result (AreFew (offsets_in offsets.old)
+        (length (nth_grown (map grown_of children.old) 0).rows + count)) }
     ensures well { OnOk result (All IsWell (map grown_of children.new)) }
     ensures kept { AreBoundAs (map grown_of children.old) (map grown_of children.new) }
-    ensures mode { mode_by (child_rows_of (offsets_in offsets.new)) ≡ mode_by (child_rows_of (offsets_in offsets.old)) }
-    ensures overflow { result ≡ Err Error.Overflow → NullsRefused (offsets_in offsets.old) count (map grown_of children.old) }
+    ensures mode { mode_by (child_rows_of (offsets_in offsets.new))
+        ≡ mode_by (child_rows_of (offsets_in offsets.old)) }
+    ensures overflow { result ≡ Err Error.Overflow
+        → NullsRefused (offsets_in offsets.old) count (map grown_of children.old) }
     ensures others { IfErr result IsGrowthError }
 {
     match offsets {
@@ -232,12 +283,19 @@ fn extend_first_nulls(
     requires some { 0 < length children.old }
     requires well { All IsWell (map grown_of children.old) }
     requires few { length (nth_grown (map grown_of children.old) 0).rows ≤ 2 ^ 31 }
-    ensures ok { OnOk result (map grown_of children.new ≡ with_rows 0 (null_rows_of (nth_grown (map grown_of children.old) 0) count) (map grown_of children.old)) }
-    ensures places { OnOk result (offsets.new.items ≡ offsets.old.items ++ map pos (range_with_len (length (nth_grown (map grown_of children.old) 0).rows) count)) }
+    ensures ok { OnOk result (map grown_of children.new
+        ≡ with_rows 0 (null_rows_of (nth_grown (map grown_of children.old) 0) count)
+        (map grown_of children.old)) }
+    ensures places { OnOk result (offsets.new.items
+        ≡ offsets.old.items ++ map pos
+        (range_with_len (length (nth_grown (map grown_of children.old) 0).rows) count)) }
     ensures few { OnOk result (length (nth_grown (map grown_of children.old) 0).rows + count ≤ 2 ^ 31) }
     ensures well { OnOk result (All IsWell (map grown_of children.new)) }
     ensures kept { AreBoundAs (map grown_of children.old) (map grown_of children.new) }
-    ensures overflow { result ≡ Err Error.Overflow → (FitsWith (nth_grown (map grown_of children.old) 0) (null_rows_of (nth_grown (map grown_of children.old) 0) count) → ⊥) ⊎ (2 ^ 31 < length (nth_grown (map grown_of children.old) 0).rows + count) }
+    ensures overflow { result ≡ Err Error.Overflow
+        → (FitsWith (nth_grown (map grown_of children.old) 0)
+        (null_rows_of (nth_grown (map grown_of children.old) 0) count) → ⊥)
+        ⊎ (2 ^ 31 < length (nth_grown (map grown_of children.old) 0).rows + count) }
     ensures others { IfErr result IsGrowthError }
 {
     let place = children[0].len();
@@ -263,7 +321,8 @@ fn append_ids(
 fn append_first_id(types: &mut Vec<i8>, data_type: &DataType, count: usize) -> Result<(), Error>
     requires kind { IsCarriedAs physical.Union (type_of data_type.now) }
     requires room { length types.old.items + count < 2 ^ 64 }
-    ensures ok { OnOk result (types.new.items ≡ types.old.items ++ replicate count (id_at (field_ids (type_of data_type.now)) 0)) }
+    ensures ok { OnOk result (types.new.items
+        ≡ types.old.items ++ replicate count (id_at (field_ids (type_of data_type.now)) 0)) }
     ensures err { IsOkUnless result Error.OutOfMemory }
 {
     Ok(types.resize(types.len() + count, first_id(data_type))?)

@@ -38,7 +38,8 @@ pub(super) fn try_gather<R: Copy, F: Fn(usize) -> Result<R, Error>>(
     requires { (row : ℕ) → row < len → F.pre op row }
     ensures each { IfOk result (λ values. AnswersFrom (answers_ok (F.post op)) 0 values.items) }
     ensures count { IfOk result (λ values. length values.items ≡ len) }
-    ensures failed { IfErr result (λ error. (error ≡ Error.OutOfMemory) ⊎ RefusesBelow (F.post op) len error) }
+    ensures failed { IfErr result (λ error. (error ≡ Error.OutOfMemory)
+        ⊎ RefusesBelow (F.post op) len error) }
 {
     let mut values = Vec::with_capacity(alloc, len)?;
     for row in 0..len {

@@ -110,7 +110,8 @@ pub(crate) fn span_in<K: Units>(
     requires by_bytes { IsTrue by_bytes → IsCutByBytes K.cut (take len from.now) }
     ensures rises { result.0 ≤ result.1 }
     ensures within { result.1 ≤ len }
-    ensures part { sliced (take len from.now) result.0 (result.1 - result.0) ≡ K.cut start count (take len from.now) }
+    ensures part { sliced (take len from.now) result.0 (result.1 - result.0)
+        ≡ K.cut start count (take len from.now) }
 {
     let row = &from[..len];
     if by_bytes {
@@ -188,7 +189,8 @@ fn begins_character(byte: u8) -> bool
 // Where a part of a text begins: so many characters from the front or, where `start` is negative, from the end.
 fn begin_of_part(text: &[u8], start: i64) -> usize
     requires { IsUtf8 text.now }
-    ensures rest { drop result text.now ≡ encode_utf8_all (drop (part_begin start (length (chars text.now))) (chars text.now)) }
+    ensures rest { drop result text.now
+        ≡ encode_utf8_all (drop (part_begin start (length (chars text.now))) (chars text.now)) }
     ensures within { result ≤ length text.now }
 {
     let count = start.unsigned_abs() as usize;

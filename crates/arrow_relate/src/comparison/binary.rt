@@ -36,7 +36,8 @@ pub fn eq_scalar<O: Offset>(
     rhs: &[u8],
 ) -> Result<BooleanArray, Error>
     ensures array_type { IfOk result (λ array. array.arrow_type ≡ plain boolean) }
-    ensures rows { IfOk result (λ array. boolean_rows array ≡ map (λ s. related relation.eq s (Bytes rhs.now)) (rows_by (byte_slots Bytes) lhs.now)) }
+    ensures rows { IfOk result (λ array. boolean_rows array
+        ≡ map (λ s. related relation.eq s (Bytes rhs.now)) (rows_by (byte_slots Bytes) lhs.now)) }
     ensures err { IsOkUnless result Error.OutOfMemory }
 {
     relate_scalar_by::<Equal, _, _>(alloc, lhs, rhs)
@@ -54,7 +55,8 @@ pub fn eq_scalar_and_validity<O: Offset>(
     rhs: &[u8],
 ) -> Result<BooleanArray, Error>
     ensures array_type { IfOk result (λ array. array.arrow_type ≡ plain boolean) }
-    ensures rows { IfOk result (λ array. boolean_rows array ≡ map (λ s. is_same s (Bytes rhs.now)) (rows_by (byte_slots Bytes) lhs.now)) }
+    ensures rows { IfOk result (λ array. boolean_rows array
+        ≡ map (λ s. is_same s (Bytes rhs.now)) (rows_by (byte_slots Bytes) lhs.now)) }
     ensures err { IsOkUnless result Error.OutOfMemory }
 {
     same_scalar_by::<Equal, _, _>(alloc, lhs, rhs)
@@ -72,7 +74,8 @@ pub fn neq_scalar<O: Offset>(
     rhs: &[u8],
 ) -> Result<BooleanArray, Error>
     ensures array_type { IfOk result (λ array. array.arrow_type ≡ plain boolean) }
-    ensures rows { IfOk result (λ array. boolean_rows array ≡ map (λ s. related relation.neq s (Bytes rhs.now)) (rows_by (byte_slots Bytes) lhs.now)) }
+    ensures rows { IfOk result (λ array. boolean_rows array
+        ≡ map (λ s. related relation.neq s (Bytes rhs.now)) (rows_by (byte_slots Bytes) lhs.now)) }
     ensures err { IsOkUnless result Error.OutOfMemory }
 {
     relate_scalar_by::<NotEqual, _, _>(alloc, lhs, rhs)
@@ -90,7 +93,8 @@ pub fn neq_scalar_and_validity<O: Offset>(
     rhs: &[u8],
 ) -> Result<BooleanArray, Error>
     ensures array_type { IfOk result (λ array. array.arrow_type ≡ plain boolean) }
-    ensures rows { IfOk result (λ array. boolean_rows array ≡ map (λ s. differs s (Bytes rhs.now)) (rows_by (byte_slots Bytes) lhs.now)) }
+    ensures rows { IfOk result (λ array. boolean_rows array
+        ≡ map (λ s. differs s (Bytes rhs.now)) (rows_by (byte_slots Bytes) lhs.now)) }
     ensures err { IsOkUnless result Error.OutOfMemory }
 {
     same_scalar_by::<NotEqual, _, _>(alloc, lhs, rhs)
@@ -108,7 +112,8 @@ pub fn lt_scalar<O: Offset>(
     rhs: &[u8],
 ) -> Result<BooleanArray, Error>
     ensures array_type { IfOk result (λ array. array.arrow_type ≡ plain boolean) }
-    ensures rows { IfOk result (λ array. boolean_rows array ≡ map (λ s. related relation.lt s (Bytes rhs.now)) (rows_by (byte_slots Bytes) lhs.now)) }
+    ensures rows { IfOk result (λ array. boolean_rows array
+        ≡ map (λ s. related relation.lt s (Bytes rhs.now)) (rows_by (byte_slots Bytes) lhs.now)) }
     ensures err { IsOkUnless result Error.OutOfMemory }
 {
     relate_scalar_by::<Less, _, _>(alloc, lhs, rhs)
@@ -126,7 +131,8 @@ pub fn lt_eq_scalar<O: Offset>(
     rhs: &[u8],
 ) -> Result<BooleanArray, Error>
     ensures array_type { IfOk result (λ array. array.arrow_type ≡ plain boolean) }
-    ensures rows { IfOk result (λ array. boolean_rows array ≡ map (λ s. related relation.lt_eq s (Bytes rhs.now)) (rows_by (byte_slots Bytes) lhs.now)) }
+    ensures rows { IfOk result (λ array. boolean_rows array
+        ≡ map (λ s. related relation.lt_eq s (Bytes rhs.now)) (rows_by (byte_slots Bytes) lhs.now)) }
     ensures err { IsOkUnless result Error.OutOfMemory }
 {
     relate_scalar_by::<LessOrEqual, _, _>(alloc, lhs, rhs)
@@ -144,7 +150,8 @@ pub fn gt_scalar<O: Offset>(
     rhs: &[u8],
 ) -> Result<BooleanArray, Error>
     ensures array_type { IfOk result (λ array. array.arrow_type ≡ plain boolean) }
-    ensures rows { IfOk result (λ array. boolean_rows array ≡ map (λ s. related relation.gt s (Bytes rhs.now)) (rows_by (byte_slots Bytes) lhs.now)) }
+    ensures rows { IfOk result (λ array. boolean_rows array
+        ≡ map (λ s. related relation.gt s (Bytes rhs.now)) (rows_by (byte_slots Bytes) lhs.now)) }
     ensures err { IsOkUnless result Error.OutOfMemory }
 {
     relate_scalar_by::<Greater, _, _>(alloc, lhs, rhs)
@@ -162,7 +169,8 @@ pub fn gt_eq_scalar<O: Offset>(
     rhs: &[u8],
 ) -> Result<BooleanArray, Error>
     ensures array_type { IfOk result (λ array. array.arrow_type ≡ plain boolean) }
-    ensures rows { IfOk result (λ array. boolean_rows array ≡ map (λ s. related relation.gt_eq s (Bytes rhs.now)) (rows_by (byte_slots Bytes) lhs.now)) }
+    ensures rows { IfOk result (λ array. boolean_rows array
+        ≡ map (λ s. related relation.gt_eq s (Bytes rhs.now)) (rows_by (byte_slots Bytes) lhs.now)) }
     ensures err { IsOkUnless result Error.OutOfMemory }
 {
     relate_scalar_by::<GreaterOrEqual, _, _>(alloc, lhs, rhs)
@@ -179,7 +187,8 @@ pub fn relate_scalar<O: Offset>(
     rhs: &[u8],
 ) -> Result<BooleanArray, Error>
     ensures array_type { IfOk result (λ array. array.arrow_type ≡ plain boolean) }
-    ensures rows { IfOk result (λ array. boolean_rows array ≡ map (λ s. related (relation_of by) s (Bytes rhs.now)) (rows_by (byte_slots Bytes) lhs.now)) }
+    ensures rows { IfOk result (λ array. boolean_rows array
+        ≡ map (λ s. related (relation_of by) s (Bytes rhs.now)) (rows_by (byte_slots Bytes) lhs.now)) }
     ensures err { IsOkUnless result Error.OutOfMemory }
 {
     by_relation!(by, relate_scalar_by::<_, _, _>(alloc, lhs, rhs))

@@ -37,7 +37,8 @@ use std::alloc::Global;
 pub fn eq(alloc: Global, lhs: &BooleanArray, rhs: &BooleanArray) -> Result<BooleanArray, Error>
     requires { length (boolean_rows lhs.now) ≡ length (boolean_rows rhs.now) }
     ensures array_type { IfOk result (λ array. array.arrow_type ≡ plain boolean) }
-    ensures rows { IfOk result (λ array. boolean_rows array ≡ row_by_row (related relation.eq) (boolean_rows lhs.now) (boolean_rows rhs.now)) }
+    ensures rows { IfOk result (λ array. boolean_rows array
+        ≡ row_by_row (related relation.eq) (boolean_rows lhs.now) (boolean_rows rhs.now)) }
     ensures err { IsOkUnless result Error.OutOfMemory }
 {
     relate_by::<Equal, _>(alloc, lhs, rhs)
@@ -59,7 +60,8 @@ pub fn eq_and_validity(
 ) -> Result<BooleanArray, Error>
     requires { length (boolean_rows lhs.now) ≡ length (boolean_rows rhs.now) }
     ensures array_type { IfOk result (λ array. array.arrow_type ≡ plain boolean) }
-    ensures rows { IfOk result (λ array. boolean_rows array ≡ row_by_row is_same (boolean_rows lhs.now) (boolean_rows rhs.now)) }
+    ensures rows { IfOk result (λ array. boolean_rows array
+        ≡ row_by_row is_same (boolean_rows lhs.now) (boolean_rows rhs.now)) }
     ensures err { IsOkUnless result Error.OutOfMemory }
 {
     same_by::<Equal, _>(alloc, lhs, rhs)
@@ -73,7 +75,8 @@ pub fn eq_and_validity(
 /// Source: arrow2's `comparison::boolean::eq_scalar`.
 pub fn eq_scalar(alloc: Global, lhs: &BooleanArray, rhs: bool) -> Result<BooleanArray, Error>
     ensures array_type { IfOk result (λ array. array.arrow_type ≡ plain boolean) }
-    ensures rows { IfOk result (λ array. boolean_rows array ≡ map (λ s. related relation.eq s (Boolean rhs)) (boolean_rows lhs.now)) }
+    ensures rows { IfOk result (λ array. boolean_rows array
+        ≡ map (λ s. related relation.eq s (Boolean rhs)) (boolean_rows lhs.now)) }
     ensures err { IsOkUnless result Error.OutOfMemory }
 {
     relate_scalar_by::<Equal, _, _>(alloc, lhs, rhs)
@@ -91,7 +94,8 @@ pub fn eq_scalar_and_validity(
     rhs: bool,
 ) -> Result<BooleanArray, Error>
     ensures array_type { IfOk result (λ array. array.arrow_type ≡ plain boolean) }
-    ensures rows { IfOk result (λ array. boolean_rows array ≡ map (λ s. is_same s (Boolean rhs)) (boolean_rows lhs.now)) }
+    ensures rows { IfOk result (λ array. boolean_rows array
+        ≡ map (λ s. is_same s (Boolean rhs)) (boolean_rows lhs.now)) }
     ensures err { IsOkUnless result Error.OutOfMemory }
 {
     same_scalar_by::<Equal, _, _>(alloc, lhs, rhs)
@@ -109,7 +113,8 @@ pub fn eq_scalar_and_validity(
 pub fn neq(alloc: Global, lhs: &BooleanArray, rhs: &BooleanArray) -> Result<BooleanArray, Error>
     requires { length (boolean_rows lhs.now) ≡ length (boolean_rows rhs.now) }
     ensures array_type { IfOk result (λ array. array.arrow_type ≡ plain boolean) }
-    ensures rows { IfOk result (λ array. boolean_rows array ≡ row_by_row (related relation.neq) (boolean_rows lhs.now) (boolean_rows rhs.now)) }
+    ensures rows { IfOk result (λ array. boolean_rows array
+        ≡ row_by_row (related relation.neq) (boolean_rows lhs.now) (boolean_rows rhs.now)) }
     ensures err { IsOkUnless result Error.OutOfMemory }
 {
     relate_by::<NotEqual, _>(alloc, lhs, rhs)
@@ -131,7 +136,8 @@ pub fn neq_and_validity(
 ) -> Result<BooleanArray, Error>
     requires { length (boolean_rows lhs.now) ≡ length (boolean_rows rhs.now) }
     ensures array_type { IfOk result (λ array. array.arrow_type ≡ plain boolean) }
-    ensures rows { IfOk result (λ array. boolean_rows array ≡ row_by_row differs (boolean_rows lhs.now) (boolean_rows rhs.now)) }
+    ensures rows { IfOk result (λ array. boolean_rows array
+        ≡ row_by_row differs (boolean_rows lhs.now) (boolean_rows rhs.now)) }
     ensures err { IsOkUnless result Error.OutOfMemory }
 {
     same_by::<NotEqual, _>(alloc, lhs, rhs)
@@ -145,7 +151,8 @@ pub fn neq_and_validity(
 /// Source: arrow2's `comparison::boolean::neq_scalar`.
 pub fn neq_scalar(alloc: Global, lhs: &BooleanArray, rhs: bool) -> Result<BooleanArray, Error>
     ensures array_type { IfOk result (λ array. array.arrow_type ≡ plain boolean) }
-    ensures rows { IfOk result (λ array. boolean_rows array ≡ map (λ s. related relation.neq s (Boolean rhs)) (boolean_rows lhs.now)) }
+    ensures rows { IfOk result (λ array. boolean_rows array
+        ≡ map (λ s. related relation.neq s (Boolean rhs)) (boolean_rows lhs.now)) }
     ensures err { IsOkUnless result Error.OutOfMemory }
 {
     relate_scalar_by::<NotEqual, _, _>(alloc, lhs, rhs)
@@ -163,7 +170,8 @@ pub fn neq_scalar_and_validity(
     rhs: bool,
 ) -> Result<BooleanArray, Error>
     ensures array_type { IfOk result (λ array. array.arrow_type ≡ plain boolean) }
-    ensures rows { IfOk result (λ array. boolean_rows array ≡ map (λ s. differs s (Boolean rhs)) (boolean_rows lhs.now)) }
+    ensures rows { IfOk result (λ array. boolean_rows array
+        ≡ map (λ s. differs s (Boolean rhs)) (boolean_rows lhs.now)) }
     ensures err { IsOkUnless result Error.OutOfMemory }
 {
     same_scalar_by::<NotEqual, _, _>(alloc, lhs, rhs)
@@ -181,7 +189,8 @@ pub fn neq_scalar_and_validity(
 pub fn lt(alloc: Global, lhs: &BooleanArray, rhs: &BooleanArray) -> Result<BooleanArray, Error>
     requires { length (boolean_rows lhs.now) ≡ length (boolean_rows rhs.now) }
     ensures array_type { IfOk result (λ array. array.arrow_type ≡ plain boolean) }
-    ensures rows { IfOk result (λ array. boolean_rows array ≡ row_by_row (related relation.lt) (boolean_rows lhs.now) (boolean_rows rhs.now)) }
+    ensures rows { IfOk result (λ array. boolean_rows array
+        ≡ row_by_row (related relation.lt) (boolean_rows lhs.now) (boolean_rows rhs.now)) }
     ensures err { IsOkUnless result Error.OutOfMemory }
 {
     relate_by::<Less, _>(alloc, lhs, rhs)
@@ -195,7 +204,8 @@ pub fn lt(alloc: Global, lhs: &BooleanArray, rhs: &BooleanArray) -> Result<Boole
 /// Source: arrow2's `comparison::boolean::lt_scalar`.
 pub fn lt_scalar(alloc: Global, lhs: &BooleanArray, rhs: bool) -> Result<BooleanArray, Error>
     ensures array_type { IfOk result (λ array. array.arrow_type ≡ plain boolean) }
-    ensures rows { IfOk result (λ array. boolean_rows array ≡ map (λ s. related relation.lt s (Boolean rhs)) (boolean_rows lhs.now)) }
+    ensures rows { IfOk result (λ array. boolean_rows array
+        ≡ map (λ s. related relation.lt s (Boolean rhs)) (boolean_rows lhs.now)) }
     ensures err { IsOkUnless result Error.OutOfMemory }
 {
     relate_scalar_by::<Less, _, _>(alloc, lhs, rhs)
@@ -213,7 +223,8 @@ pub fn lt_scalar(alloc: Global, lhs: &BooleanArray, rhs: bool) -> Result<Boolean
 pub fn lt_eq(alloc: Global, lhs: &BooleanArray, rhs: &BooleanArray) -> Result<BooleanArray, Error>
     requires { length (boolean_rows lhs.now) ≡ length (boolean_rows rhs.now) }
     ensures array_type { IfOk result (λ array. array.arrow_type ≡ plain boolean) }
-    ensures rows { IfOk result (λ array. boolean_rows array ≡ row_by_row (related relation.lt_eq) (boolean_rows lhs.now) (boolean_rows rhs.now)) }
+    ensures rows { IfOk result (λ array. boolean_rows array
+        ≡ row_by_row (related relation.lt_eq) (boolean_rows lhs.now) (boolean_rows rhs.now)) }
     ensures err { IsOkUnless result Error.OutOfMemory }
 {
     relate_by::<LessOrEqual, _>(alloc, lhs, rhs)
@@ -227,7 +238,8 @@ pub fn lt_eq(alloc: Global, lhs: &BooleanArray, rhs: &BooleanArray) -> Result<Bo
 /// Source: arrow2's `comparison::boolean::lt_eq_scalar`.
 pub fn lt_eq_scalar(alloc: Global, lhs: &BooleanArray, rhs: bool) -> Result<BooleanArray, Error>
     ensures array_type { IfOk result (λ array. array.arrow_type ≡ plain boolean) }
-    ensures rows { IfOk result (λ array. boolean_rows array ≡ map (λ s. related relation.lt_eq s (Boolean rhs)) (boolean_rows lhs.now)) }
+    ensures rows { IfOk result (λ array. boolean_rows array
+        ≡ map (λ s. related relation.lt_eq s (Boolean rhs)) (boolean_rows lhs.now)) }
     ensures err { IsOkUnless result Error.OutOfMemory }
 {
     relate_scalar_by::<LessOrEqual, _, _>(alloc, lhs, rhs)
@@ -245,7 +257,8 @@ pub fn lt_eq_scalar(alloc: Global, lhs: &BooleanArray, rhs: bool) -> Result<Bool
 pub fn gt(alloc: Global, lhs: &BooleanArray, rhs: &BooleanArray) -> Result<BooleanArray, Error>
     requires { length (boolean_rows lhs.now) ≡ length (boolean_rows rhs.now) }
     ensures array_type { IfOk result (λ array. array.arrow_type ≡ plain boolean) }
-    ensures rows { IfOk result (λ array. boolean_rows array ≡ row_by_row (related relation.gt) (boolean_rows lhs.now) (boolean_rows rhs.now)) }
+    ensures rows { IfOk result (λ array. boolean_rows array
+        ≡ row_by_row (related relation.gt) (boolean_rows lhs.now) (boolean_rows rhs.now)) }
     ensures err { IsOkUnless result Error.OutOfMemory }
 {
     relate_by::<Greater, _>(alloc, lhs, rhs)
@@ -259,7 +272,8 @@ pub fn gt(alloc: Global, lhs: &BooleanArray, rhs: &BooleanArray) -> Result<Boole
 /// Source: arrow2's `comparison::boolean::gt_scalar`.
 pub fn gt_scalar(alloc: Global, lhs: &BooleanArray, rhs: bool) -> Result<BooleanArray, Error>
     ensures array_type { IfOk result (λ array. array.arrow_type ≡ plain boolean) }
-    ensures rows { IfOk result (λ array. boolean_rows array ≡ map (λ s. related relation.gt s (Boolean rhs)) (boolean_rows lhs.now)) }
+    ensures rows { IfOk result (λ array. boolean_rows array
+        ≡ map (λ s. related relation.gt s (Boolean rhs)) (boolean_rows lhs.now)) }
     ensures err { IsOkUnless result Error.OutOfMemory }
 {
     relate_scalar_by::<Greater, _, _>(alloc, lhs, rhs)
@@ -277,7 +291,8 @@ pub fn gt_scalar(alloc: Global, lhs: &BooleanArray, rhs: bool) -> Result<Boolean
 pub fn gt_eq(alloc: Global, lhs: &BooleanArray, rhs: &BooleanArray) -> Result<BooleanArray, Error>
     requires { length (boolean_rows lhs.now) ≡ length (boolean_rows rhs.now) }
     ensures array_type { IfOk result (λ array. array.arrow_type ≡ plain boolean) }
-    ensures rows { IfOk result (λ array. boolean_rows array ≡ row_by_row (related relation.gt_eq) (boolean_rows lhs.now) (boolean_rows rhs.now)) }
+    ensures rows { IfOk result (λ array. boolean_rows array
+        ≡ row_by_row (related relation.gt_eq) (boolean_rows lhs.now) (boolean_rows rhs.now)) }
     ensures err { IsOkUnless result Error.OutOfMemory }
 {
     relate_by::<GreaterOrEqual, _>(alloc, lhs, rhs)
@@ -291,7 +306,8 @@ pub fn gt_eq(alloc: Global, lhs: &BooleanArray, rhs: &BooleanArray) -> Result<Bo
 /// Source: arrow2's `comparison::boolean::gt_eq_scalar`.
 pub fn gt_eq_scalar(alloc: Global, lhs: &BooleanArray, rhs: bool) -> Result<BooleanArray, Error>
     ensures array_type { IfOk result (λ array. array.arrow_type ≡ plain boolean) }
-    ensures rows { IfOk result (λ array. boolean_rows array ≡ map (λ s. related relation.gt_eq s (Boolean rhs)) (boolean_rows lhs.now)) }
+    ensures rows { IfOk result (λ array. boolean_rows array
+        ≡ map (λ s. related relation.gt_eq s (Boolean rhs)) (boolean_rows lhs.now)) }
     ensures err { IsOkUnless result Error.OutOfMemory }
 {
     relate_scalar_by::<GreaterOrEqual, _, _>(alloc, lhs, rhs)
@@ -312,7 +328,8 @@ pub fn relate(
 ) -> Result<BooleanArray, Error>
     requires { length (boolean_rows lhs.now) ≡ length (boolean_rows rhs.now) }
     ensures array_type { IfOk result (λ array. array.arrow_type ≡ plain boolean) }
-    ensures rows { IfOk result (λ array. boolean_rows array ≡ row_by_row (related (relation_of by)) (boolean_rows lhs.now) (boolean_rows rhs.now)) }
+    ensures rows { IfOk result (λ array. boolean_rows array
+        ≡ row_by_row (related (relation_of by)) (boolean_rows lhs.now) (boolean_rows rhs.now)) }
     ensures err { IsOkUnless result Error.OutOfMemory }
 {
     by_relation!(by, relate_by::<_, _>(alloc, lhs, rhs))
@@ -329,7 +346,8 @@ pub fn relate_scalar(
     rhs: bool,
 ) -> Result<BooleanArray, Error>
     ensures array_type { IfOk result (λ array. array.arrow_type ≡ plain boolean) }
-    ensures rows { IfOk result (λ array. boolean_rows array ≡ map (λ s. related (relation_of by) s (Boolean rhs)) (boolean_rows lhs.now)) }
+    ensures rows { IfOk result (λ array. boolean_rows array
+        ≡ map (λ s. related (relation_of by) s (Boolean rhs)) (boolean_rows lhs.now)) }
     ensures err { IsOkUnless result Error.OutOfMemory }
 {
     by_relation!(by, relate_scalar_by::<_, _, _>(alloc, lhs, rhs))
@@ -370,7 +388,8 @@ fn bits_of_words<F: Fn(u64, u64) -> u64>(
     op: &F,
 ) -> Result<Bitmap, Error>
     requires { TakesWords (F.pre op.now) stored.now scalar }
-    ensures ok { IfOk result (Chunked 64 (answers_word (F.post op.now) stored.now scalar) (length stored.now)) }
+    ensures ok { IfOk result (Chunked 64 (answers_word (F.post op.now) stored.now scalar)
+        (length stored.now)) }
     ensures err { IsOkUnless result Error.OutOfMemory }
 {
     Bitmap::collect_words(alloc, stored.len(), |j| answer_at(op, stored, scalar, j))

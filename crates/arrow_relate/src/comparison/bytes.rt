@@ -45,7 +45,9 @@ pub fn eq<O: Offset, K: ComparedBytes>(
 ) -> Result<BooleanArray, Error>
     requires { length (rows_by (byte_slots K.slot) lhs.now) ≡ length (rows_by (byte_slots K.slot) rhs.now) }
     ensures array_type { IfOk result (λ array. array.arrow_type ≡ plain boolean) }
-    ensures rows { IfOk result (λ array. boolean_rows array ≡ row_by_row (related relation.eq) (rows_by (byte_slots K.slot) lhs.now) (rows_by (byte_slots K.slot) rhs.now)) }
+    ensures rows { IfOk result (λ array. boolean_rows array
+        ≡ row_by_row (related relation.eq) (rows_by (byte_slots K.slot) lhs.now)
+        (rows_by (byte_slots K.slot) rhs.now)) }
     ensures err { IsOkUnless result Error.OutOfMemory }
 {
     relate_by::<Equal, _>(alloc, lhs, rhs)
@@ -67,7 +69,8 @@ pub fn eq_and_validity<O: Offset, K: ComparedBytes>(
 ) -> Result<BooleanArray, Error>
     requires { length (rows_by (byte_slots K.slot) lhs.now) ≡ length (rows_by (byte_slots K.slot) rhs.now) }
     ensures array_type { IfOk result (λ array. array.arrow_type ≡ plain boolean) }
-    ensures rows { IfOk result (λ array. boolean_rows array ≡ row_by_row is_same (rows_by (byte_slots K.slot) lhs.now) (rows_by (byte_slots K.slot) rhs.now)) }
+    ensures rows { IfOk result (λ array. boolean_rows array
+        ≡ row_by_row is_same (rows_by (byte_slots K.slot) lhs.now) (rows_by (byte_slots K.slot) rhs.now)) }
     ensures err { IsOkUnless result Error.OutOfMemory }
 {
     same_by::<Equal, _>(alloc, lhs, rhs)
@@ -89,7 +92,9 @@ pub fn neq<O: Offset, K: ComparedBytes>(
 ) -> Result<BooleanArray, Error>
     requires { length (rows_by (byte_slots K.slot) lhs.now) ≡ length (rows_by (byte_slots K.slot) rhs.now) }
     ensures array_type { IfOk result (λ array. array.arrow_type ≡ plain boolean) }
-    ensures rows { IfOk result (λ array. boolean_rows array ≡ row_by_row (related relation.neq) (rows_by (byte_slots K.slot) lhs.now) (rows_by (byte_slots K.slot) rhs.now)) }
+    ensures rows { IfOk result (λ array. boolean_rows array
+        ≡ row_by_row (related relation.neq) (rows_by (byte_slots K.slot) lhs.now)
+        (rows_by (byte_slots K.slot) rhs.now)) }
     ensures err { IsOkUnless result Error.OutOfMemory }
 {
     relate_by::<NotEqual, _>(alloc, lhs, rhs)
@@ -111,7 +116,8 @@ pub fn neq_and_validity<O: Offset, K: ComparedBytes>(
 ) -> Result<BooleanArray, Error>
     requires { length (rows_by (byte_slots K.slot) lhs.now) ≡ length (rows_by (byte_slots K.slot) rhs.now) }
     ensures array_type { IfOk result (λ array. array.arrow_type ≡ plain boolean) }
-    ensures rows { IfOk result (λ array. boolean_rows array ≡ row_by_row differs (rows_by (byte_slots K.slot) lhs.now) (rows_by (byte_slots K.slot) rhs.now)) }
+    ensures rows { IfOk result (λ array. boolean_rows array
+        ≡ row_by_row differs (rows_by (byte_slots K.slot) lhs.now) (rows_by (byte_slots K.slot) rhs.now)) }
     ensures err { IsOkUnless result Error.OutOfMemory }
 {
     same_by::<NotEqual, _>(alloc, lhs, rhs)
@@ -133,7 +139,9 @@ pub fn lt<O: Offset, K: ComparedBytes>(
 ) -> Result<BooleanArray, Error>
     requires { length (rows_by (byte_slots K.slot) lhs.now) ≡ length (rows_by (byte_slots K.slot) rhs.now) }
     ensures array_type { IfOk result (λ array. array.arrow_type ≡ plain boolean) }
-    ensures rows { IfOk result (λ array. boolean_rows array ≡ row_by_row (related relation.lt) (rows_by (byte_slots K.slot) lhs.now) (rows_by (byte_slots K.slot) rhs.now)) }
+    ensures rows { IfOk result (λ array. boolean_rows array
+        ≡ row_by_row (related relation.lt) (rows_by (byte_slots K.slot) lhs.now)
+        (rows_by (byte_slots K.slot) rhs.now)) }
     ensures err { IsOkUnless result Error.OutOfMemory }
 {
     relate_by::<Less, _>(alloc, lhs, rhs)
@@ -155,7 +163,9 @@ pub fn lt_eq<O: Offset, K: ComparedBytes>(
 ) -> Result<BooleanArray, Error>
     requires { length (rows_by (byte_slots K.slot) lhs.now) ≡ length (rows_by (byte_slots K.slot) rhs.now) }
     ensures array_type { IfOk result (λ array. array.arrow_type ≡ plain boolean) }
-    ensures rows { IfOk result (λ array. boolean_rows array ≡ row_by_row (related relation.lt_eq) (rows_by (byte_slots K.slot) lhs.now) (rows_by (byte_slots K.slot) rhs.now)) }
+    ensures rows { IfOk result (λ array. boolean_rows array
+        ≡ row_by_row (related relation.lt_eq) (rows_by (byte_slots K.slot) lhs.now)
+        (rows_by (byte_slots K.slot) rhs.now)) }
     ensures err { IsOkUnless result Error.OutOfMemory }
 {
     relate_by::<LessOrEqual, _>(alloc, lhs, rhs)
@@ -177,7 +187,9 @@ pub fn gt<O: Offset, K: ComparedBytes>(
 ) -> Result<BooleanArray, Error>
     requires { length (rows_by (byte_slots K.slot) lhs.now) ≡ length (rows_by (byte_slots K.slot) rhs.now) }
     ensures array_type { IfOk result (λ array. array.arrow_type ≡ plain boolean) }
-    ensures rows { IfOk result (λ array. boolean_rows array ≡ row_by_row (related relation.gt) (rows_by (byte_slots K.slot) lhs.now) (rows_by (byte_slots K.slot) rhs.now)) }
+    ensures rows { IfOk result (λ array. boolean_rows array
+        ≡ row_by_row (related relation.gt) (rows_by (byte_slots K.slot) lhs.now)
+        (rows_by (byte_slots K.slot) rhs.now)) }
     ensures err { IsOkUnless result Error.OutOfMemory }
 {
     relate_by::<Greater, _>(alloc, lhs, rhs)
@@ -199,7 +211,9 @@ pub fn gt_eq<O: Offset, K: ComparedBytes>(
 ) -> Result<BooleanArray, Error>
     requires { length (rows_by (byte_slots K.slot) lhs.now) ≡ length (rows_by (byte_slots K.slot) rhs.now) }
     ensures array_type { IfOk result (λ array. array.arrow_type ≡ plain boolean) }
-    ensures rows { IfOk result (λ array. boolean_rows array ≡ row_by_row (related relation.gt_eq) (rows_by (byte_slots K.slot) lhs.now) (rows_by (byte_slots K.slot) rhs.now)) }
+    ensures rows { IfOk result (λ array. boolean_rows array
+        ≡ row_by_row (related relation.gt_eq) (rows_by (byte_slots K.slot) lhs.now)
+        (rows_by (byte_slots K.slot) rhs.now)) }
     ensures err { IsOkUnless result Error.OutOfMemory }
 {
     relate_by::<GreaterOrEqual, _>(alloc, lhs, rhs)
@@ -220,7 +234,9 @@ pub fn relate<O: Offset, K: ComparedBytes>(
 ) -> Result<BooleanArray, Error>
     requires { length (rows_by (byte_slots K.slot) lhs.now) ≡ length (rows_by (byte_slots K.slot) rhs.now) }
     ensures array_type { IfOk result (λ array. array.arrow_type ≡ plain boolean) }
-    ensures rows { IfOk result (λ array. boolean_rows array ≡ row_by_row (related (relation_of by)) (rows_by (byte_slots K.slot) lhs.now) (rows_by (byte_slots K.slot) rhs.now)) }
+    ensures rows { IfOk result (λ array. boolean_rows array
+        ≡ row_by_row (related (relation_of by)) (rows_by (byte_slots K.slot) lhs.now)
+        (rows_by (byte_slots K.slot) rhs.now)) }
     ensures err { IsOkUnless result Error.OutOfMemory }
 {
     by_relation!(by, relate_by::<_, _>(alloc, lhs, rhs))
@@ -445,7 +461,8 @@ fn are_related<'a, R: ByteTest, O: Offset, K: ComparedBytes>(
 ) -> bool
     requires left { row < length (row_bytes left.now) }
     requires right { row < length (row_bytes right.now) }
-    ensures { slice_get (row_by_row (related R.op) (byte_slots K.slot left.now) (byte_slots K.slot right.now)) row ≡ Some (Boolean result) }
+    ensures { slice_get (row_by_row (related R.op) (byte_slots K.slot left.now)
+        (byte_slots K.slot right.now)) row ≡ Some (Boolean result) }
 {
     R::of_rows::<K>(&left.row(row), &right.row(row))
 }
@@ -457,7 +474,8 @@ fn is_related<'a, R: ByteTest, O: Offset, K: ComparedBytes>(
     row: usize,
 ) -> bool
     requires { row < length (row_bytes rows.now) }
-    ensures { slice_get (map (λ s. related R.op s (K.slot scalar.now)) (byte_slots K.slot rows.now)) row ≡ Some (Boolean result) }
+    ensures { slice_get (map (λ s. related R.op s (K.slot scalar.now)) (byte_slots K.slot rows.now)) row
+        ≡ Some (Boolean result) }
 {
     R::of_rows::<K>(&rows.row(row), scalar)
 }

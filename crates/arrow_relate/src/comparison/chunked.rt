@@ -37,7 +37,8 @@ pub(super) fn bits_of_chunks<T: NativeType, F: Fn([T; 8], [T; 8]) -> u8>(
     op: &F,
 ) -> Result<Bitmap, Error>
     requires { TakesChunks (F.pre op.now) T.zero stored.now scalar }
-    ensures ok { IfOk result (Chunked 8 (answers_chunk (F.post op.now) T.zero stored.now scalar) (length stored.now)) }
+    ensures ok { IfOk result (Chunked 8 (answers_chunk (F.post op.now) T.zero stored.now scalar)
+        (length stored.now)) }
     ensures err { IsOkUnless result Error.OutOfMemory }
 {
     Bitmap::collect_words(
@@ -56,7 +57,8 @@ fn word_of_chunks<T: NativeType, F: Fn([T; 8], [T; 8]) -> u8>(
 ) -> u64
     requires callable { TakesChunks (F.pre op.now) T.zero stored.now scalar }
     requires some { 64 * j < length stored.now }
-    ensures { GathersBytes (answers_chunk (F.post op.now) T.zero stored.now scalar) (8 * j) (min 8 (div_ceil (length stored.now) 8 - 8 * j)) result }
+    ensures { GathersBytes (answers_chunk (F.post op.now) T.zero stored.now scalar) (8 * j)
+        (min 8 (div_ceil (length stored.now) 8 - 8 * j)) result }
 {
     let first = CHUNK * j;
     let mut word = 0;

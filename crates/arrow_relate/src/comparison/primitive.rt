@@ -43,7 +43,8 @@ pub fn eq<T: NativeType>(
 ) -> Result<BooleanArray, Error>
     requires { length (rows_by (map T.slot) lhs.now) ≡ length (rows_by (map T.slot) rhs.now) }
     ensures array_type { IfOk result (λ array. array.arrow_type ≡ plain boolean) }
-    ensures rows { IfOk result (λ array. boolean_rows array ≡ row_by_row (related relation.eq) (rows_by (map T.slot) lhs.now) (rows_by (map T.slot) rhs.now)) }
+    ensures rows { IfOk result (λ array. boolean_rows array
+        ≡ row_by_row (related relation.eq) (rows_by (map T.slot) lhs.now) (rows_by (map T.slot) rhs.now)) }
     ensures err { IsOkUnless result Error.OutOfMemory }
 {
     relate_by::<Equal, _>(alloc, lhs, rhs)
@@ -65,7 +66,8 @@ pub fn eq_and_validity<T: NativeType>(
 ) -> Result<BooleanArray, Error>
     requires { length (rows_by (map T.slot) lhs.now) ≡ length (rows_by (map T.slot) rhs.now) }
     ensures array_type { IfOk result (λ array. array.arrow_type ≡ plain boolean) }
-    ensures rows { IfOk result (λ array. boolean_rows array ≡ row_by_row is_same (rows_by (map T.slot) lhs.now) (rows_by (map T.slot) rhs.now)) }
+    ensures rows { IfOk result (λ array. boolean_rows array
+        ≡ row_by_row is_same (rows_by (map T.slot) lhs.now) (rows_by (map T.slot) rhs.now)) }
     ensures err { IsOkUnless result Error.OutOfMemory }
 {
     same_by::<Equal, _>(alloc, lhs, rhs)
@@ -83,7 +85,8 @@ pub fn eq_scalar<T: NativeType>(
     rhs: T,
 ) -> Result<BooleanArray, Error>
     ensures array_type { IfOk result (λ array. array.arrow_type ≡ plain boolean) }
-    ensures rows { IfOk result (λ array. boolean_rows array ≡ map (λ s. related relation.eq s (T.slot rhs)) (rows_by (map T.slot) lhs.now)) }
+    ensures rows { IfOk result (λ array. boolean_rows array
+        ≡ map (λ s. related relation.eq s (T.slot rhs)) (rows_by (map T.slot) lhs.now)) }
     ensures err { IsOkUnless result Error.OutOfMemory }
 {
     relate_scalar_by::<Equal, _, _>(alloc, lhs, rhs)
@@ -101,7 +104,8 @@ pub fn eq_scalar_and_validity<T: NativeType>(
     rhs: T,
 ) -> Result<BooleanArray, Error>
     ensures array_type { IfOk result (λ array. array.arrow_type ≡ plain boolean) }
-    ensures rows { IfOk result (λ array. boolean_rows array ≡ map (λ s. is_same s (T.slot rhs)) (rows_by (map T.slot) lhs.now)) }
+    ensures rows { IfOk result (λ array. boolean_rows array
+        ≡ map (λ s. is_same s (T.slot rhs)) (rows_by (map T.slot) lhs.now)) }
     ensures err { IsOkUnless result Error.OutOfMemory }
 {
     same_scalar_by::<Equal, _, _>(alloc, lhs, rhs)
@@ -123,7 +127,8 @@ pub fn neq<T: NativeType>(
 ) -> Result<BooleanArray, Error>
     requires { length (rows_by (map T.slot) lhs.now) ≡ length (rows_by (map T.slot) rhs.now) }
     ensures array_type { IfOk result (λ array. array.arrow_type ≡ plain boolean) }
-    ensures rows { IfOk result (λ array. boolean_rows array ≡ row_by_row (related relation.neq) (rows_by (map T.slot) lhs.now) (rows_by (map T.slot) rhs.now)) }
+    ensures rows { IfOk result (λ array. boolean_rows array
+        ≡ row_by_row (related relation.neq) (rows_by (map T.slot) lhs.now) (rows_by (map T.slot) rhs.now)) }
     ensures err { IsOkUnless result Error.OutOfMemory }
 {
     relate_by::<NotEqual, _>(alloc, lhs, rhs)
@@ -145,7 +150,8 @@ pub fn neq_and_validity<T: NativeType>(
 ) -> Result<BooleanArray, Error>
     requires { length (rows_by (map T.slot) lhs.now) ≡ length (rows_by (map T.slot) rhs.now) }
     ensures array_type { IfOk result (λ array. array.arrow_type ≡ plain boolean) }
-    ensures rows { IfOk result (λ array. boolean_rows array ≡ row_by_row differs (rows_by (map T.slot) lhs.now) (rows_by (map T.slot) rhs.now)) }
+    ensures rows { IfOk result (λ array. boolean_rows array
+        ≡ row_by_row differs (rows_by (map T.slot) lhs.now) (rows_by (map T.slot) rhs.now)) }
     ensures err { IsOkUnless result Error.OutOfMemory }
 {
     same_by::<NotEqual, _>(alloc, lhs, rhs)
@@ -163,7 +169,8 @@ pub fn neq_scalar<T: NativeType>(
     rhs: T,
 ) -> Result<BooleanArray, Error>
     ensures array_type { IfOk result (λ array. array.arrow_type ≡ plain boolean) }
-    ensures rows { IfOk result (λ array. boolean_rows array ≡ map (λ s. related relation.neq s (T.slot rhs)) (rows_by (map T.slot) lhs.now)) }
+    ensures rows { IfOk result (λ array. boolean_rows array
+        ≡ map (λ s. related relation.neq s (T.slot rhs)) (rows_by (map T.slot) lhs.now)) }
     ensures err { IsOkUnless result Error.OutOfMemory }
 {
     relate_scalar_by::<NotEqual, _, _>(alloc, lhs, rhs)
@@ -181,7 +188,8 @@ pub fn neq_scalar_and_validity<T: NativeType>(
     rhs: T,
 ) -> Result<BooleanArray, Error>
     ensures array_type { IfOk result (λ array. array.arrow_type ≡ plain boolean) }
-    ensures rows { IfOk result (λ array. boolean_rows array ≡ map (λ s. differs s (T.slot rhs)) (rows_by (map T.slot) lhs.now)) }
+    ensures rows { IfOk result (λ array. boolean_rows array
+        ≡ map (λ s. differs s (T.slot rhs)) (rows_by (map T.slot) lhs.now)) }
     ensures err { IsOkUnless result Error.OutOfMemory }
 {
     same_scalar_by::<NotEqual, _, _>(alloc, lhs, rhs)
@@ -203,7 +211,8 @@ pub fn lt<T: NativeOrd>(
 ) -> Result<BooleanArray, Error>
     requires { length (rows_by (map T.slot) lhs.now) ≡ length (rows_by (map T.slot) rhs.now) }
     ensures array_type { IfOk result (λ array. array.arrow_type ≡ plain boolean) }
-    ensures rows { IfOk result (λ array. boolean_rows array ≡ row_by_row (related relation.lt) (rows_by (map T.slot) lhs.now) (rows_by (map T.slot) rhs.now)) }
+    ensures rows { IfOk result (λ array. boolean_rows array
+        ≡ row_by_row (related relation.lt) (rows_by (map T.slot) lhs.now) (rows_by (map T.slot) rhs.now)) }
     ensures err { IsOkUnless result Error.OutOfMemory }
 {
     relate_by::<Less, _>(alloc, lhs, rhs)
@@ -221,7 +230,8 @@ pub fn lt_scalar<T: NativeOrd>(
     rhs: T,
 ) -> Result<BooleanArray, Error>
     ensures array_type { IfOk result (λ array. array.arrow_type ≡ plain boolean) }
-    ensures rows { IfOk result (λ array. boolean_rows array ≡ map (λ s. related relation.lt s (T.slot rhs)) (rows_by (map T.slot) lhs.now)) }
+    ensures rows { IfOk result (λ array. boolean_rows array
+        ≡ map (λ s. related relation.lt s (T.slot rhs)) (rows_by (map T.slot) lhs.now)) }
     ensures err { IsOkUnless result Error.OutOfMemory }
 {
     relate_scalar_by::<Less, _, _>(alloc, lhs, rhs)
@@ -243,7 +253,9 @@ pub fn lt_eq<T: NativeOrd>(
 ) -> Result<BooleanArray, Error>
     requires { length (rows_by (map T.slot) lhs.now) ≡ length (rows_by (map T.slot) rhs.now) }
     ensures array_type { IfOk result (λ array. array.arrow_type ≡ plain boolean) }
-    ensures rows { IfOk result (λ array. boolean_rows array ≡ row_by_row (related relation.lt_eq) (rows_by (map T.slot) lhs.now) (rows_by (map T.slot) rhs.now)) }
+    ensures rows { IfOk result (λ array. boolean_rows array
+        ≡ row_by_row (related relation.lt_eq) (rows_by (map T.slot) lhs.now)
+        (rows_by (map T.slot) rhs.now)) }
     ensures err { IsOkUnless result Error.OutOfMemory }
 {
     relate_by::<LessOrEqual, _>(alloc, lhs, rhs)
@@ -261,7 +273,8 @@ pub fn lt_eq_scalar<T: NativeOrd>(
     rhs: T,
 ) -> Result<BooleanArray, Error>
     ensures array_type { IfOk result (λ array. array.arrow_type ≡ plain boolean) }
-    ensures rows { IfOk result (λ array. boolean_rows array ≡ map (λ s. related relation.lt_eq s (T.slot rhs)) (rows_by (map T.slot) lhs.now)) }
+    ensures rows { IfOk result (λ array. boolean_rows array
+        ≡ map (λ s. related relation.lt_eq s (T.slot rhs)) (rows_by (map T.slot) lhs.now)) }
     ensures err { IsOkUnless result Error.OutOfMemory }
 {
     relate_scalar_by::<LessOrEqual, _, _>(alloc, lhs, rhs)
@@ -283,7 +296,8 @@ pub fn gt<T: NativeOrd>(
 ) -> Result<BooleanArray, Error>
     requires { length (rows_by (map T.slot) lhs.now) ≡ length (rows_by (map T.slot) rhs.now) }
     ensures array_type { IfOk result (λ array. array.arrow_type ≡ plain boolean) }
-    ensures rows { IfOk result (λ array. boolean_rows array ≡ row_by_row (related relation.gt) (rows_by (map T.slot) lhs.now) (rows_by (map T.slot) rhs.now)) }
+    ensures rows { IfOk result (λ array. boolean_rows array
+        ≡ row_by_row (related relation.gt) (rows_by (map T.slot) lhs.now) (rows_by (map T.slot) rhs.now)) }
     ensures err { IsOkUnless result Error.OutOfMemory }
 {
     relate_by::<Greater, _>(alloc, lhs, rhs)
@@ -301,7 +315,8 @@ pub fn gt_scalar<T: NativeOrd>(
     rhs: T,
 ) -> Result<BooleanArray, Error>
     ensures array_type { IfOk result (λ array. array.arrow_type ≡ plain boolean) }
-    ensures rows { IfOk result (λ array. boolean_rows array ≡ map (λ s. related relation.gt s (T.slot rhs)) (rows_by (map T.slot) lhs.now)) }
+    ensures rows { IfOk result (λ array. boolean_rows array
+        ≡ map (λ s. related relation.gt s (T.slot rhs)) (rows_by (map T.slot) lhs.now)) }
     ensures err { IsOkUnless result Error.OutOfMemory }
 {
     relate_scalar_by::<Greater, _, _>(alloc, lhs, rhs)
@@ -323,7 +338,9 @@ pub fn gt_eq<T: NativeOrd>(
 ) -> Result<BooleanArray, Error>
     requires { length (rows_by (map T.slot) lhs.now) ≡ length (rows_by (map T.slot) rhs.now) }
     ensures array_type { IfOk result (λ array. array.arrow_type ≡ plain boolean) }
-    ensures rows { IfOk result (λ array. boolean_rows array ≡ row_by_row (related relation.gt_eq) (rows_by (map T.slot) lhs.now) (rows_by (map T.slot) rhs.now)) }
+    ensures rows { IfOk result (λ array. boolean_rows array
+        ≡ row_by_row (related relation.gt_eq) (rows_by (map T.slot) lhs.now)
+        (rows_by (map T.slot) rhs.now)) }
     ensures err { IsOkUnless result Error.OutOfMemory }
 {
     relate_by::<GreaterOrEqual, _>(alloc, lhs, rhs)
@@ -341,7 +358,8 @@ pub fn gt_eq_scalar<T: NativeOrd>(
     rhs: T,
 ) -> Result<BooleanArray, Error>
     ensures array_type { IfOk result (λ array. array.arrow_type ≡ plain boolean) }
-    ensures rows { IfOk result (λ array. boolean_rows array ≡ map (λ s. related relation.gt_eq s (T.slot rhs)) (rows_by (map T.slot) lhs.now)) }
+    ensures rows { IfOk result (λ array. boolean_rows array
+        ≡ map (λ s. related relation.gt_eq s (T.slot rhs)) (rows_by (map T.slot) lhs.now)) }
     ensures err { IsOkUnless result Error.OutOfMemory }
 {
     relate_scalar_by::<GreaterOrEqual, _, _>(alloc, lhs, rhs)
@@ -362,7 +380,9 @@ pub fn relate<T: NativeOrd>(
 ) -> Result<BooleanArray, Error>
     requires { length (rows_by (map T.slot) lhs.now) ≡ length (rows_by (map T.slot) rhs.now) }
     ensures array_type { IfOk result (λ array. array.arrow_type ≡ plain boolean) }
-    ensures rows { IfOk result (λ array. boolean_rows array ≡ row_by_row (related (relation_of by)) (rows_by (map T.slot) lhs.now) (rows_by (map T.slot) rhs.now)) }
+    ensures rows { IfOk result (λ array. boolean_rows array
+        ≡ row_by_row (related (relation_of by)) (rows_by (map T.slot) lhs.now)
+        (rows_by (map T.slot) rhs.now)) }
     ensures err { IsOkUnless result Error.OutOfMemory }
 {
     by_relation!(by, relate_by::<_, _>(alloc, lhs, rhs))
@@ -379,7 +399,8 @@ pub fn relate_scalar<T: NativeOrd>(
     rhs: T,
 ) -> Result<BooleanArray, Error>
     ensures array_type { IfOk result (λ array. array.arrow_type ≡ plain boolean) }
-    ensures rows { IfOk result (λ array. boolean_rows array ≡ map (λ s. related (relation_of by) s (T.slot rhs)) (rows_by (map T.slot) lhs.now)) }
+    ensures rows { IfOk result (λ array. boolean_rows array
+        ≡ map (λ s. related (relation_of by) s (T.slot rhs)) (rows_by (map T.slot) lhs.now)) }
     ensures err { IsOkUnless result Error.OutOfMemory }
 {
     by_relation!(by, relate_scalar_by::<_, _, _>(alloc, lhs, rhs))
@@ -443,7 +464,8 @@ impl<T: NativeType, R: Test<T>> RelatedToScalar<R, T> for Buffer<T> {
 // Whether the relation holds of a value and another one.
 fn is_related<T: NativeType, R: Test<T>>(values: &[T], other: T, row: usize) -> bool
     requires { row < length values.now }
-    ensures { slice_get (map (λ s. related R.op s (T.slot other)) (map T.slot values.now)) row ≡ Some (Boolean result) }
+    ensures { slice_get (map (λ s. related R.op s (T.slot other)) (map T.slot values.now)) row
+        ≡ Some (Boolean result) }
 {
     R::of(values[row], other)
 }

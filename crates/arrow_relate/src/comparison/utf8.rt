@@ -36,7 +36,8 @@ pub fn eq_scalar<O: Offset>(
     rhs: &str,
 ) -> Result<BooleanArray, Error>
     ensures array_type { IfOk result (λ array. array.arrow_type ≡ plain boolean) }
-    ensures rows { IfOk result (λ array. boolean_rows array ≡ map (λ s. related relation.eq s (Text rhs.now)) (rows_by (byte_slots Text) lhs.now)) }
+    ensures rows { IfOk result (λ array. boolean_rows array
+        ≡ map (λ s. related relation.eq s (Text rhs.now)) (rows_by (byte_slots Text) lhs.now)) }
     ensures err { IsOkUnless result Error.OutOfMemory }
 {
     relate_scalar_by::<Equal, _, _>(alloc, lhs, rhs.as_bytes())
@@ -54,7 +55,8 @@ pub fn eq_scalar_and_validity<O: Offset>(
     rhs: &str,
 ) -> Result<BooleanArray, Error>
     ensures array_type { IfOk result (λ array. array.arrow_type ≡ plain boolean) }
-    ensures rows { IfOk result (λ array. boolean_rows array ≡ map (λ s. is_same s (Text rhs.now)) (rows_by (byte_slots Text) lhs.now)) }
+    ensures rows { IfOk result (λ array. boolean_rows array
+        ≡ map (λ s. is_same s (Text rhs.now)) (rows_by (byte_slots Text) lhs.now)) }
     ensures err { IsOkUnless result Error.OutOfMemory }
 {
     same_scalar_by::<Equal, _, _>(alloc, lhs, rhs.as_bytes())
@@ -72,7 +74,8 @@ pub fn neq_scalar<O: Offset>(
     rhs: &str,
 ) -> Result<BooleanArray, Error>
     ensures array_type { IfOk result (λ array. array.arrow_type ≡ plain boolean) }
-    ensures rows { IfOk result (λ array. boolean_rows array ≡ map (λ s. related relation.neq s (Text rhs.now)) (rows_by (byte_slots Text) lhs.now)) }
+    ensures rows { IfOk result (λ array. boolean_rows array
+        ≡ map (λ s. related relation.neq s (Text rhs.now)) (rows_by (byte_slots Text) lhs.now)) }
     ensures err { IsOkUnless result Error.OutOfMemory }
 {
     relate_scalar_by::<NotEqual, _, _>(alloc, lhs, rhs.as_bytes())
@@ -90,7 +93,8 @@ pub fn neq_scalar_and_validity<O: Offset>(
     rhs: &str,
 ) -> Result<BooleanArray, Error>
     ensures array_type { IfOk result (λ array. array.arrow_type ≡ plain boolean) }
-    ensures rows { IfOk result (λ array. boolean_rows array ≡ map (λ s. differs s (Text rhs.now)) (rows_by (byte_slots Text) lhs.now)) }
+    ensures rows { IfOk result (λ array. boolean_rows array
+        ≡ map (λ s. differs s (Text rhs.now)) (rows_by (byte_slots Text) lhs.now)) }
     ensures err { IsOkUnless result Error.OutOfMemory }
 {
     same_scalar_by::<NotEqual, _, _>(alloc, lhs, rhs.as_bytes())
@@ -108,7 +112,8 @@ pub fn lt_scalar<O: Offset>(
     rhs: &str,
 ) -> Result<BooleanArray, Error>
     ensures array_type { IfOk result (λ array. array.arrow_type ≡ plain boolean) }
-    ensures rows { IfOk result (λ array. boolean_rows array ≡ map (λ s. related relation.lt s (Text rhs.now)) (rows_by (byte_slots Text) lhs.now)) }
+    ensures rows { IfOk result (λ array. boolean_rows array
+        ≡ map (λ s. related relation.lt s (Text rhs.now)) (rows_by (byte_slots Text) lhs.now)) }
     ensures err { IsOkUnless result Error.OutOfMemory }
 {
     relate_scalar_by::<Less, _, _>(alloc, lhs, rhs.as_bytes())
@@ -126,7 +131,8 @@ pub fn lt_eq_scalar<O: Offset>(
     rhs: &str,
 ) -> Result<BooleanArray, Error>
     ensures array_type { IfOk result (λ array. array.arrow_type ≡ plain boolean) }
-    ensures rows { IfOk result (λ array. boolean_rows array ≡ map (λ s. related relation.lt_eq s (Text rhs.now)) (rows_by (byte_slots Text) lhs.now)) }
+    ensures rows { IfOk result (λ array. boolean_rows array
+        ≡ map (λ s. related relation.lt_eq s (Text rhs.now)) (rows_by (byte_slots Text) lhs.now)) }
     ensures err { IsOkUnless result Error.OutOfMemory }
 {
     relate_scalar_by::<LessOrEqual, _, _>(alloc, lhs, rhs.as_bytes())
@@ -144,7 +150,8 @@ pub fn gt_scalar<O: Offset>(
     rhs: &str,
 ) -> Result<BooleanArray, Error>
     ensures array_type { IfOk result (λ array. array.arrow_type ≡ plain boolean) }
-    ensures rows { IfOk result (λ array. boolean_rows array ≡ map (λ s. related relation.gt s (Text rhs.now)) (rows_by (byte_slots Text) lhs.now)) }
+    ensures rows { IfOk result (λ array. boolean_rows array
+        ≡ map (λ s. related relation.gt s (Text rhs.now)) (rows_by (byte_slots Text) lhs.now)) }
     ensures err { IsOkUnless result Error.OutOfMemory }
 {
     relate_scalar_by::<Greater, _, _>(alloc, lhs, rhs.as_bytes())
@@ -162,7 +169,8 @@ pub fn gt_eq_scalar<O: Offset>(
     rhs: &str,
 ) -> Result<BooleanArray, Error>
     ensures array_type { IfOk result (λ array. array.arrow_type ≡ plain boolean) }
-    ensures rows { IfOk result (λ array. boolean_rows array ≡ map (λ s. related relation.gt_eq s (Text rhs.now)) (rows_by (byte_slots Text) lhs.now)) }
+    ensures rows { IfOk result (λ array. boolean_rows array
+        ≡ map (λ s. related relation.gt_eq s (Text rhs.now)) (rows_by (byte_slots Text) lhs.now)) }
     ensures err { IsOkUnless result Error.OutOfMemory }
 {
     relate_scalar_by::<GreaterOrEqual, _, _>(alloc, lhs, rhs.as_bytes())
@@ -179,7 +187,8 @@ pub fn relate_scalar<O: Offset>(
     rhs: &str,
 ) -> Result<BooleanArray, Error>
     ensures array_type { IfOk result (λ array. array.arrow_type ≡ plain boolean) }
-    ensures rows { IfOk result (λ array. boolean_rows array ≡ map (λ s. related (relation_of by) s (Text rhs.now)) (rows_by (byte_slots Text) lhs.now)) }
+    ensures rows { IfOk result (λ array. boolean_rows array
+        ≡ map (λ s. related (relation_of by) s (Text rhs.now)) (rows_by (byte_slots Text) lhs.now)) }
     ensures err { IsOkUnless result Error.OutOfMemory }
 {
     by_relation!(by, relate_scalar_by::<_, _, _>(alloc, lhs, rhs.as_bytes()))

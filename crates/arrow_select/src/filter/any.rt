@@ -53,9 +53,12 @@ pub(super) fn kept(
     requires lengths { length (mask_in selection) ≡ length (any_array_rows array.now) }
     requires count { count ≡ count_by (λ is_kept. is_kept) (mask_in selection) }
     ensures array_type { IfOk result (λ kept. any_array_type kept ≡ any_array_type array.now) }
-    ensures rows { IfOk result (λ kept. any_array_rows kept ≡ select (mask_in selection.entry) (any_array_rows array.now)) }
+    ensures rows { IfOk result (λ kept. any_array_rows kept
+        ≡ select (mask_in selection.entry) (any_array_rows array.now)) }
     ensures fits { IfOk result (λ kept. Fits (any_array_type kept) (any_array_rows kept)) }
-    ensures overflow { result ≡ Err Error.Overflow → Fits (any_array_type array.now) (select (mask_in selection.entry) (any_array_rows array.now)) → ⊥ }
+    ensures overflow { result ≡ Err Error.Overflow
+        → Fits (any_array_type array.now) (select (mask_in selection.entry) (any_array_rows array.now))
+        → ⊥ }
     ensures others { IfErr result IsGrowthError }
 {
     match array {
@@ -99,9 +102,12 @@ fn selected(
     requires bound { grown_of growable ≡ bound_to (layout_of array.now ∷ []) }
     requires lengths { length (mask_in selection) ≡ length (any_array_rows array.now) }
     ensures array_type { IfOk result (λ kept. any_array_type kept ≡ any_array_type array.now) }
-    ensures rows { IfOk result (λ kept. any_array_rows kept ≡ select (mask_in selection.entry) (any_array_rows array.now)) }
+    ensures rows { IfOk result (λ kept. any_array_rows kept
+        ≡ select (mask_in selection.entry) (any_array_rows array.now)) }
     ensures fits { IfOk result (λ kept. Fits (any_array_type kept) (any_array_rows kept)) }
-    ensures overflow { result ≡ Err Error.Overflow → Fits (any_array_type array.now) (select (mask_in selection.entry) (any_array_rows array.now)) → ⊥ }
+    ensures overflow { result ≡ Err Error.Overflow
+        → Fits (any_array_type array.now) (select (mask_in selection.entry) (any_array_rows array.now))
+        → ⊥ }
     ensures others { IfErr result IsGrowthError }
 {
     let mut growable = growable;
@@ -116,8 +122,10 @@ fn selected(
 fn append_selected(growable: &mut AnyGrowable, array: &AnyArray, mask: &Bitmap) -> Result<(), Error>
     requires bound { grown_of growable.old ≡ bound_to (layout_of array.now ∷ []) }
     requires lengths { length mask.now ≡ length (any_array_rows array.now) }
-    ensures ok { OnOk result (HasAppended (layout_of array.now ∷ []) (grown_of growable.new) (select mask.now (any_array_rows array.now))) }
-    ensures overflow { result ≡ Err Error.Overflow → Fits (any_array_type array.now) (select mask.now (any_array_rows array.now)) → ⊥ }
+    ensures ok { OnOk result (HasAppended (layout_of array.now ∷ []) (grown_of growable.new)
+        (select mask.now (any_array_rows array.now))) }
+    ensures overflow { result ≡ Err Error.Overflow
+        → Fits (any_array_type array.now) (select mask.now (any_array_rows array.now)) → ⊥ }
     ensures others { IfErr result IsGrowthError }
 {
     let len = array.len();
@@ -136,8 +144,10 @@ fn append_selected(growable: &mut AnyGrowable, array: &AnyArray, mask: &Bitmap) 
 fn append_ranges(growable: &mut AnyGrowable, array: &AnyArray, filter: &Filter) -> Result<(), Error>
     requires bound { grown_of growable.old ≡ bound_to (layout_of array.now ∷ []) }
     requires lengths { length filter.now ≡ length (any_array_rows array.now) }
-    ensures ok { OnOk result (HasAppended (layout_of array.now ∷ []) (grown_of growable.new) (select filter.now (any_array_rows array.now))) }
-    ensures overflow { result ≡ Err Error.Overflow → Fits (any_array_type array.now) (select filter.now (any_array_rows array.now)) → ⊥ }
+    ensures ok { OnOk result (HasAppended (layout_of array.now ∷ []) (grown_of growable.new)
+        (select filter.now (any_array_rows array.now))) }
+    ensures overflow { result ≡ Err Error.Overflow
+        → Fits (any_array_type array.now) (select filter.now (any_array_rows array.now)) → ⊥ }
     ensures others { IfErr result IsGrowthError }
 {
     filter.extend_into(growable, 0)

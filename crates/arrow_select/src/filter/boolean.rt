@@ -23,7 +23,8 @@ pub(super) fn filter_boolean(
     requires lengths { length (mask_in selection) ≡ length (boolean_rows array.now) }
     requires count { count ≡ count_by (λ is_kept. is_kept) (mask_in selection) }
     ensures array_type { IfOk result (λ kept. kept.arrow_type ≡ array.now.arrow_type) }
-    ensures rows { IfOk result (λ kept. boolean_rows kept ≡ select (mask_in selection.entry) (boolean_rows array.now)) }
+    ensures rows { IfOk result (λ kept. boolean_rows kept
+        ≡ select (mask_in selection.entry) (boolean_rows array.now)) }
     ensures fits { IfOk result (λ kept. Fits kept.arrow_type (boolean_rows kept)) }
     ensures err { IsOkUnless result Error.OutOfMemory }
 {

@@ -40,7 +40,8 @@ pub(super) fn filter_bytes<O: Offset, K: GrowableKind>(
     requires lengths { length (mask_in selection) ≡ length (rows_by (byte_slots K.slot) array.now) }
     requires count { count ≡ count_by (λ is_kept. is_kept) (mask_in selection) }
     ensures array_type { IfOk result (λ kept. kept.arrow_type ≡ array.now.arrow_type) }
-    ensures rows { IfOk result (λ kept. rows_by (byte_slots K.slot) kept ≡ select (mask_in selection.entry) (rows_by (byte_slots K.slot) array.now)) }
+    ensures rows { IfOk result (λ kept. rows_by (byte_slots K.slot) kept
+        ≡ select (mask_in selection.entry) (rows_by (byte_slots K.slot) array.now)) }
     ensures fits { IfOk result (λ kept. Fits kept.arrow_type (rows_by (byte_slots K.slot) kept)) }
     ensures err { IsOkUnless result Error.OutOfMemory }
 {
@@ -65,7 +66,8 @@ fn kept_parts<O: Offset, K: ByteKind>(
     count: usize,
 ) -> Result<(OffsetsBuffer<O>, Vec<u8>), Error>
     requires lengths { length (mask_in selection) ≡ length array.now.values.offsets - 1 }
-    ensures rows { IfOk result (λ parts. pieces parts.0 parts.1.items ≡ at_set (mask_in selection.entry) (row_bytes array.now.values)) }
+    ensures rows { IfOk result (λ parts. pieces parts.0 parts.1.items
+        ≡ at_set (mask_in selection.entry) (row_bytes array.now.values)) }
     ensures within { IfOk result (λ parts. last_of parts.0 ≤ length parts.1.items) }
     ensures err { IsOkUnless result Error.OutOfMemory }
 {
@@ -87,8 +89,10 @@ fn spans_of<O: Offset>(
 ) -> Result<(Vec<(usize, usize)>, Offsets<O>), Error>
     requires lengths { length rows.now ≡ length (mask_in selection) + 1 }
     ensures within { IfOk result (λ kept. All (IsSpanWithin (last_of rows.now)) kept.0.items) }
-    ensures bytes { IfOk result (λ kept. (bytes : List ℕ) → last_of rows.now ≤ length bytes → spanned bytes kept.0.items ≡ valid_values (mask_in selection.entry) rows.now bytes 0) }
-    ensures ends { IfOk result (λ kept. kept.1 ≡ 0 ∷ ends_from 0 (map (row_length rows.now) (places_from 0 (mask_in selection.entry)))) }
+    ensures bytes { IfOk result (λ kept. (bytes : List ℕ) → last_of rows.now ≤ length bytes
+        → spanned bytes kept.0.items ≡ valid_values (mask_in selection.entry) rows.now bytes 0) }
+    ensures ends { IfOk result (λ kept. kept.1
+        ≡ 0 ∷ ends_from 0 (map (row_length rows.now) (places_from 0 (mask_in selection.entry)))) }
     ensures err { IsOkUnless result Error.OutOfMemory }
 {
     match selection {
@@ -107,8 +111,10 @@ fn kept_spans<O: Offset>(
 ) -> Result<(Vec<(usize, usize)>, Offsets<O>), Error>
     requires lengths { length rows.now ≡ length mask.now + 1 }
     ensures within { IfOk result (λ kept. All (IsSpanWithin (last_of rows.now)) kept.0.items) }
-    ensures bytes { IfOk result (λ kept. (bytes : List ℕ) → last_of rows.now ≤ length bytes → spanned bytes kept.0.items ≡ valid_values mask.now rows.now bytes 0) }
-    ensures ends { IfOk result (λ kept. kept.1 ≡ 0 ∷ ends_from 0 (map (row_length rows.now) (places_from 0 mask.now))) }
+    ensures bytes { IfOk result (λ kept. (bytes : List ℕ) → last_of rows.now ≤ length bytes
+        → spanned bytes kept.0.items ≡ valid_values mask.now rows.now bytes 0) }
+    ensures ends { IfOk result (λ kept. kept.1
+        ≡ 0 ∷ ends_from 0 (map (row_length rows.now) (places_from 0 mask.now))) }
     ensures err { IsOkUnless result Error.OutOfMemory }
 {
     let len = mask.len();
@@ -138,8 +144,10 @@ fn ranged_spans<O: Offset>(
 ) -> Result<(Vec<(usize, usize)>, Offsets<O>), Error>
     requires lengths { length rows.now ≡ length filter.now + 1 }
     ensures within { IfOk result (λ kept. All (IsSpanWithin (last_of rows.now)) kept.0.items) }
-    ensures bytes { IfOk result (λ kept. (bytes : List ℕ) → last_of rows.now ≤ length bytes → spanned bytes kept.0.items ≡ valid_values filter.now rows.now bytes 0) }
-    ensures ends { IfOk result (λ kept. kept.1 ≡ 0 ∷ ends_from 0 (map (row_length rows.now) (places_from 0 filter.now))) }
+    ensures bytes { IfOk result (λ kept. (bytes : List ℕ) → last_of rows.now ≤ length bytes
+        → spanned bytes kept.0.items ≡ valid_values filter.now rows.now bytes 0) }
+    ensures ends { IfOk result (λ kept. kept.1
+        ≡ 0 ∷ ends_from 0 (map (row_length rows.now) (places_from 0 filter.now))) }
     ensures err { IsOkUnless result Error.OutOfMemory }
 {
     // All rows end at the greatest offset at most, and so do those that are kept.
@@ -162,8 +170,10 @@ fn append_ends<O: Offset>(
     len: usize,
 ) -> Result<(), Error>
     requires part { start + len < length rows.now }
-    requires fits { last_of ends.old + (slice_index rows.now (start + len) - slice_index rows.now start) ≤ O.greatest }
-    ensures ok { OnOk result (ends.new ≡ ends.old ++ ends_from (last_of ends.old) (map (row_length rows.now) (range_with_len start len))) }
+    requires fits { last_of ends.old + (slice_index rows.now (start + len) - slice_index rows.now start)
+        ≤ O.greatest }
+    ensures ok { OnOk result (ends.new
+        ≡ ends.old ++ ends_from (last_of ends.old) (map (row_length rows.now) (range_with_len start len))) }
     ensures err { IsOkUnless result Error.OutOfMemory }
 {
     prove!(start < rows.len());

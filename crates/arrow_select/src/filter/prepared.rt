@@ -89,9 +89,11 @@ impl Filter {
     pub fn apply(&self, array: &AnyArray) -> Result<AnyArray, Error>
         requires lengths { length self.now ≡ length (any_array_rows array.now) }
         ensures array_type { IfOk result (λ kept. any_array_type kept ≡ any_array_type array.now) }
-        ensures rows { IfOk result (λ kept. any_array_rows kept ≡ select self.now (any_array_rows array.now)) }
+        ensures rows { IfOk result (λ kept. any_array_rows kept
+            ≡ select self.now (any_array_rows array.now)) }
         ensures fits { IfOk result (λ kept. Fits (any_array_type kept) (any_array_rows kept)) }
-        ensures overflow { result ≡ Err Error.Overflow → Fits (any_array_type array.now) (select self.now (any_array_rows array.now)) → ⊥ }
+        ensures overflow { result ≡ Err Error.Overflow
+            → Fits (any_array_type array.now) (select self.now (any_array_rows array.now)) → ⊥ }
         ensures others { IfErr result IsGrowthError }
     {
         kept(self.alloc, array, Selection::Ranges(self), self.count())
@@ -128,7 +130,8 @@ impl Filter {
         requires { BindsAt (G.state growable.old) index self.now }
         ensures ok { OnOk result (G.state growable.new ≡ with_kept (G.state growable.old) index self.now) }
         ensures fits { OnOk result (FitsItself (G.state growable.old) → FitsItself (G.state growable.new)) }
-        ensures err { IfErr result (RefusesRange self.now index (G.state growable.old) (G.state growable.new)) }
+        ensures err { IfErr result (RefusesRange self.now index (G.state growable.old)
+            (G.state growable.new)) }
         ensures others { IfErr result IsRefusal }
     {
         for &(start, len) in self.ranges() {

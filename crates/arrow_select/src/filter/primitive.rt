@@ -25,7 +25,8 @@ pub(super) fn filter_primitive(
     requires lengths { length (mask_in selection) ≡ length (any_rows array.now) }
     requires count { count ≡ count_by (λ is_kept. is_kept) (mask_in selection) }
     ensures array_type { IfOk result (λ kept. any_type kept ≡ any_type array.now) }
-    ensures rows { IfOk result (λ kept. any_rows kept ≡ select (mask_in selection.entry) (any_rows array.now)) }
+    ensures rows { IfOk result (λ kept. any_rows kept
+        ≡ select (mask_in selection.entry) (any_rows array.now)) }
     ensures fits { IfOk result (λ kept. Fits (any_type kept) (any_rows kept)) }
     ensures err { IsOkUnless result Error.OutOfMemory }
 {
@@ -60,7 +61,8 @@ fn filter_values<T: NativeType>(
     requires lengths { length (mask_in selection) ≡ length (rows_by (map T.slot) array.now) }
     requires count { count ≡ count_by (λ is_kept. is_kept) (mask_in selection) }
     ensures array_type { IfOk result (λ kept. kept.arrow_type ≡ array.now.arrow_type) }
-    ensures rows { IfOk result (λ kept. rows_by (map T.slot) kept ≡ select (mask_in selection.entry) (rows_by (map T.slot) array.now)) }
+    ensures rows { IfOk result (λ kept. rows_by (map T.slot) kept
+        ≡ select (mask_in selection.entry) (rows_by (map T.slot) array.now)) }
     ensures fits { IfOk result (λ kept. Fits kept.arrow_type (rows_by (map T.slot) kept)) }
     ensures err { IsOkUnless result Error.OutOfMemory }
 {

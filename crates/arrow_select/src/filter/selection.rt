@@ -33,7 +33,8 @@ pub(super) fn kept_rows<T: NativeType>(
     requires fits { FitsRows (option_copied validity) (length (mask_in selection)) }
     requires count { count ≡ count_by (λ is_kept. is_kept) (mask_in selection) }
     ensures values { IfOk result (λ rows. rows.0.items ≡ at_set (mask_in selection.entry) values.now) }
-    ensures validity { IfOk result (λ rows. rows.1 ≡ option_map (at_set (mask_in selection.entry)) (option_copied validity.entry)) }
+    ensures validity { IfOk result (λ rows. rows.1
+        ≡ option_map (at_set (mask_in selection.entry)) (option_copied validity.entry)) }
     ensures err { IsOkUnless result Error.OutOfMemory }
 {
     match selection {
@@ -57,7 +58,8 @@ pub(super) fn kept_validity(
     count: usize,
 ) -> Result<Option<Bitmap>, Error>
     requires { FitsRows (option_copied validity) (length (mask_in selection)) }
-    ensures ok { IfOk result (λ kept. kept ≡ option_map (at_set (mask_in selection.entry)) (option_copied validity.entry)) }
+    ensures ok { IfOk result (λ kept. kept
+        ≡ option_map (at_set (mask_in selection.entry)) (option_copied validity.entry)) }
     ensures err { IsOkUnless result Error.OutOfMemory }
 {
     match validity {

@@ -168,7 +168,8 @@ pub(super) fn set_rows<T: NativeType>(
     requires fits { FitsRows (option_copied validity) (length mask.now) }
     requires count { count ≡ count_by (λ is_kept. is_kept) mask.now }
     ensures values { IfOk result (λ rows. rows.0.items ≡ at_set mask.now values.now) }
-    ensures validity { IfOk result (λ rows. rows.1 ≡ option_map (at_set mask.now) (option_copied validity.entry)) }
+    ensures validity { IfOk result (λ rows. rows.1
+        ≡ option_map (at_set mask.now) (option_copied validity.entry)) }
     ensures err { IsOkUnless result Error.OutOfMemory }
 {
     match validity {

@@ -19,9 +19,12 @@ pub(super) fn chosen_booleans(
     lhs: &BooleanArray,
     rhs: &BooleanArray,
 ) -> Result<BooleanArray, Error>
-    requires lengths { AreOneLength (boolean_rows predicate.now) (boolean_rows lhs.now) (boolean_rows rhs.now) }
+    requires lengths { AreOneLength (boolean_rows predicate.now) (boolean_rows lhs.now)
+        (boolean_rows rhs.now) }
     ensures array_type { IfOk result (λ all. all.arrow_type ≡ lhs.now.arrow_type) }
-    ensures rows { IfOk result (λ all. boolean_rows all ≡ chosen (boolean_rows predicate.now) (boolean_rows lhs.now) (boolean_rows rhs.now) lhs.now.arrow_type) }
+    ensures rows { IfOk result (λ all. boolean_rows all
+        ≡ chosen (boolean_rows predicate.now) (boolean_rows lhs.now)
+        (boolean_rows rhs.now) lhs.now.arrow_type) }
     ensures fits { IfOk result (λ all. Fits all.arrow_type (boolean_rows all)) }
     ensures err { IsOkUnless result Error.OutOfMemory }
 {

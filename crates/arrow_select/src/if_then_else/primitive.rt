@@ -25,7 +25,8 @@ pub(super) fn chosen_primitives(
     requires one_type { element_of lhs.now ≡ element_of rhs.now }
     requires lengths { AreOneLength (boolean_rows predicate.now) (any_rows lhs.now) (any_rows rhs.now) }
     ensures array_type { IfOk result (λ all. any_type all ≡ any_type lhs.now) }
-    ensures rows { IfOk result (λ all. any_rows all ≡ chosen (boolean_rows predicate.now) (any_rows lhs.now) (any_rows rhs.now) (any_type lhs.now)) }
+    ensures rows { IfOk result (λ all. any_rows all
+        ≡ chosen (boolean_rows predicate.now) (any_rows lhs.now) (any_rows rhs.now) (any_type lhs.now)) }
     ensures fits { IfOk result (λ all. Fits (any_type all) (any_rows all)) }
     ensures err { IsOkUnless result Error.OutOfMemory }
 {
@@ -62,9 +63,12 @@ fn chosen_numbers<T: NativeType>(
     lhs: &PrimitiveArray<T>,
     rhs: &PrimitiveArray<T>,
 ) -> Result<PrimitiveArray<T>, Error>
-    requires lengths { AreOneLength (boolean_rows predicate.now) (rows_by (map T.slot) lhs.now) (rows_by (map T.slot) rhs.now) }
+    requires lengths { AreOneLength (boolean_rows predicate.now) (rows_by (map T.slot) lhs.now)
+        (rows_by (map T.slot) rhs.now) }
     ensures array_type { IfOk result (λ all. all.arrow_type ≡ lhs.now.arrow_type) }
-    ensures rows { IfOk result (λ all. rows_by (map T.slot) all ≡ chosen (boolean_rows predicate.now) (rows_by (map T.slot) lhs.now) (rows_by (map T.slot) rhs.now) lhs.now.arrow_type) }
+    ensures rows { IfOk result (λ all. rows_by (map T.slot) all
+        ≡ chosen (boolean_rows predicate.now) (rows_by (map T.slot) lhs.now)
+        (rows_by (map T.slot) rhs.now) lhs.now.arrow_type) }
     ensures fits { IfOk result (λ all. Fits all.arrow_type (rows_by (map T.slot) all)) }
     ensures err { IsOkUnless result Error.OutOfMemory }
 {

@@ -82,7 +82,8 @@ fn run_end(predicate: &BooleanArray, start: usize, word: Word, truth: Option<boo
     requires within { start < length (boolean_rows predicate.now) }
     requires first { slice_index_or (boolean_rows predicate.now) start Null ≡ truth_slot truth }
     ensures run { IsRunTo (boolean_rows predicate.now) truth start result.0 }
-    ensures word { result.0 < length (boolean_rows predicate.now) → AreRowsOf (boolean_rows predicate.now) (result.0 / 64) result.1.valid result.1.values }
+    ensures word { result.0 < length (boolean_rows predicate.now)
+        → AreRowsOf (boolean_rows predicate.now) (result.0 / 64) result.1.valid result.1.values }
 {
     let len = predicate.len();
     let mut word = word;
@@ -111,7 +112,8 @@ fn word_at(predicate: &BooleanArray, j: usize) -> Word
 
 // Which of the 64 rows from row `64 * j` on are valid, a bit each.
 pub(super) fn valid_word(validity: Option<&Bitmap>, j: usize) -> u64
-    ensures { (k : ℕ) → k < 64 → IfSome (option_copied validity.entry) (λ bits. 64 * j + k < length bits) → (bit_at result k == 1) ≡ valid_at (option_copied validity.entry) (64 * j + k) }
+    ensures { (k : ℕ) → k < 64 → IfSome (option_copied validity.entry) (λ bits. 64 * j + k < length bits)
+        → (bit_at result k == 1) ≡ valid_at (option_copied validity.entry) (64 * j + k) }
 {
     match validity {
         Some(bits) => bits.word(j),
@@ -123,7 +125,8 @@ impl Word {
     /// What row `place` of the word is: true, false or null.
     fn truth(self, place: usize) -> Option<bool>
         requires { place < 64 }
-        ensures { truth_slot result ≡ truth_by (bit_at self.valid place == 1) (bit_at self.values place == 1) }
+        ensures { truth_slot result
+            ≡ truth_by (bit_at self.valid place == 1) (bit_at self.values place == 1) }
     {
         if self.valid >> place & 1 == 1 {
             Some(self.values >> place & 1 == 1)
@@ -144,7 +147,8 @@ impl Word {
 
 // The rows that are not so, of 64 that are valid where a bit of the one word is set, and have the values of the other.
 fn others(truth: Option<bool>, valid: u64, values: u64) -> u64
-    ensures { (k : ℕ) → k < 64 → (bit_at result k == 1) ≡ not (is_truth truth (bit_at valid k == 1) (bit_at values k == 1)) }
+    ensures { (k : ℕ) → k < 64 → (bit_at result k == 1)
+        ≡ not (is_truth truth (bit_at valid k == 1) (bit_at values k == 1)) }
 {
     match truth {
         Some(true) => !(valid & values),

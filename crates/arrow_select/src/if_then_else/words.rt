@@ -45,7 +45,8 @@ fn append_word<T: NativeType>(values: &mut Vec<T>, word: u64, left: &[T], right:
     requires lengths { length left.now ≡ length right.now }
     requires in_word { length left.now ≤ 64 }
     requires room { vec_len values.old + length left.now ≤ vec_capacity values.old }
-    ensures items { values.new.items ≡ values.old.items ++ chosen_by (low_bits word (length left.now)) left.now right.now }
+    ensures items { values.new.items
+        ≡ values.old.items ++ chosen_by (low_bits word (length left.now)) left.now right.now }
     ensures len { vec_len values.new ≡ vec_len values.old + length left.now }
     ensures capacity { vec_capacity values.old ≤ vec_capacity values.new }
 {
@@ -76,7 +77,8 @@ fn push_chosen<T: NativeType>(values: &mut Vec<T>, word: u64, left: &[T], right:
     requires lengths { length left.now ≡ length right.now }
     requires in_word { length left.now ≤ 64 }
     requires room { vec_len values.old + length left.now ≤ vec_capacity values.old }
-    ensures items { values.new.items ≡ values.old.items ++ chosen_by (low_bits word (length left.now)) left.now right.now }
+    ensures items { values.new.items
+        ≡ values.old.items ++ chosen_by (low_bits word (length left.now)) left.now right.now }
     ensures len { vec_len values.new ≡ vec_len values.old + length left.now }
     ensures capacity { vec_capacity values.old ≤ vec_capacity values.new }
 {
@@ -110,14 +112,17 @@ pub(super) fn chosen_bits(
 
 // The bits that 64 others from bit `64 * j` on choose.
 fn chosen_word(bits: &Bitmap, left: &Bitmap, right: &Bitmap, j: usize) -> u64
-    ensures { (k : ℕ) → k < 64 → (bit_at result k == 1) ≡ (if slice_index_or bits.now (64 * j + k) false then slice_index_or left.now (64 * j + k) false else slice_index_or right.now (64 * j + k) false) }
+    ensures { (k : ℕ) → k < 64 → (bit_at result k == 1)
+        ≡ (if slice_index_or bits.now (64 * j + k) false then slice_index_or left.now (64 * j + k) false
+        else slice_index_or right.now (64 * j + k) false) }
 {
     either_word(bits.word(j), left.word(j), right.word(j))
 }
 
 // Each bit of the left word where one is set, and of the right one where it is not.
 fn either_word(word: u64, left: u64, right: u64) -> u64
-    ensures { (k : ℕ) → k < 64 → (bit_at result k == 1) ≡ (if bit_at word k == 1 then bit_at left k == 1 else bit_at right k == 1) }
+    ensures { (k : ℕ) → k < 64 → (bit_at result k == 1)
+        ≡ (if bit_at word k == 1 then bit_at left k == 1 else bit_at right k == 1) }
 {
     word & left | !word & right
 }
@@ -133,7 +138,8 @@ pub(super) fn chosen_validity(
     requires left { FitsRows (option_copied left) (length predicate.now.values) }
     requires right { FitsRows (option_copied right) (length predicate.now.values) }
     ensures predicate { FitsRows predicate.now.validity (length predicate.now.values) }
-    ensures ok { IfOk result (λ validity. MarksChosen predicate.now (option_copied left.entry) (option_copied right.entry) validity) }
+    ensures ok { IfOk result (λ validity.
+        MarksChosen predicate.now (option_copied left.entry) (option_copied right.entry) validity) }
     ensures err { IsOkUnless result Error.OutOfMemory }
 {
     if predicate.validity().is_none() && left.is_none() && right.is_none() {
@@ -153,7 +159,9 @@ fn valid_rows(
 ) -> u64
     requires left { FitsRows (option_copied left) (length predicate.now.values) }
     requires right { FitsRows (option_copied right) (length predicate.now.values) }
-    ensures { (k : ℕ) → k < 64 → 64 * j + k < length predicate.now.values → (bit_at result k == 1) ≡ valid_chosen predicate.now (option_copied left.entry) (option_copied right.entry) (64 * j + k) }
+    ensures { (k : ℕ) → k < 64 → 64 * j + k < length predicate.now.values
+        → (bit_at result k == 1) ≡ valid_chosen predicate.now (option_copied left.entry)
+        (option_copied right.entry) (64 * j + k) }
 {
     let (left, right) = (valid_word(left, j), valid_word(right, j));
     valid_word(predicate.validity(), j) & either_word(predicate.values().word(j), left, right)

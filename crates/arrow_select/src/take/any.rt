@@ -29,9 +29,14 @@ pub(super) fn take_one<I: Index>(
     requires inside { AreIndices (length (any_array_rows values.now)) (rows_by (map I.slot) indices.now) }
     requires no_struct { kind_of values.now ≢ struct_kind }
     ensures array_type { IfOk result (λ taken. any_array_type taken ≡ any_array_type values.now) }
-    ensures rows { IfOk result (λ taken. any_array_rows taken ≡ gather (any_array_rows values.now) (rows_by (map I.slot) indices.now) (any_array_type values.now)) }
+    ensures rows { IfOk result (λ taken. any_array_rows taken
+        ≡ gather (any_array_rows values.now) (rows_by (map I.slot) indices.now)
+        (any_array_type values.now)) }
     ensures fits { IfOk result (λ taken. Fits (any_array_type taken) (any_array_rows taken)) }
-    ensures overflow { result ≡ Err Error.Overflow → Fits (any_array_type values.now) (gather (any_array_rows values.now) (rows_by (map I.slot) indices.now) (any_array_type values.now)) → ⊥ }
+    ensures overflow { result ≡ Err Error.Overflow
+        → Fits (any_array_type values.now)
+        (gather (any_array_rows values.now) (rows_by (map I.slot) indices.now) (any_array_type values.now))
+        → ⊥ }
     ensures others { IfErr result IsGrowthError }
 {
     match values {
@@ -70,7 +75,8 @@ pub(super) fn take_one<I: Index>(
 fn take_nulls<I: Index>(values: &NullArray, indices: &PrimitiveArray<I>) -> Result<NullArray, Error>
     requires { AreIndices (length (null_rows values.now)) (rows_by (map I.slot) indices.now) }
     ensures array_type { IfOk result (λ taken. taken.arrow_type ≡ values.now.arrow_type) }
-    ensures rows { IfOk result (λ taken. null_rows taken ≡ gather (null_rows values.now) (rows_by (map I.slot) indices.now) values.now.arrow_type) }
+    ensures rows { IfOk result (λ taken. null_rows taken
+        ≡ gather (null_rows values.now) (rows_by (map I.slot) indices.now) values.now.arrow_type) }
     ensures fits { IfOk result (λ taken. Fits taken.arrow_type (null_rows taken)) }
     ensures err { IsOkUnless result Error.OutOfMemory }
 {
@@ -89,7 +95,8 @@ fn take_primitive<I: Index>(
 ) -> Result<AnyPrimitive, Error>
     requires { AreIndices (length (any_rows values.now)) (rows_by (map I.slot) indices.now) }
     ensures array_type { IfOk result (λ taken. any_type taken ≡ any_type values.now) }
-    ensures rows { IfOk result (λ taken. any_rows taken ≡ gather (any_rows values.now) (rows_by (map I.slot) indices.now) (any_type values.now)) }
+    ensures rows { IfOk result (λ taken. any_rows taken
+        ≡ gather (any_rows values.now) (rows_by (map I.slot) indices.now) (any_type values.now)) }
     ensures fits { IfOk result (λ taken. Fits (any_type taken) (any_rows taken)) }
     ensures err { IsOkUnless result Error.OutOfMemory }
 {

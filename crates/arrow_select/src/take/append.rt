@@ -30,8 +30,13 @@ pub(super) fn append_taken<'a, G: Growable<'a>, I: Index>(
     requires bound { G.state growable.old ≡ bound_to (first_bound (G.state growable.old) ∷ []) }
     requires len { len ≡ length (rows (first_bound (G.state growable.old))) }
     requires inside { AreIndices len (rows_by (map I.slot) indices.now) }
-    ensures ok { OnOk result (HasAppended (first_bound (G.state growable.old) ∷ []) (G.state growable.new) (gather (rows (first_bound (G.state growable.old))) (rows_by (map I.slot) indices.now) (type_of_layout (first_bound (G.state growable.old))))) }
-    ensures overflow { result ≡ Err Error.Overflow → Fits (type_of_layout (first_bound (G.state growable.old))) (gather (rows (first_bound (G.state growable.old))) (rows_by (map I.slot) indices.now) (type_of_layout (first_bound (G.state growable.old)))) → ⊥ }
+    ensures ok { OnOk result (HasAppended (first_bound (G.state growable.old) ∷ []) (G.state growable.new)
+        (gather (rows (first_bound (G.state growable.old))) (rows_by (map I.slot) indices.now)
+        (type_of_layout (first_bound (G.state growable.old))))) }
+    ensures overflow { result ≡ Err Error.Overflow
+        → Fits (type_of_layout (first_bound (G.state growable.old)))
+        (gather (rows (first_bound (G.state growable.old))) (rows_by (map I.slot) indices.now)
+        (type_of_layout (first_bound (G.state growable.old)))) → ⊥ }
     ensures others { IfErr result IsGrowthError }
 {
     let (stored, validity) = (indices.values().as_slice(), indices.validity());

@@ -29,7 +29,8 @@ pub fn take<I: Index>(
 ) -> Result<BooleanArray, Error>
     requires inside { AreIndices (length (boolean_rows values.now)) (rows_by (map I.slot) indices.now) }
     ensures array_type { IfOk result (λ taken. taken.arrow_type ≡ values.now.arrow_type) }
-    ensures rows { IfOk result (λ taken. boolean_rows taken ≡ gather (boolean_rows values.now) (rows_by (map I.slot) indices.now) values.now.arrow_type) }
+    ensures rows { IfOk result (λ taken. boolean_rows taken
+        ≡ gather (boolean_rows values.now) (rows_by (map I.slot) indices.now) values.now.arrow_type) }
     ensures fits { IfOk result (λ taken. Fits taken.arrow_type (boolean_rows taken)) }
     ensures err { IsOkUnless result Error.OutOfMemory }
 {

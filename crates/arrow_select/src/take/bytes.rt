@@ -38,11 +38,17 @@ pub fn take<O: Offset, K: GrowableKind, I: Index>(
     values: &FlatArray<ByteRows<O, K>>,
     indices: &PrimitiveArray<I>,
 ) -> Result<FlatArray<ByteRows<O, K>>, Error>
-    requires inside { AreIndices (length (rows_by (byte_slots K.slot) values.now)) (rows_by (map I.slot) indices.now) }
+    requires inside { AreIndices (length (rows_by (byte_slots K.slot) values.now))
+        (rows_by (map I.slot) indices.now) }
     ensures array_type { IfOk result (λ taken. taken.arrow_type ≡ values.now.arrow_type) }
-    ensures rows { IfOk result (λ taken. rows_by (byte_slots K.slot) taken ≡ gather (rows_by (byte_slots K.slot) values.now) (rows_by (map I.slot) indices.now) values.now.arrow_type) }
+    ensures rows { IfOk result (λ taken. rows_by (byte_slots K.slot) taken
+        ≡ gather (rows_by (byte_slots K.slot) values.now)
+        (rows_by (map I.slot) indices.now) values.now.arrow_type) }
     ensures fits { IfOk result (λ taken. Fits taken.arrow_type (rows_by (byte_slots K.slot) taken)) }
-    ensures overflow { result ≡ Err Error.Overflow → Fits values.now.arrow_type (gather (rows_by (byte_slots K.slot) values.now) (rows_by (map I.slot) indices.now) values.now.arrow_type) → ⊥ }
+    ensures overflow { result ≡ Err Error.Overflow
+        → Fits values.now.arrow_type
+        (gather (rows_by (byte_slots K.slot) values.now)
+        (rows_by (map I.slot) indices.now) values.now.arrow_type) → ⊥ }
     ensures others { IfErr result IsGrowthError }
 {
     // There are as many rows as a `usize` counts, and the rows lie in the values as the type and the offsets say.
@@ -63,10 +69,18 @@ fn take_rows<O: Offset, K: ByteKind, I: Index>(
     indices: &PrimitiveArray<I>,
 ) -> Result<(OffsetsBuffer<O>, Vec<u8>), Error>
     requires { AreIndices (length values.now.values.offsets - 1) (rows_by (map I.slot) indices.now) }
-    ensures offsets { IfOk result (λ rows. rows.0 ≡ 0 ∷ ends_from 0 (map (span_length values.now.validity values.now.values.offsets) (rows_by (map I.slot) indices.now))) }
-    ensures bytes { IfOk result (λ rows. rows.1.items ≡ concat (map (taken_bytes values.now.validity values.now.values.offsets values.now.values.bytes) (rows_by (map I.slot) indices.now))) }
-    ensures few { OnOk result (sum (map (span_length values.now.validity values.now.values.offsets) (rows_by (map I.slot) indices.now)) ≤ O.greatest) }
-    ensures overflow { result ≡ Err Error.Overflow → O.greatest < sum (map (span_length values.now.validity values.now.values.offsets) (rows_by (map I.slot) indices.now)) }
+    ensures offsets { IfOk result (λ rows. rows.0
+        ≡ 0 ∷ ends_from 0 (map (span_length values.now.validity values.now.values.offsets)
+        (rows_by (map I.slot) indices.now))) }
+    ensures bytes { IfOk result (λ rows. rows.1.items
+        ≡ concat (map (taken_bytes values.now.validity values.now.values.offsets values.now.values.bytes)
+        (rows_by (map I.slot) indices.now))) }
+    ensures few { OnOk result (sum
+        (map (span_length values.now.validity values.now.values.offsets) (rows_by (map I.slot) indices.now))
+        ≤ O.greatest) }
+    ensures overflow { result ≡ Err Error.Overflow
+        → O.greatest < sum (map (span_length values.now.validity values.now.values.offsets)
+        (rows_by (map I.slot) indices.now)) }
     ensures others { IfErr result IsGrowthError }
 {
     // The rows lie in the values as the offsets say.
@@ -90,8 +104,10 @@ fn span_at<O: Offset, I: Index>(
     requires index_fits { FitsRows (option_copied nulls) (length stored.now) }
     requires marks { MarksNulls (option_copied nulls) (masked (option_copied nulls) (map I.slot stored.now)) }
     requires within { row < length stored.now }
-    requires inside { AreIndices (length rows.now - 1) (masked (option_copied nulls) (map I.slot stored.now)) }
-    ensures span { result ≡ span_of (option_copied validity.entry) rows.now (key_in (slice_index_or (masked (option_copied nulls.entry) (map I.slot stored.now)) row Null)) }
+    requires inside { AreIndices (length rows.now - 1)
+        (masked (option_copied nulls) (map I.slot stored.now)) }
+    ensures span { result ≡ span_of (option_copied validity.entry) rows.now
+        (key_in (slice_index_or (masked (option_copied nulls.entry) (map I.slot stored.now)) row Null)) }
     ensures rises { result.0 ≤ result.1 }
     ensures within { result.1 ≤ last_of rows.now }
 {
@@ -115,9 +131,15 @@ fn take_spans<O: Offset, K: ByteKind, I: Index>(
     indices: &PrimitiveArray<I>,
 ) -> Result<(Vec<(usize, usize)>, Offsets<O>), Error>
     requires { AreIndices (length values.now.values.offsets - 1) (rows_by (map I.slot) indices.now) }
-    ensures spans { IfOk result (λ taken. taken.0.items ≡ map (taken_span values.now.validity values.now.values.offsets) (rows_by (map I.slot) indices.now)) }
-    ensures offsets { IfOk result (λ taken. taken.1 ≡ 0 ∷ ends_from 0 (map (span_length values.now.validity values.now.values.offsets) (rows_by (map I.slot) indices.now))) }
-    ensures overflow { result ≡ Err Error.Overflow → O.greatest < sum (map (span_length values.now.validity values.now.values.offsets) (rows_by (map I.slot) indices.now)) }
+    ensures spans { IfOk result (λ taken. taken.0.items
+        ≡ map (taken_span values.now.validity values.now.values.offsets)
+        (rows_by (map I.slot) indices.now)) }
+    ensures offsets { IfOk result (λ taken. taken.1
+        ≡ 0 ∷ ends_from 0 (map (span_length values.now.validity values.now.values.offsets)
+        (rows_by (map I.slot) indices.now))) }
+    ensures overflow { result ≡ Err Error.Overflow
+        → O.greatest < sum (map (span_length values.now.validity values.now.values.offsets)
+        (rows_by (map I.slot) indices.now)) }
     ensures others { IfErr result IsGrowthError }
 {
     let (rows, validity) = (values.offsets(), values.validity());

@@ -34,7 +34,8 @@ pub fn take<I: Index>(
 ) -> Result<DictionaryArray, Error>
     requires inside { AreIndices (length (keyed_rows values.now)) (rows_by (map I.slot) indices.now) }
     ensures array_type { IfOk result (λ taken. taken.arrow_type ≡ values.now.arrow_type) }
-    ensures rows { IfOk result (λ taken. keyed_rows taken ≡ gather (keyed_rows values.now) (rows_by (map I.slot) indices.now) values.now.arrow_type) }
+    ensures rows { IfOk result (λ taken. keyed_rows taken
+        ≡ gather (keyed_rows values.now) (rows_by (map I.slot) indices.now) values.now.arrow_type) }
     ensures values { IfOk result (λ taken. taken.child ≡ values.now.child) }
     ensures fits { IfOk result (λ taken. Fits taken.arrow_type (keyed_rows taken)) }
     ensures err { IsOkUnless result Error.OutOfMemory }
@@ -57,7 +58,8 @@ fn take_keys<I: Index>(
     indices: &PrimitiveArray<I>,
 ) -> Result<AnyKeys, Error>
     requires { AreIndices (length (key_rows keys.now)) (rows_by (map I.slot) indices.now) }
-    ensures ok { IfOk result (λ taken. key_rows taken ≡ gather (key_rows keys.now) (rows_by (map I.slot) indices.now) (plain null)) }
+    ensures ok { IfOk result (λ taken. key_rows taken
+        ≡ gather (key_rows keys.now) (rows_by (map I.slot) indices.now) (plain null)) }
     ensures same { IfOk result (λ taken. key_type_of taken ≡ key_type_of keys.now) }
     ensures err { IsOkUnless result Error.OutOfMemory }
 {
@@ -80,7 +82,8 @@ fn take_key<K: NativeType, I: Index>(
     indices: &PrimitiveArray<I>,
 ) -> Result<PrimitiveArray<K>, Error>
     requires { AreIndices (length (rows_by (map K.slot) keys.now)) (rows_by (map I.slot) indices.now) }
-    ensures ok { IfOk result (λ taken. rows_by (map K.slot) taken ≡ gather (rows_by (map K.slot) keys.now) (rows_by (map I.slot) indices.now) (plain null)) }
+    ensures ok { IfOk result (λ taken. rows_by (map K.slot) taken
+        ≡ gather (rows_by (map K.slot) keys.now) (rows_by (map I.slot) indices.now) (plain null)) }
     ensures err { IsOkUnless result Error.OutOfMemory }
 {
     // The null slot of the keys' type is null.

@@ -30,7 +30,8 @@ pub fn take<I: Index>(
     values: &FixedSizeBinaryArray,
     indices: &PrimitiveArray<I>,
 ) -> Result<FixedSizeBinaryArray, Error>
-    requires inside { AreIndices (length (rows_by fixed_slots values.now)) (rows_by (map I.slot) indices.now) }
+    requires inside { AreIndices (length (rows_by fixed_slots values.now))
+        (rows_by (map I.slot) indices.now) }
     ensures answer { AnswersFixedRows result values.now (rows_by (map I.slot) indices.now) }
 {
     // There are as many rows as a `usize` counts, each as long as the type and the array say.
@@ -56,8 +57,11 @@ fn take_rows<I: Index>(
     indices: &PrimitiveArray<I>,
 ) -> Result<Vec<u8>, Error>
     requires inside { AreIndices values.now.values.count (rows_by (map I.slot) indices.now) }
-    ensures ok { IfOk result (λ bytes. bytes.items ≡ concat (map (taken_row values.now.values.size values.now.values.bytes) (rows_by (map I.slot) indices.now))) }
-    ensures overflow { result ≡ Err Error.Overflow → length (rows_by (map I.slot) indices.now) * values.now.values.size < 2 ^ 64 → ⊥ }
+    ensures ok { IfOk result (λ bytes. bytes.items
+        ≡ concat (map (taken_row values.now.values.size values.now.values.bytes)
+        (rows_by (map I.slot) indices.now))) }
+    ensures overflow { result ≡ Err Error.Overflow
+        → length (rows_by (map I.slot) indices.now) * values.now.values.size < 2 ^ 64 → ⊥ }
     ensures others { IfErr result IsGrowthError }
 {
     let size = values.size();
@@ -88,7 +92,8 @@ fn copy_rows<I: Index>(
     requires some { 0 < size }
     requires zeros { taken.old ≡ replicate (length (rows_by (map I.slot) indices.now) * size) 0 }
     requires inside { AreIndices values.now.values.count (rows_by (map I.slot) indices.now) }
-    ensures { taken.new ≡ concat (map (taken_row size values.now.values.bytes) (rows_by (map I.slot) indices.now)) }
+    ensures { taken.new ≡ concat
+        (map (taken_row size values.now.values.bytes) (rows_by (map I.slot) indices.now)) }
 {
     let bytes = values.values().as_slice();
     let (stored, validity) = (indices.values().as_slice(), indices.validity());
@@ -109,7 +114,8 @@ fn copy_row(taken: &mut [u8], bytes: &[u8], size: usize, start: usize, place: Op
     requires room { start + size ≤ length taken.old }
     requires within { IfSome place (λ n. n * size + size ≤ length bytes.now) }
     requires zeros { sliced taken.old start size ≡ replicate size 0 }
-    ensures { taken.new ≡ take start taken.old ++ (fixed_row size bytes.now place ++ drop (start + size) taken.old) }
+    ensures { taken.new ≡ take start taken.old
+        ++ (fixed_row size bytes.now place ++ drop (start + size) taken.old) }
 {
     if let Some(n) = place {
         taken[start..start + size].copy_from_slice(&bytes[n * size..n * size + size]);

@@ -38,8 +38,10 @@ pub(super) fn index_at<I: Index>(
 ) -> Option<usize>
     requires fits { FitsRows (option_copied validity) (length stored.now) }
     requires within { row < length stored.now }
-    requires key { IsKeyIn (slice_index_or (masked (option_copied validity) (map I.slot stored.now)) row Null) }
-    ensures { result ≡ key_in (slice_index_or (masked (option_copied validity.entry) (map I.slot stored.now)) row Null) }
+    requires key { IsKeyIn (slice_index_or
+        (masked (option_copied validity) (map I.slot stored.now)) row Null) }
+    ensures { result ≡ key_in (slice_index_or
+        (masked (option_copied validity.entry) (map I.slot stored.now)) row Null) }
 {
     let index = stored[row];
     if is_valid(validity, row) {
@@ -56,7 +58,8 @@ pub(super) fn gather_values<T: NativeType, I: Index>(
     indices: &PrimitiveArray<I>,
 ) -> Result<Vec<T>, Error>
     requires { AreIndices (length values.now) (rows_by (map I.slot) indices.now) }
-    ensures ok { IfOk result (λ taken. taken.items ≡ map (picked values.now T.zero) (rows_by (map I.slot) indices.now)) }
+    ensures ok { IfOk result (λ taken. taken.items
+        ≡ map (picked values.now T.zero) (rows_by (map I.slot) indices.now)) }
     ensures err { IsOkUnless result Error.OutOfMemory }
 {
     let (stored, validity) = (indices.values().as_slice(), indices.validity());
@@ -88,8 +91,10 @@ fn append_values<T: NativeType, I: Index>(
     requires some { 0 < length values.now }
     requires room { vec_len taken.old + length stored.now ≤ vec_capacity taken.old }
     requires fits { FitsRows (option_copied validity) (length stored.now) }
-    requires inside { AreIndices (length values.now) (masked (option_copied validity) (map I.slot stored.now)) }
-    ensures { taken.new.items ≡ taken.old.items ++ map (picked values.now T.zero) (masked (option_copied validity.entry) (map I.slot stored.now)) }
+    requires inside { AreIndices (length values.now)
+        (masked (option_copied validity) (map I.slot stored.now)) }
+    ensures { taken.new.items ≡ taken.old.items
+        ++ map (picked values.now T.zero) (masked (option_copied validity.entry) (map I.slot stored.now)) }
 {
     let mut row = 0;
     while row < stored.len() {
@@ -114,8 +119,11 @@ fn append_picked<T: NativeType, I: Index>(
     requires fits { FitsRows (option_copied validity) (length stored.now) }
     requires within { 64 * j + count ≤ length stored.now }
     requires in_word { count ≤ 64 }
-    requires inside { AreIndices (length values.now) (masked (option_copied validity) (map I.slot stored.now)) }
-    ensures items { taken.new.items ≡ taken.old.items ++ map (picked values.now T.zero) (sliced (masked (option_copied validity.entry) (map I.slot stored.now)) (64 * j) count) }
+    requires inside { AreIndices (length values.now)
+        (masked (option_copied validity) (map I.slot stored.now)) }
+    ensures items { taken.new.items
+        ≡ taken.old.items ++ map (picked values.now T.zero)
+        (sliced (masked (option_copied validity.entry) (map I.slot stored.now)) (64 * j) count) }
     ensures len { vec_len taken.new ≡ vec_len taken.old + count }
     ensures capacity { vec_capacity taken.new ≡ vec_capacity taken.old }
 {
@@ -128,7 +136,8 @@ fn append_picked<T: NativeType, I: Index>(
 
 // Which of the 64 rows from row `64 * j` on are valid, a bit each.
 fn valid_word(validity: Option<&Bitmap>, j: usize) -> u64
-    ensures { (k : ℕ) → k < 64 → IfSome (option_copied validity.entry) (λ bits. 64 * j + k < length bits) → (bit_at result k == 1) ≡ valid_at (option_copied validity.entry) (64 * j + k) }
+    ensures { (k : ℕ) → k < 64 → IfSome (option_copied validity.entry) (λ bits. 64 * j + k < length bits)
+        → (bit_at result k == 1) ≡ valid_at (option_copied validity.entry) (64 * j + k) }
 {
     match validity {
         Some(bits) => bits.word(j),
@@ -176,9 +185,11 @@ fn append_bits<I: Index>(
     requires some { 0 < length bits.now }
     requires none { taken.old ≡ [] }
     requires fits { FitsRows (option_copied validity) (length stored.now) }
-    requires marks { MarksNulls (option_copied validity) (masked (option_copied validity) (map I.slot stored.now)) }
+    requires marks { MarksNulls (option_copied validity)
+        (masked (option_copied validity) (map I.slot stored.now)) }
     requires inside { AreIndices (length bits.now) (masked (option_copied validity) (map I.slot stored.now)) }
-    ensures ok { OnOk result (taken.new ≡ map (named_bit bits.now) (masked (option_copied validity.entry) (map I.slot stored.now))) }
+    ensures ok { OnOk result (taken.new
+        ≡ map (named_bit bits.now) (masked (option_copied validity.entry) (map I.slot stored.now))) }
     ensures err { IsOkUnless result Error.OutOfMemory }
 {
     let mut row = 0;
@@ -201,11 +212,14 @@ fn bits_at<I: Index>(
 ) -> u64
     requires some { 0 < length bits.now }
     requires fits { FitsRows (option_copied validity) (length stored.now) }
-    requires marks { MarksNulls (option_copied validity) (masked (option_copied validity) (map I.slot stored.now)) }
+    requires marks { MarksNulls (option_copied validity)
+        (masked (option_copied validity) (map I.slot stored.now)) }
     requires within { row + count ≤ length stored.now }
     requires in_word { count ≤ 64 }
     requires inside { AreIndices (length bits.now) (masked (option_copied validity) (map I.slot stored.now)) }
-    ensures { low_bits result count ≡ map (named_bit bits.now) (sliced (masked (option_copied validity.entry) (map I.slot stored.now)) row count) }
+    ensures { low_bits result count
+        ≡ map (named_bit bits.now)
+        (sliced (masked (option_copied validity.entry) (map I.slot stored.now)) row count) }
 {
     let mut word = 0;
     for k in 0..count {
@@ -218,10 +232,12 @@ fn bits_at<I: Index>(
 fn bit_at<I: Index>(bits: &Bitmap, stored: &[I], validity: Option<&Bitmap>, row: usize) -> bool
     requires some { 0 < length bits.now }
     requires fits { FitsRows (option_copied validity) (length stored.now) }
-    requires marks { MarksNulls (option_copied validity) (masked (option_copied validity) (map I.slot stored.now)) }
+    requires marks { MarksNulls (option_copied validity)
+        (masked (option_copied validity) (map I.slot stored.now)) }
     requires within { row < length stored.now }
     requires inside { AreIndices (length bits.now) (masked (option_copied validity) (map I.slot stored.now)) }
-    ensures { result ≡ named_bit bits.now (slice_index_or (masked (option_copied validity.entry) (map I.slot stored.now)) row Null) }
+    ensures { result ≡ named_bit bits.now
+        (slice_index_or (masked (option_copied validity.entry) (map I.slot stored.now)) row Null) }
 {
     let bit = bits.get_bit(index_at(stored, validity, row).unwrap_or(0));
     is_valid(validity, row) & bit
@@ -234,8 +250,10 @@ pub(super) fn take_validity<I: Index>(
     validity: Option<&Bitmap>,
     indices: &PrimitiveArray<I>,
 ) -> Result<Option<Bitmap>, Error>
-    requires { IfSome (option_copied validity) (λ bits. AreIndices (length bits) (rows_by (map I.slot) indices.now)) }
-    ensures ok { IfOk result (λ taken. MarksTaken (option_copied validity.entry) (rows_by (map I.slot) indices.now) taken) }
+    requires { IfSome (option_copied validity)
+        (λ bits. AreIndices (length bits) (rows_by (map I.slot) indices.now)) }
+    ensures ok { IfOk result (λ taken.
+        MarksTaken (option_copied validity.entry) (rows_by (map I.slot) indices.now) taken) }
     ensures err { IsOkUnless result Error.OutOfMemory }
 {
     match (validity, indices.validity()) {
@@ -252,7 +270,8 @@ pub(super) fn valid_indices<I: Index>(
     validity: Option<&Bitmap>,
 ) -> Result<PrimitiveArray<I>, Error>
     requires { MarksTaken (option_copied validity) (rows_by (map I.slot) indices.now) taken.now }
-    ensures ok { IfOk result (λ valid. rows_by (map I.slot) valid ≡ map (valid_index (option_copied validity.entry)) (rows_by (map I.slot) indices.now)) }
+    ensures ok { IfOk result (λ valid. rows_by (map I.slot) valid
+        ≡ map (valid_index (option_copied validity.entry)) (rows_by (map I.slot) indices.now)) }
     ensures err { IsOkUnless result Error.OutOfMemory }
 {
     // The validity of the indices has a bit for each.

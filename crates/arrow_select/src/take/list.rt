@@ -32,9 +32,12 @@ pub fn take<I: Index>(
 ) -> Result<ListArray, Error>
     requires inside { AreIndices (length (list_rows values.now)) (rows_by (map I.slot) indices.now) }
     ensures array_type { IfOk result (λ taken. taken.arrow_type ≡ values.now.arrow_type) }
-    ensures rows { IfOk result (λ taken. list_rows taken ≡ gather (list_rows values.now) (rows_by (map I.slot) indices.now) values.now.arrow_type) }
+    ensures rows { IfOk result (λ taken. list_rows taken
+        ≡ gather (list_rows values.now) (rows_by (map I.slot) indices.now) values.now.arrow_type) }
     ensures fits { IfOk result (λ taken. Fits taken.arrow_type (list_rows taken)) }
-    ensures overflow { result ≡ Err Error.Overflow → Fits values.now.arrow_type (gather (list_rows values.now) (rows_by (map I.slot) indices.now) values.now.arrow_type) → ⊥ }
+    ensures overflow { result ≡ Err Error.Overflow
+        → Fits values.now.arrow_type
+        (gather (list_rows values.now) (rows_by (map I.slot) indices.now) values.now.arrow_type) → ⊥ }
     ensures others { IfErr result IsGrowthError }
 {
     take_nested(alloc, values, values.len(), indices)

@@ -26,10 +26,17 @@ pub(super) fn take_nested<A: NestedArray, I: Index>(
 ) -> Result<A, Error>
     requires len { len ≡ length (rows (A.layout_in values.now)) }
     requires inside { AreIndices len (rows_by (map I.slot) indices.now) }
-    ensures array_type { IfOk result (λ taken. type_of_layout (A.layout_in taken) ≡ type_of_layout (A.layout_in values.now)) }
-    ensures rows { IfOk result (λ taken. rows (A.layout_in taken) ≡ gather (rows (A.layout_in values.now)) (rows_by (map I.slot) indices.now) (type_of_layout (A.layout_in values.now))) }
-    ensures fits { IfOk result (λ taken. Fits (type_of_layout (A.layout_in taken)) (rows (A.layout_in taken))) }
-    ensures overflow { result ≡ Err Error.Overflow → Fits (type_of_layout (A.layout_in values.now)) (gather (rows (A.layout_in values.now)) (rows_by (map I.slot) indices.now) (type_of_layout (A.layout_in values.now))) → ⊥ }
+    ensures array_type { IfOk result (λ taken. type_of_layout (A.layout_in taken)
+        ≡ type_of_layout (A.layout_in values.now)) }
+    ensures rows { IfOk result (λ taken. rows (A.layout_in taken)
+        ≡ gather (rows (A.layout_in values.now)) (rows_by (map I.slot) indices.now)
+        (type_of_layout (A.layout_in values.now))) }
+    ensures fits { IfOk result (λ taken.
+        Fits (type_of_layout (A.layout_in taken)) (rows (A.layout_in taken))) }
+    ensures overflow { result ≡ Err Error.Overflow
+        → Fits (type_of_layout (A.layout_in values.now))
+        (gather (rows (A.layout_in values.now)) (rows_by (map I.slot) indices.now)
+        (type_of_layout (A.layout_in values.now))) → ⊥ }
     ensures others { IfErr result IsGrowthError }
 {
     let bound = vec![in alloc; values]?;
@@ -47,10 +54,17 @@ fn grown<'a, A: NestedArray + 'a, I: Index>(
     requires bound { growable ≡ bound_to (A.layout_in values.now ∷ []) }
     requires len { len ≡ length (rows (A.layout_in values.now)) }
     requires inside { AreIndices len (rows_by (map I.slot) indices.now) }
-    ensures array_type { IfOk result (λ taken. type_of_layout (A.layout_in taken) ≡ type_of_layout (A.layout_in values.now)) }
-    ensures rows { IfOk result (λ taken. rows (A.layout_in taken) ≡ gather (rows (A.layout_in values.now)) (rows_by (map I.slot) indices.now) (type_of_layout (A.layout_in values.now))) }
-    ensures fits { IfOk result (λ taken. Fits (type_of_layout (A.layout_in taken)) (rows (A.layout_in taken))) }
-    ensures overflow { result ≡ Err Error.Overflow → Fits (type_of_layout (A.layout_in values.now)) (gather (rows (A.layout_in values.now)) (rows_by (map I.slot) indices.now) (type_of_layout (A.layout_in values.now))) → ⊥ }
+    ensures array_type { IfOk result (λ taken. type_of_layout (A.layout_in taken)
+        ≡ type_of_layout (A.layout_in values.now)) }
+    ensures rows { IfOk result (λ taken. rows (A.layout_in taken)
+        ≡ gather (rows (A.layout_in values.now)) (rows_by (map I.slot) indices.now)
+        (type_of_layout (A.layout_in values.now))) }
+    ensures fits { IfOk result (λ taken.
+        Fits (type_of_layout (A.layout_in taken)) (rows (A.layout_in taken))) }
+    ensures overflow { result ≡ Err Error.Overflow
+        → Fits (type_of_layout (A.layout_in values.now))
+        (gather (rows (A.layout_in values.now)) (rows_by (map I.slot) indices.now)
+        (type_of_layout (A.layout_in values.now))) → ⊥ }
     ensures others { IfErr result IsGrowthError }
 {
     let mut growable = growable;

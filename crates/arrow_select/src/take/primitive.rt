@@ -28,9 +28,12 @@ pub fn take<T: NativeType, I: Index>(
     values: &PrimitiveArray<T>,
     indices: &PrimitiveArray<I>,
 ) -> Result<PrimitiveArray<T>, Error>
-    requires inside { AreIndices (length (rows_by (map T.slot) values.now)) (rows_by (map I.slot) indices.now) }
+    requires inside { AreIndices (length (rows_by (map T.slot) values.now))
+        (rows_by (map I.slot) indices.now) }
     ensures array_type { IfOk result (λ taken. taken.arrow_type ≡ values.now.arrow_type) }
-    ensures rows { IfOk result (λ taken. rows_by (map T.slot) taken ≡ gather (rows_by (map T.slot) values.now) (rows_by (map I.slot) indices.now) values.now.arrow_type) }
+    ensures rows { IfOk result (λ taken. rows_by (map T.slot) taken
+        ≡ gather (rows_by (map T.slot) values.now)
+        (rows_by (map I.slot) indices.now) values.now.arrow_type) }
     ensures fits { IfOk result (λ taken. Fits taken.arrow_type (rows_by (map T.slot) taken)) }
     ensures err { IsOkUnless result Error.OutOfMemory }
 {

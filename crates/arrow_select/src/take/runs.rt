@@ -26,7 +26,8 @@ pub(super) fn run_at<I: Index>(
     ensures some { 0 < result.1 }
     ensures within { row + result.1 ≤ length stored.now }
     ensures inside { IfSome result.0 (λ start. start + result.1 ≤ len) }
-    ensures run { sliced (masked (option_copied validity.entry) (map I.slot stored.now)) row result.1 ≡ run_of result.0 result.1 }
+    ensures run { sliced (masked (option_copied validity.entry) (map I.slot stored.now)) row result.1
+        ≡ run_of result.0 result.1 }
 {
     let place = index_at(stored, validity, row);
     let count = match place {
@@ -47,11 +48,13 @@ fn rising_from<I: Index>(
     requires fits { FitsRows (option_copied validity) (length stored.now) }
     requires within { row < length stored.now }
     requires inside { AreIndices len (masked (option_copied validity) (map I.slot stored.now)) }
-    requires first { key_in (slice_index_or (masked (option_copied validity) (map I.slot stored.now)) row Null) ≡ Some start }
+    requires first { key_in (slice_index_or
+        (masked (option_copied validity) (map I.slot stored.now)) row Null) ≡ Some start }
     ensures some { 0 < result }
     ensures within { row + result ≤ length stored.now }
     ensures inside { start + result ≤ len }
-    ensures run { sliced (masked (option_copied validity.entry) (map I.slot stored.now)) row result ≡ run_of (Some start) result }
+    ensures run { sliced (masked (option_copied validity.entry) (map I.slot stored.now)) row result
+        ≡ run_of (Some start) result }
 {
     let mut count = 1;
     while row + count < stored.len()
@@ -68,10 +71,12 @@ fn nulls_from<I: Index>(stored: &[I], validity: Option<&Bitmap>, row: usize, len
     requires fits { FitsRows (option_copied validity) (length stored.now) }
     requires within { row < length stored.now }
     requires inside { AreIndices len (masked (option_copied validity) (map I.slot stored.now)) }
-    requires first { key_in (slice_index_or (masked (option_copied validity) (map I.slot stored.now)) row Null) ≡ None }
+    requires first { key_in (slice_index_or
+        (masked (option_copied validity) (map I.slot stored.now)) row Null) ≡ None }
     ensures some { 0 < result }
     ensures within { row + result ≤ length stored.now }
-    ensures run { sliced (masked (option_copied validity.entry) (map I.slot stored.now)) row result ≡ run_of None result }
+    ensures run { sliced (masked (option_copied validity.entry) (map I.slot stored.now)) row result
+        ≡ run_of None result }
 {
     let mut count = 1;
     while row + count < stored.len() && index_at(stored, validity, row + count).is_none() {

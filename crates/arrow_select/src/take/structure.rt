@@ -36,9 +36,12 @@ pub fn take<I: Index>(
 ) -> Result<StructArray, Error>
     requires inside { AreIndices (length (struct_rows values.now)) (rows_by (map I.slot) indices.now) }
     ensures array_type { IfOk result (λ taken. taken.arrow_type ≡ values.now.arrow_type) }
-    ensures rows { IfOk result (λ taken. struct_rows taken ≡ gather (struct_rows values.now) (rows_by (map I.slot) indices.now) values.now.arrow_type) }
+    ensures rows { IfOk result (λ taken. struct_rows taken
+        ≡ gather (struct_rows values.now) (rows_by (map I.slot) indices.now) values.now.arrow_type) }
     ensures fits { IfOk result (λ taken. Fits taken.arrow_type (struct_rows taken)) }
-    ensures overflow { result ≡ Err Error.Overflow → Fits values.now.arrow_type (gather (struct_rows values.now) (rows_by (map I.slot) indices.now) values.now.arrow_type) → ⊥ }
+    ensures overflow { result ≡ Err Error.Overflow
+        → Fits values.now.arrow_type
+        (gather (struct_rows values.now) (rows_by (map I.slot) indices.now) values.now.arrow_type) → ⊥ }
     ensures others { IfErr result IsGrowthError }
 {
     // There are as many rows as a `usize` counts, and the fields are those of the type.
@@ -61,11 +64,16 @@ fn take_fields<I: Index>(
     fields: &[AnyArray],
     indices: &PrimitiveArray<I>,
 ) -> Result<Vec<AnyArray>, Error>
-    requires inside { All (λ field. AreIndices (length (any_array_rows field)) (rows_by (map I.slot) indices.now)) fields.now }
+    requires inside { All (λ field.
+        AreIndices (length (any_array_rows field)) (rows_by (map I.slot) indices.now)) fields.now }
     ensures types { IfOk result (λ taken. map any_array_type taken.items ≡ map any_array_type fields.now) }
-    ensures rows { IfOk result (λ taken. map any_array_rows taken.items ≡ map (taken_rows (rows_by (map I.slot) indices.now)) fields.now) }
-    ensures fits { IfOk result (λ taken. All (λ field. Fits (any_array_type field) (taken_rows (rows_by (map I.slot) indices.now) field)) fields.now) }
-    ensures overflow { result ≡ Err Error.Overflow → SomeDoNotFit (rows_by (map I.slot) indices.now) fields.now }
+    ensures rows { IfOk result (λ taken. map any_array_rows taken.items
+        ≡ map (taken_rows (rows_by (map I.slot) indices.now)) fields.now) }
+    ensures fits { IfOk result (λ taken.
+        All (λ field. Fits (any_array_type field)
+        (taken_rows (rows_by (map I.slot) indices.now) field)) fields.now) }
+    ensures overflow { result ≡ Err Error.Overflow
+        → SomeDoNotFit (rows_by (map I.slot) indices.now) fields.now }
     ensures others { IfErr result IsGrowthError }
 {
     let mut taken = Vec::with_capacity(alloc, fields.len())?;

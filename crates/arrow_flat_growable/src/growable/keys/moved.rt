@@ -103,8 +103,12 @@ pub(super) fn append_moved<K: MovedKey>(
     requires part { start + len ≤ length stored.now }
     requires room { vec_len keys.old + len ≤ vec_capacity keys.old }
     requires onward { pos 0 ≤ℤ K.number by }
-    requires within { AreKeys (fitting_keys K.greatest (unsigned_abs (K.number by))) (masked (option_copied validity) (map K.slot stored.now)) }
-    ensures { map K.slot keys.new.items ≡ map K.slot keys.old.items ++ map (grown_key (unsigned_abs (K.number by))) (sliced (masked (option_copied validity.entry) (map K.slot stored.now)) start len) }
+    requires within { AreKeys (fitting_keys K.greatest (unsigned_abs (K.number by)))
+        (masked (option_copied validity) (map K.slot stored.now)) }
+    ensures { map K.slot keys.new.items
+        ≡ map K.slot keys.old.items
+        ++ map (grown_key (unsigned_abs (K.number by)))
+        (sliced (masked (option_copied validity.entry) (map K.slot stored.now)) start len) }
 {
     let end = start + len;
     let mut row = start;
@@ -118,7 +122,9 @@ pub(super) fn append_moved<K: MovedKey>(
 
 // Which of the rows from row `row` on are valid, a bit each: as far as their bits are in one half of a word.
 fn valid_half(validity: Option<&Bitmap>, row: usize) -> u32
-    ensures { (k : ℕ) → row % 32 + k < 32 → IfSome (option_copied validity.entry) (λ bits. row + k < length bits) → (bit_at result k == 1) ≡ valid_at (option_copied validity.entry) (row + k) }
+    ensures { (k : ℕ) → row % 32 + k < 32
+        → IfSome (option_copied validity.entry) (λ bits. row + k < length bits)
+        → (bit_at result k == 1) ≡ valid_at (option_copied validity.entry) (row + k) }
 {
     match validity {
         Some(bits) => low_half(bits.word(row / WORD_BITS) >> (row % WORD_BITS)),
@@ -138,8 +144,12 @@ fn append_half<K: MovedKey>(keys: &mut Vec<K>, stored: &[K], half: u32, by: K)
     requires in_half { length stored.now ≤ 32 }
     requires room { vec_len keys.old + length stored.now ≤ vec_capacity keys.old }
     requires onward { pos 0 ≤ℤ K.number by }
-    requires within { AreKeys (fitting_keys K.greatest (unsigned_abs (K.number by))) (mask (low_bits half (length stored.now)) (map K.slot stored.now)) }
-    ensures slots { map K.slot keys.new.items ≡ map K.slot keys.old.items ++ map (grown_key (unsigned_abs (K.number by))) (mask (low_bits half (length stored.now)) (map K.slot stored.now)) }
+    requires within { AreKeys (fitting_keys K.greatest (unsigned_abs (K.number by)))
+        (mask (low_bits half (length stored.now)) (map K.slot stored.now)) }
+    ensures slots { map K.slot keys.new.items
+        ≡ map K.slot keys.old.items
+        ++ map (grown_key (unsigned_abs (K.number by)))
+        (mask (low_bits half (length stored.now)) (map K.slot stored.now)) }
     ensures len { vec_len keys.new ≡ vec_len keys.old + length stored.now }
     ensures capacity { vec_capacity keys.old ≤ vec_capacity keys.new }
 {
@@ -155,9 +165,12 @@ fn append_half<K: MovedKey>(keys: &mut Vec<K>, stored: &[K], half: u32, by: K)
 fn move_half<K: MovedKey>(keys: &mut [K], half: u32, by: K)
     requires in_half { length keys.old ≤ 32 }
     requires onward { pos 0 ≤ℤ K.number by }
-    requires within { AreKeys (fitting_keys K.greatest (unsigned_abs (K.number by))) (mask (low_bits half (length keys.old)) (map K.slot keys.old)) }
+    requires within { AreKeys (fitting_keys K.greatest (unsigned_abs (K.number by)))
+        (mask (low_bits half (length keys.old)) (map K.slot keys.old)) }
     ensures len { length keys.new ≡ length keys.old }
-    ensures slots { map K.slot keys.new ≡ map (grown_key (unsigned_abs (K.number by))) (mask (low_bits half (length keys.old)) (map K.slot keys.old)) }
+    ensures slots { map K.slot keys.new
+        ≡ map (grown_key (unsigned_abs (K.number by)))
+        (mask (low_bits half (length keys.old)) (map K.slot keys.old)) }
 {
     if keys.len() == HALF_BITS {
         move_each(keys, HALF_BITS, half, by);
@@ -173,9 +186,11 @@ fn move_each<K: MovedKey>(keys: &mut [K], count: usize, half: u32, by: K)
     requires count { count ≡ length keys.old }
     requires in_half { count ≤ 32 }
     requires onward { pos 0 ≤ℤ K.number by }
-    requires within { AreKeys (fitting_keys K.greatest (unsigned_abs (K.number by))) (mask (low_bits half count) (map K.slot keys.old)) }
+    requires within { AreKeys (fitting_keys K.greatest (unsigned_abs (K.number by)))
+        (mask (low_bits half count) (map K.slot keys.old)) }
     ensures len { length keys.new ≡ length keys.old }
-    ensures slots { map K.slot keys.new ≡ map (grown_key (unsigned_abs (K.number by))) (mask (low_bits half count) (map K.slot keys.old)) }
+    ensures slots { map K.slot keys.new
+        ≡ map (grown_key (unsigned_abs (K.number by))) (mask (low_bits half count) (map K.slot keys.old)) }
 {
     for k in 0..count {
         keys[k] = moved_key(keys[k], by, half >> k & 1 == 1);
@@ -185,7 +200,8 @@ fn move_each<K: MovedKey>(keys: &mut [K], count: usize, half: u32, by: K)
 // A key that is greater by `by`, and 0 where it is not valid.
 fn moved_key<K: MovedKey>(key: K, by: K, is_valid: bool) -> K
     requires onward { pos 0 ≤ℤ K.number by }
-    requires within { IsKey (fitting_keys K.greatest (unsigned_abs (K.number by))) (if is_valid then K.slot key else Null) }
+    requires within { IsKey (fitting_keys K.greatest (unsigned_abs (K.number by)))
+        (if is_valid then K.slot key else Null) }
     ensures { K.slot result ≡ grown_key (unsigned_abs (K.number by)) (if is_valid then K.slot key else Null) }
 {
     if is_valid {

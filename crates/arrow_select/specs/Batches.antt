@@ -1,0 +1,61 @@
+-- What the laws over batches are stated by: a table's rows in batches, and what a kernel makes of each.
+use Rattle.std.specs.Prelude.{ℕ, suc, ◌+◌, ◌-◌, ◌==◌, ℤ, pos, negsuc, Bool, List, [], ◌∷◌, ◌++◌, drop, length, map, take, if◌then◌else◌}
+use Rattle.std.specs.Borrow.{Bor}
+use Rattle.arrow_types.specs.ArrowType.{ArrowType}
+use Rattle.arrow_types.specs.Rows.{chosen, gather, mask_of, select, shifted}
+use Rattle.arrow_types.specs.Slot.{Slot, Number}
+use Rattle.arrow_flat.specs.Parts.{Parts, boolean_rows}
+use Rattle.arrow_flat.specs.RowByRow.{row_by_row}
+use Rattle.arrow_select.specs.Taken.{AreIndices}
+
+-- the rows of predicates that are lent
+abbrev pub predicates_in : List (Bor (Parts (List Bool))) → List (List Slot)
+predicates_in = map (λ filter. boolean_rows filter.now)
+
+-- of each batch the rows at which its predicate is true
+abbrev pub kept_by_batch : List (List Slot) → List (List Slot) → List (List Slot)
+kept_by_batch filters batches = row_by_row (λ ps xs. select (mask_of ps) xs) filters batches
+
+-- of each batch the rows that its indices name
+abbrev pub taken_by_batch : List (List Slot) → List (List Slot) → ArrowType → List (List Slot)
+taken_by_batch batches indices t = row_by_row (λ xs is. gather xs is t) batches indices
+
+-- of each two batches the rows that their predicate chooses
+abbrev pub chosen_by_batch : List (List Slot) → List (List Slot) → List (List Slot) → ArrowType → List (List Slot)
+chosen_by_batch (ps ∷ filters) (ls ∷ lefts) (rs ∷ rights) t = chosen ps ls rs t ∷ chosen_by_batch filters lefts rights t
+chosen_by_batch _ _ _ t = []
+
+-- the indices of each batch name rows of it
+abbrev pub AreIndicesByBatch : List (List Slot) → List (List Slot) → Type 0
+AreIndicesByBatch [] [] = Unit {0}
+AreIndicesByBatch (xs ∷ batches) (is ∷ indices) = AreIndices (length xs) is × AreIndicesByBatch batches indices
+AreIndicesByBatch _ _ = ⊥
+
+-- an index that names a row so many further on
+abbrev pub moved_index : ℕ → Slot → Slot
+moved_index k (Number (pos n)) = Number (pos (k + n))
+moved_index k i = i
+
+-- the indices of each batch as indices of the joined batches, where the first of these has so many rows before it
+abbrev pub moved_by_batch : ℕ → List (List Slot) → List (List Slot) → List (List Slot)
+moved_by_batch k (xs ∷ batches) (is ∷ indices) = map (moved_index k) is ∷ moved_by_batch (k + length xs) batches indices
+moved_by_batch k _ _ = []
+
+-- two batches that are shifted as one: what `shift` gives of one of them, and in the other rows at the edge between both
+abbrev pub shifted_by_edge : List Slot → List Slot → ℤ → ArrowType → List Slot
+shifted_by_edge xs ys (pos k) t = shifted xs (pos k) t ++ (drop (length xs - k) xs ++ take (length ys - k) ys)
+shifted_by_edge xs ys (negsuc k) t = (drop (suc k) xs ++ take (suc k) ys) ++ shifted ys (negsuc k) t
+
+-- ranges of rows so many further on
+abbrev pub moved_ranges : ℕ → List (ℕ × ℕ) → List (ℕ × ℕ)
+moved_ranges k = map (λ (r : ℕ × ℕ). (k + r.0, r.1))
+
+-- a range in front of others: one with the first of them where these touch
+abbrev pub with_range : ℕ × ℕ → List (ℕ × ℕ) → List (ℕ × ℕ)
+with_range r [] = r ∷ []
+with_range r (q ∷ qs) = if r.0 + r.1 == q.0 then (r.0, r.1 + q.1) ∷ qs else r ∷ q ∷ qs
+
+-- ranges in front of others, of which two that touch are made one
+abbrev pub met : List (ℕ × ℕ) → List (ℕ × ℕ) → List (ℕ × ℕ)
+met [] later = later
+met (r ∷ rs) later = with_range r (met rs later)

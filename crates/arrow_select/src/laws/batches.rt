@@ -1,0 +1,106 @@
+//! Laws over batches: what an engine that cuts a table into batches may do with each by itself.
+
+ghost use Rattle.std.specs.Prelude.{◌≡◌, ◌++◌, ◌≤◌, List, length, map, unsigned_abs};
+ghost use Rattle.arrow_types.specs.Rows.{chosen, gather, joined, mask_of, select, shifted};
+ghost use Rattle.arrow_types.specs.TypeOf.{type_of};
+ghost use Rattle.arrow_flat.specs.Parts.{rows_by};
+ghost use Rattle.arrow_flat.specs.RowByRow.{AreAlikeLong};
+ghost use Rattle.arrow_arrays.specs.Any.{any_array_rows};
+ghost use Rattle.arrow_select.specs.Arrays.{rows_in};
+ghost use Rattle.arrow_select.specs.Batches.{AreIndicesByBatch, chosen_by_batch, kept_by_batch, met, moved_by_batch, moved_ranges, predicates_in, shifted_by_edge, taken_by_batch};
+ghost use Rattle.arrow_select.specs.Ranges.{IsRangesOf};
+
+use crate::filter::Filter;
+use arrow_arrays::array::AnyArray;
+use arrow_flat::array::{BooleanArray, PrimitiveArray};
+use arrow_types::datatypes::DataType;
+use arrow_types::types::Index;
+
+/// What `filter` keeps of batches that are concatenated, by predicates that are, is what it keeps of each, concatenated.
+///
+/// # Requires
+/// There is a predicate for each batch, and it has as many rows.
+pub fn filter_goes_by_batches(filters: &[&BooleanArray], batches: &[&AnyArray])
+    requires { AreAlikeLong (predicates_in filters.now) (rows_in batches.now) }
+    ensures { select (mask_of (joined (predicates_in filters.now))) (joined (rows_in batches.now))
+        ≡ joined (kept_by_batch (predicates_in filters.now) (rows_in batches.now)) }
+{}
+
+/// The shortest ranges of two masks, one behind the other, are those of both, moved by the rows before them, with two that
+/// touch made one: so the ranges of a prepared filter can be found batch by batch.
+///
+/// # Requires
+/// The ranges are those of the filters, as `Filter::ranges` answers them.
+pub fn ranges_go_by_batches(
+    first: &Filter,
+    first_ranges: &[(usize, usize)],
+    second: &Filter,
+    second_ranges: &[(usize, usize)],
+)
+    requires first { IsRangesOf first_ranges.now first.now }
+    requires second { IsRangesOf second_ranges.now second.now }
+    ensures { IsRangesOf (met first_ranges.now (moved_ranges (length first.now) second_ranges.now))
+        (first.now ++ second.now) }
+{}
+
+/// What `take` answers by indices that are concatenated is what it answers by each batch of them, concatenated.
+pub fn take_goes_by_batches<I: Index>(
+    array: &AnyArray,
+    indices: &[&PrimitiveArray<I>],
+    data_type: &DataType,
+)
+    ensures { gather (any_array_rows array.now)
+        (joined (map (λ is. rows_by (map I.slot) is.now) indices.now)) (type_of data_type.now)
+        ≡ joined (map (λ is. gather (any_array_rows array.now) is (type_of data_type.now))
+        (map (λ is. rows_by (map I.slot) is.now) indices.now)) }
+{}
+
+/// What `take` answers of batches that are concatenated, by indices of each batch that are moved by the rows before it, is
+/// what it answers of each batch by its own indices, concatenated.
+///
+/// # Requires
+/// There are indices for each batch, and each that is not null names a row of it.
+pub fn take_goes_by_parts<I: Index>(
+    batches: &[&AnyArray],
+    indices: &[&PrimitiveArray<I>],
+    data_type: &DataType,
+)
+    requires { AreIndicesByBatch (rows_in batches.now) (map (λ is. rows_by (map I.slot) is.now) indices.now) }
+    ensures { gather (joined (rows_in batches.now))
+        (joined (moved_by_batch 0 (rows_in batches.now)
+        (map (λ is. rows_by (map I.slot) is.now) indices.now))) (type_of data_type.now)
+        ≡ joined (taken_by_batch (rows_in batches.now) (map (λ is. rows_by (map I.slot) is.now) indices.now)
+        (type_of data_type.now)) }
+{}
+
+/// What `if_then_else` chooses of batches that are concatenated, by predicates that are, is what it chooses of each pair,
+/// concatenated.
+///
+/// # Requires
+/// There are as many predicates as batches on each side, each as long as its batches.
+pub fn choice_goes_by_batches(
+    predicates: &[&BooleanArray],
+    lhs: &[&AnyArray],
+    rhs: &[&AnyArray],
+    data_type: &DataType,
+)
+    requires left { AreAlikeLong (predicates_in predicates.now) (rows_in lhs.now) }
+    requires right { AreAlikeLong (predicates_in predicates.now) (rows_in rhs.now) }
+    ensures { chosen (joined (predicates_in predicates.now)) (joined (rows_in lhs.now))
+        (joined (rows_in rhs.now)) (type_of data_type.now)
+        ≡ joined (chosen_by_batch (predicates_in predicates.now) (rows_in lhs.now) (rows_in rhs.now)
+        (type_of data_type.now)) }
+{}
+
+/// Two batches that are shifted as one need no more of each other than the rows at the edge between them: as many as the
+/// offset says.
+///
+/// # Requires
+/// Each batch has as many rows as the offset moves by.
+pub fn shift_goes_by_edge(first: &AnyArray, second: &AnyArray, offset: i64, data_type: &DataType)
+    requires first { unsigned_abs offset ≤ length (any_array_rows first.now) }
+    requires second { unsigned_abs offset ≤ length (any_array_rows second.now) }
+    ensures { shifted (any_array_rows first.now ++ any_array_rows second.now) offset (type_of data_type.now)
+        ≡ shifted_by_edge (any_array_rows first.now) (any_array_rows second.now) offset
+        (type_of data_type.now) }
+{}
