@@ -1,13 +1,17 @@
 -- Rows that a mask keeps of rows that fit a type fit it.
 use Rattle.std.proofs.Common.{◌≡◌, ℕ, suc, ◌*◌, ◌<◌, ◌≤◌, ◌^◌, ℤ, true, false, Bool, Option, List, [], ◌∷◌, ◌++◌, length, map, sum_by, flat_map, replicate, if◌then◌else◌, refl, ap, sym, subst, ◌∙◌, arith}
 use Rattle.std.proofs.Math.Nat.{mul-le-mul_left}
+use Rattle.std.proofs.lemmas.List.Elements.{All-cons, All-head, All-nil, All-tail}
 use Rattle.std.proofs.lemmas.List.Sums.{sum_by-cons}
+use Rattle.std.proofs.lemmas.Simd.{map-map}
 use Rattle.std.specs.Ordering.{int_eq}
 use Rattle.arrow_types.specs.declared.datatypes.UnionMode.TheVariants.{Dense, Sparse}
 use Rattle.arrow_types.specs.ArrowType.{ArrowType, ArrowFields, PlainType, ListForm, plain, list, struct, union, dictionary, extension, field, no_fields, more_fields, small, large, fixed_size, mapped, binary, large_binary, utf8, large_utf8, fixed_size_binary}
 use Rattle.arrow_types.specs.Fits.{IsCounted, byte_count, items_in, all_items, fixed_items_in, part_in, sparse_part, dense_part, FitsPlain, FitsForm, child_rows, Fits, FitsParts, FitsSparse, FitsDense}
 use Rattle.arrow_types.specs.Rows.{select}
 use Rattle.arrow_types.specs.Slot.{Slot, Variant, id_at}
+use Rattle.arrow_arrays.specs.KeyedParts.{AreKeys, IsKey, key_in, keys_in}
+use Rattle.arrow_arrays.specs.Layout.{keyed_item}
 
 -- a mask that keeps all rows of a beginning, and one that keeps none
 all_kept : (ys zs : List Slot) (mask : List Bool) → select (replicate (length ys) true ++ mask) (ys ++ zs) ≡ ys ++ select mask zs
@@ -29,11 +33,22 @@ flat_kept f (false ∷ mask) (x ∷ xs) =
     let rest = flat_kept f mask xs in
     (replicate (length (f x)) false ++ rest.0, rest.1 ∙ sym (none_kept (f x) (flat_map f xs) rest.0))
 
-map_kept : (f : Slot → Slot) (mask : List Bool) (xs : List Slot) → map f (select mask xs) ≡ select mask (map f xs)
+pub map_kept : (f : Slot → Slot) (mask : List Bool) (xs : List Slot) → map f (select mask xs) ≡ select mask (map f xs)
 map_kept f [] xs = refl
 map_kept f (b ∷ mask) [] = refl
 map_kept f (true ∷ mask) (x ∷ xs) = ap (λ ys. f x ∷ ys) (map_kept f mask xs)
 map_kept f (false ∷ mask) (x ∷ xs) = map_kept f mask xs
+
+-- the rows of a dictionary that are kept are those of the keys that are kept, and these are keys
+pub keyed_kept : (values keys : List Slot) (mask : List Bool) → map (keyed_item values) (keys_in (select mask keys)) ≡ select mask (map (keyed_item values) (keys_in keys))
+keyed_kept values keys mask =
+    map-map (keyed_item values) key_in (select mask keys) ∙ (map_kept (λ s. keyed_item values (key_in s)) mask keys ∙ ap (select mask) (sym (map-map (keyed_item values) key_in keys)))
+
+pub keys_kept : (count : ℕ) (mask : List Bool) (keys : List Slot) → AreKeys count keys → AreKeys count (select mask keys)
+keys_kept count [] keys all = All-nil (IsKey count)
+keys_kept count (b ∷ mask) [] all = All-nil (IsKey count)
+keys_kept count (true ∷ mask) (key ∷ keys) all = All-cons (IsKey count) key (select mask keys) (All-head (IsKey count) key keys all) (keys_kept count mask keys (All-tail (IsKey count) key keys all))
+keys_kept count (false ∷ mask) (key ∷ keys) all = keys_kept count mask keys (All-tail (IsKey count) key keys all)
 
 -- they are no more, and no longer together
 fewer_kept : (mask : List Bool) (xs : List Slot) → length (select mask xs) ≤ length xs

@@ -14,6 +14,7 @@ ghost use Rattle.arrow_select.specs.Selected.{FirstDoesNotFit, selected_rows};
 mod any;
 mod boolean;
 mod bytes;
+mod dict;
 mod prepared;
 mod primitive;
 mod ranged;

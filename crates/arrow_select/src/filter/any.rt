@@ -14,6 +14,7 @@ ghost use Rattle.arrow_select.specs.Selection.{mask_in};
 
 use crate::filter::boolean::filter_boolean;
 use crate::filter::bytes::filter_bytes;
+use crate::filter::dict::filter_dictionary;
 use crate::filter::prepared::Filter;
 use crate::filter::primitive::filter_primitive;
 use crate::filter::selection::Selection;
@@ -85,6 +86,10 @@ pub(super) fn kept(
         AnyArray::LargeBinary(values) => {
             let kept = filter_bytes(alloc, values, selection, count)?;
             Ok(AnyArray::LargeBinary(kept))
+        }
+        AnyArray::Dictionary(values) => {
+            let kept = filter_dictionary(alloc, values, selection, count)?;
+            Ok(AnyArray::Dictionary(kept))
         }
         _ => {
             let growable = make_growable(alloc, &[array], false, count)?;

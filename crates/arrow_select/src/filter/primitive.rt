@@ -52,7 +52,7 @@ pub(super) fn filter_primitive(
 }
 
 // The same of one element type. Where all rows are kept the array is shared, and nothing is copied.
-fn filter_values<T: NativeType>(
+pub(super) fn filter_values<T: NativeType>(
     alloc: Global,
     array: &PrimitiveArray<T>,
     selection: Selection<'_>,

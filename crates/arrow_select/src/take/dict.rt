@@ -44,11 +44,7 @@ pub fn take<I: Index>(
     let (_, _) = (values.len(), indices.len());
     let keys = take_keys(alloc, values.keys(), indices)?;
     let child = Box::new(alloc, values.values().clone()?)?;
-    let data_type = values.data_type().clone()?;
-    let Ok(taken) = DictionaryArray::try_new(data_type, keys, child) else {
-        unreachable!();
-    };
-    Ok(taken)
+    Ok(DictionaryArray::new(values.data_type().clone()?, keys, child))
 }
 
 // The keys that the indices name, null where an index is.
