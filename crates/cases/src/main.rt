@@ -1,6 +1,10 @@
 //! The program `cases`: answers the lines of standard input on standard output.
 #![tactic(auto)]
 
+mod arrays;
+mod logic;
+mod select;
+
 use arrow_text::call::Call;
 use arrow_text::fault::Fault;
 use std::alloc::Global;
@@ -11,9 +15,9 @@ use std::io::{BufWriter, Read, Write};
 fn answer(alloc: Global, line: &str, out: &mut String) -> Result<bool, Fault> {
     let call = Call::read(alloc, line)?;
     Ok(
-        cases_arrays::answer(alloc, &call, out)?
-            || cases_select::answer(alloc, &call, out)?
-            || cases_logic::answer(alloc, &call, out)?,
+        arrays::answer(alloc, &call, out)?
+            || select::answer(alloc, &call, out)?
+            || logic::answer(alloc, &call, out)?,
     )
 }
 
