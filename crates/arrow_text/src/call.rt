@@ -7,7 +7,7 @@ use crate::number::Integer;
 use crate::piece::Piece;
 use crate::read::read_array;
 use crate::scalar::read_scalar;
-use crate::types::{find, read_type};
+use crate::types::{boxed_type, find, read_type};
 use arrow_memory::bitmap::Bitmap;
 use arrow_types::datatypes::DataType;
 use std::alloc::Global;
@@ -109,6 +109,18 @@ impl<'a> Call<'a> {
         self.argument(i)?.integer()
     }
 
+    /// Argument `i` of so many, an integer.
+    pub fn integer_of<T: Integer>(&self, count: usize, i: usize) -> Result<T, Fault> {
+        self.takes(count)?;
+        self.integer(i)
+    }
+
+    /// Of so many arguments, argument `i` and the one behind it, where a part begins and how long it is.
+    pub fn range_of(&self, count: usize, i: usize) -> Result<(usize, usize), Fault> {
+        self.takes(count)?;
+        self.range(i)
+    }
+
     /// Arguments `i` and the one behind it, where a part begins and how long it is.
     pub fn range(&self, i: usize) -> Result<(usize, usize), Fault> {
         let start = self.integer(i)?;
@@ -127,12 +139,19 @@ impl<'a> Call<'a> {
         self.array(alloc, 0)
     }
 
-    /// The only two arguments, arrays.
-    pub fn pair(&self, alloc: Global) -> Result<Pair, Fault> {
-        self.takes(2)?;
-        let left = read_array(alloc, self.argument(0)?)?;
-        let right = read_array(alloc, self.argument(1)?)?;
+    /// The last two arguments, arrays, before which so many others stand.
+    pub fn pair(&self, alloc: Global, first: usize) -> Result<Pair, Fault> {
+        self.takes(first.saturating_add(2))?;
+        let left = read_array(alloc, self.argument(first)?)?;
+        let right = read_array(alloc, self.argument(first.saturating_add(1))?)?;
         Ok(Pair { left, right })
+    }
+
+    /// The last two arguments, an array and a scalar, before which so many others stand.
+    pub fn array_and_scalar(&self, alloc: Global, first: usize) -> Result<(Array, Scalar), Fault> {
+        self.takes(first.saturating_add(2))?;
+        let array = self.array(alloc, first)?;
+        Ok((array, self.scalar(alloc, first.saturating_add(1))?))
     }
 
     /// The arguments from one on, all of them arrays.
@@ -146,6 +165,11 @@ impl<'a> Call<'a> {
     /// Argument `i`, a data type.
     pub fn data_type(&self, alloc: Global, i: usize) -> Result<DataType, Fault> {
         read_type(alloc, self.argument(i)?)
+    }
+
+    /// Argument `i`, a data type in a box of its own.
+    pub fn boxed_type(&self, alloc: Global, i: usize) -> Result<Box<DataType>, Fault> {
+        boxed_type(alloc, self.argument(i)?)
     }
 
     /// Argument `i`, a bitmap.

@@ -6,13 +6,13 @@ use crate::number::{Element, Integer};
 use crate::parts::Parts;
 use crate::piece::Piece;
 use crate::read::{boxed, offsets_of};
-use crate::row::{push_bytes, push_often, rows_in, validity_of};
+use crate::row::{bits_of, push_bytes, push_often, rows_in, validity_of};
 use arrow_arrays::array::{AnyArray, AnyOffset, AnyRows};
 use arrow_flat::array::{
     AnyElement, Binary, BooleanArray, ByteRows, FixedSizeBinaryArray, FlatArray, NullArray,
     PrimitiveArray, Text,
 };
-use arrow_memory::bitmap::{Bitmap, MutableBitmap};
+use arrow_memory::bitmap::Bitmap;
 use arrow_memory::buffer::Buffer;
 use arrow_memory::offset::OffsetsBuffer;
 use arrow_types::datatypes::{DataType, PhysicalType};
@@ -48,7 +48,7 @@ impl Source<'_, '_> {
     /// The truth values.
     fn truths(self, alloc: Global) -> Result<Bitmap, Fault> {
         match self {
-            Source::Rows(rows, _) => bits_of(alloc, rows),
+            Source::Rows(rows, _) => bits_of(alloc, rows, true),
             Source::Parts(parts) => letters_between(alloc, parts.part("values")?, "", ""),
         }
     }
@@ -140,23 +140,6 @@ fn booleans(
     boxed(alloc, AnyArray::Boolean(array))
 }
 
-// A bit for each row: not set where nothing is stored.
-fn bits_of(alloc: Global, rows: &[Piece<'_>]) -> Result<Bitmap, Fault> {
-    let mut bits = MutableBitmap::new(alloc);
-    for row in rows {
-        bits.push(truth_of(*row)?)?;
-    }
-    Ok(bits.into_bitmap()?)
-}
-
-// The truth value that is stored in a row; false where nothing is.
-fn truth_of(row: Piece<'_>) -> Result<bool, Fault> {
-    match row.stored() {
-        Some(stored) => stored.truth(),
-        None => Ok(false),
-    }
-}
-
 /// A generic call at the element type, which is known when the program runs.
 macro_rules! of_element {
     ($of:expr, $read:ident ( $($given:expr),* )) => {
@@ -231,21 +214,36 @@ fn bytes_of<O: AnyOffset>(
     alloc: Global,
     rows: &[Piece<'_>],
 ) -> Result<(OffsetsBuffer<O>, Buffer<u8>), Fault> {
-    let (mut bytes, mut lengths) = (Vec::new(alloc), Vec::new(alloc));
-    for row in rows {
-        let start = bytes.len();
-        push_stored(&mut bytes, *row)?;
-        lengths.push(bytes.len().saturating_sub(start))?;
-    }
+    let (bytes, lengths) = bytes_in(alloc, rows, None)?;
     let bytes = Buffer::from_vec(alloc, bytes)?;
     Ok((offsets_of(alloc, &lengths)?, bytes))
 }
 
-// Appends the bytes that are stored in a row.
-fn push_stored(bytes: &mut Vec<u8>, row: Piece<'_>) -> Result<(), Fault> {
+// The bytes of all rows, and how many each row has: so many, if that is said.
+fn bytes_in(
+    alloc: Global,
+    rows: &[Piece<'_>],
+    size: Option<usize>,
+) -> Result<(Vec<u8>, Vec<usize>), Fault> {
+    let (mut bytes, mut lengths) = (Vec::new(alloc), Vec::new(alloc));
+    for row in rows {
+        lengths.push(push_stored(&mut bytes, *row, size)?)?;
+    }
+    Ok((bytes, lengths))
+}
+
+// Appends the bytes of a row, and answers how many these are: so many, if that is said, which are zeros where nothing
+// is stored.
+fn push_stored(bytes: &mut Vec<u8>, row: Piece<'_>, size: Option<usize>) -> Result<usize, Fault> {
+    let start = bytes.len();
     match row.stored() {
         Some(stored) => push_bytes(bytes, stored),
-        None => Ok(()),
+        None => push_often(bytes, 0, size.unwrap_or(0)),
+    }?;
+    let count = bytes.len().saturating_sub(start);
+    match size {
+        Some(size) if size != count => Err(row.fault()),
+        _ => Ok(count),
     }
 }
 
@@ -263,23 +261,6 @@ fn fixed_bytes(
 
 // The bytes of all rows, so many each: zeros where nothing is stored.
 fn bytes_of_size(alloc: Global, size: usize, rows: &[Piece<'_>]) -> Result<Buffer<u8>, Fault> {
-    let mut bytes = Vec::new(alloc);
-    for row in rows {
-        push_of_size(&mut bytes, *row, size)?;
-    }
+    let (bytes, _lengths) = bytes_in(alloc, rows, Some(size))?;
     Ok(Buffer::from_vec(alloc, bytes)?)
-}
-
-// Appends the bytes of a row, which has so many: zeros where nothing is stored.
-fn push_of_size(bytes: &mut Vec<u8>, row: Piece<'_>, size: usize) -> Result<(), Fault> {
-    let Some(stored) = row.stored() else {
-        return push_often(bytes, 0, size);
-    };
-    let start = bytes.len();
-    push_bytes(bytes, stored)?;
-    if bytes.len().saturating_sub(start) == size {
-        Ok(())
-    } else {
-        Err(row.fault())
-    }
 }

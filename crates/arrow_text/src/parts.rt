@@ -77,12 +77,7 @@ impl<'a> Parts<'a> {
 
     /// The part of a name, if there is one.
     pub(crate) fn get(&self, name: &str) -> Option<Piece<'a>> {
-        for (other, text) in &self.parts {
-            if *other == name {
-                return Some(*text);
-            }
-        }
-        None
+        find(self.parts.as_slice(), name).copied()
     }
 
     /// The part of a name.

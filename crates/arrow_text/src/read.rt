@@ -144,7 +144,7 @@ fn lists(
     is_marked: bool,
     depth: usize,
 ) -> Result<Box<AnyArray>, Fault> {
-    let (items, lengths) = items_in(alloc, rows)?;
+    let (items, lengths) = items_in(alloc, rows, None)?;
     let values = array_of_rows(alloc, item.data_type(), &items, false, depth)?;
     let kind = data_type.to_physical_type();
     let offsets = any_offsets_of(alloc, kind, &lengths)?;
@@ -192,22 +192,36 @@ pub(crate) fn list_array(
     }
 }
 
-// The items of all rows, and how many each row has: none where nothing is stored.
-fn items_in<'a>(alloc: Global, rows: &[Piece<'a>]) -> Result<(Vec<Piece<'a>>, Vec<usize>), Fault> {
+// The items of all rows, and how many each row has: so many, if that is said.
+fn items_in<'a>(
+    alloc: Global,
+    rows: &[Piece<'a>],
+    size: Option<usize>,
+) -> Result<(Vec<Piece<'a>>, Vec<usize>), Fault> {
     let (mut items, mut lengths) = (Vec::new(alloc), Vec::new(alloc));
     for row in rows {
-        let start = items.len();
-        push_items(alloc, *row, &mut items)?;
-        lengths.push(items.len().saturating_sub(start))?;
+        lengths.push(push_items(alloc, *row, size, &mut items)?)?;
     }
     Ok((items, lengths))
 }
 
-// Appends the items of a row: none where nothing is stored.
-fn push_items<'a>(alloc: Global, row: Piece<'a>, items: &mut Vec<Piece<'a>>) -> Result<(), Fault> {
+// Appends the items of a row, and answers how many these are: so many, if that is said, which are null slots where nothing is
+// stored.
+fn push_items<'a>(
+    alloc: Global,
+    row: Piece<'a>,
+    size: Option<usize>,
+    items: &mut Vec<Piece<'a>>,
+) -> Result<usize, Fault> {
+    let start = items.len();
     match row.stored() {
         Some(stored) => push_rows(alloc, stored.between("[", "]")?, items),
-        None => Ok(()),
+        None => push_often(items, row.nothing(), size.unwrap_or(0)),
+    }?;
+    let count = items.len().saturating_sub(start);
+    match size {
+        Some(size) if size != count => Err(row.fault()),
+        _ => Ok(count),
     }
 }
 
@@ -234,7 +248,7 @@ fn fixed_lists(
     depth: usize,
 ) -> Result<Box<AnyArray>, Fault> {
     let (item, size) = item;
-    let items = items_of_size(alloc, rows, size)?;
+    let (items, _lengths) = items_in(alloc, rows, Some(size))?;
     let values = array_of_rows(alloc, item.data_type(), &items, false, depth)?;
     fixed_list_array(
         alloc,
@@ -255,35 +269,25 @@ pub(crate) fn fixed_list_array(
     boxed(alloc, AnyArray::FixedSizeList(array))
 }
 
-// The items of all rows: null slots where nothing is stored.
-fn items_of_size<'a>(
-    alloc: Global,
-    rows: &[Piece<'a>],
-    size: usize,
-) -> Result<Vec<Piece<'a>>, Fault> {
-    let mut items = Vec::new(alloc);
-    for row in rows {
-        push_of_size(alloc, *row, size, &mut items)?;
-    }
-    Ok(items)
+/// What the fields of structs or of unions hold.
+#[derive(Clone, Copy)]
+enum Columns<'b, 'a> {
+    /// The rows of structs.
+    Struct(&'b [Piece<'a>]),
+    /// The type ids of a union's fields, its mode, the type id of each row, and the row of its field.
+    Union(&'b [i32], UnionMode, &'b [i8], &'b [Piece<'a>]),
 }
 
-// Appends the items of a row, which has so many: null slots where nothing is stored.
-fn push_of_size<'a>(
-    alloc: Global,
-    row: Piece<'a>,
-    size: usize,
-    items: &mut Vec<Piece<'a>>,
-) -> Result<(), Fault> {
-    if row.stored().is_none() {
-        return push_often(items, row.nothing(), size);
-    }
-    let start = items.len();
-    push_items(alloc, row, items)?;
-    if items.len().saturating_sub(start) == size {
-        Ok(())
-    } else {
-        Err(row.fault())
+impl<'a> Columns<'_, 'a> {
+    /// The rows of one field of so many.
+    fn column(self, alloc: Global, place: usize, count: usize) -> Result<Vec<Piece<'a>>, Fault> {
+        match self {
+            Columns::Struct(rows) => column_of(alloc, rows, place, count),
+            Columns::Union(ids, mode, types, rows) => {
+                let id = ids.get(place).copied().ok_or(Fault::Usage)?;
+                variant_of(alloc, id, mode, types, rows)
+            }
+        }
     }
 }
 
@@ -297,8 +301,7 @@ fn structs(
     is_marked: bool,
     depth: usize,
 ) -> Result<Box<AnyArray>, Fault> {
-    let columns = columns_of(alloc, rows, fields.len())?;
-    let children = children_of(alloc, fields, &columns, depth)?;
+    let children = children_of(alloc, fields, Columns::Struct(&*rows), depth)?;
     struct_array(
         alloc,
         data_type,
@@ -312,12 +315,13 @@ fn structs(
 fn children_of(
     alloc: Global,
     fields: &[Field],
-    columns: &[Vec<Piece<'_>>],
+    columns: Columns<'_, '_>,
     depth: usize,
 ) -> Result<Vec<AnyArray>, Fault> {
     let mut children = Vec::new(alloc);
-    for (field, column) in fields.iter().zip(columns) {
-        let child = array_of_rows(alloc, field.data_type(), column, false, depth)?;
+    for (place, field) in fields.iter().enumerate() {
+        let column = columns.column(alloc, place, fields.len())?;
+        let child = array_of_rows(alloc, field.data_type(), &column, false, depth)?;
         push_child(&mut children, child)?;
     }
     Ok(children)
@@ -337,19 +341,6 @@ pub(crate) fn struct_array(
 ) -> Result<Box<AnyArray>, Fault> {
     let array = StructArray::try_new(data_type.clone()?, children, validity)?;
     boxed(alloc, AnyArray::Struct(array))
-}
-
-// The rows of each of so many fields.
-fn columns_of<'a>(
-    alloc: Global,
-    rows: &[Piece<'a>],
-    count: usize,
-) -> Result<Vec<Vec<Piece<'a>>>, Fault> {
-    let mut columns = Vec::new(alloc);
-    for place in 0..count {
-        columns.push(column_of(alloc, rows, place, count)?)?;
-    }
-    Ok(columns)
 }
 
 // The rows of one field of so many: null slots where nothing is stored.
@@ -402,12 +393,14 @@ fn ids_and_rows<'a>(
     alloc: Global,
     ids: &[i32],
     rows: &[Piece<'a>],
-) -> Result<Vec<(i8, Piece<'a>)>, Fault> {
-    let mut found = Vec::new(alloc);
+) -> Result<(Vec<i8>, Vec<Piece<'a>>), Fault> {
+    let (mut types, mut items) = (Vec::new(alloc), Vec::new(alloc));
     for row in rows {
-        found.push(id_and_row(ids, *row)?)?;
+        let (id, item) = id_and_row(ids, *row)?;
+        types.push(id)?;
+        items.push(item)?;
     }
-    Ok(found)
+    Ok((types, items))
 }
 
 // The type id of a row, and the row of its field. The null slot is that of the first field.
@@ -430,10 +423,11 @@ fn variant_of<'a>(
     alloc: Global,
     id: i32,
     mode: UnionMode,
-    rows: &[(i8, Piece<'a>)],
+    types: &[i8],
+    rows: &[Piece<'a>],
 ) -> Result<Vec<Piece<'a>>, Fault> {
     let mut column = Vec::new(alloc);
-    for (of, item) in rows {
+    for (of, item) in types.iter().zip(rows) {
         if i32::from(*of) == id {
             column.push(*item)?;
         } else if mode == UnionMode::Sparse {
@@ -441,20 +435,6 @@ fn variant_of<'a>(
         }
     }
     Ok(column)
-}
-
-// What each field of a union holds.
-fn variants_of<'a>(
-    alloc: Global,
-    ids: &[i32],
-    mode: UnionMode,
-    rows: &[(i8, Piece<'a>)],
-) -> Result<Vec<Vec<Piece<'a>>>, Fault> {
-    let mut columns = Vec::new(alloc);
-    for id in ids {
-        columns.push(variant_of(alloc, *id, mode, rows)?)?;
-    }
-    Ok(columns)
 }
 
 // Unions of fields, with type ids or without, of a mode.
@@ -468,34 +448,31 @@ fn unions(
 ) -> Result<Box<AnyArray>, Fault> {
     let (fields, ids, mode) = of;
     let ids = ids_of(alloc, fields, ids)?;
-    let rows = ids_and_rows(alloc, &ids, rows)?;
-    let columns = variants_of(alloc, &ids, mode, &rows)?;
-    let children = children_of(alloc, fields, &columns, depth)?;
-    union_of_rows(alloc, data_type, mode, &rows, children)
+    let (types, rows) = ids_and_rows(alloc, &ids, rows)?;
+    let fields = fields.get(..ids.len()).unwrap_or(fields);
+    let columns = Columns::Union(&ids, mode, &types, &rows);
+    let children = children_of(alloc, fields, columns, depth)?;
+    union_of_rows(alloc, data_type, mode, types, children)
 }
 
-// Unions of these rows, whose fields hold these children.
+// Unions of rows of these type ids, whose fields hold these children.
 fn union_of_rows(
     alloc: Global,
     data_type: &DataType,
     mode: UnionMode,
-    rows: &[(i8, Piece<'_>)],
+    types: Vec<i8>,
     children: Vec<AnyArray>,
 ) -> Result<Box<AnyArray>, Fault> {
-    let types = types_of(alloc, rows)?;
-    let offsets = offsets_in(alloc, mode, rows)?;
+    let offsets = offsets_in(alloc, mode, &types)?;
+    let types = Buffer::from_vec(alloc, types)?;
     union_array(alloc, data_type, types, children, offsets)
 }
 
 // Where each row of a dense union lies; nothing of a sparse one.
-fn offsets_in(
-    alloc: Global,
-    mode: UnionMode,
-    rows: &[(i8, Piece<'_>)],
-) -> Result<Option<Buffer<i32>>, Fault> {
+fn offsets_in(alloc: Global, mode: UnionMode, types: &[i8]) -> Result<Option<Buffer<i32>>, Fault> {
     match mode {
         UnionMode::Sparse => Ok(None),
-        UnionMode::Dense => Ok(Some(places_of(alloc, rows)?)),
+        UnionMode::Dense => Ok(Some(places_of(alloc, types)?)),
     }
 }
 
@@ -511,21 +488,12 @@ pub(crate) fn union_array(
     boxed(alloc, AnyArray::Union(array))
 }
 
-// The type ids of rows.
-fn types_of(alloc: Global, rows: &[(i8, Piece<'_>)]) -> Result<Buffer<i8>, Fault> {
-    let mut types = Vec::new(alloc);
-    for (id, _) in rows {
-        types.push(*id)?;
-    }
-    Ok(Buffer::from_vec(alloc, types)?)
-}
-
 // Where in its field each row of a dense union lies: behind the rows of the same field before it.
-fn places_of(alloc: Global, rows: &[(i8, Piece<'_>)]) -> Result<Buffer<i32>, Fault> {
+fn places_of(alloc: Global, types: &[i8]) -> Result<Buffer<i32>, Fault> {
     let mut places = Vec::new(alloc);
-    for (i, (id, _)) in rows.iter().enumerate() {
+    for (i, id) in types.iter().enumerate() {
         let mut place = 0i32;
-        for (other, _) in rows.iter().take(i) {
+        for other in types.iter().take(i) {
             place = place.saturating_add(i32::from(other == id));
         }
         places.push(place)?;

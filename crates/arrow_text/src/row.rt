@@ -45,10 +45,7 @@ pub(crate) fn push_often<T: Copy>(items: &mut Vec<T>, item: T, count: usize) -> 
     if count > MOST {
         return Err(Fault::Usage);
     }
-    for _ in 0..count {
-        items.push(item)?;
-    }
-    Ok(())
+    Ok(items.resize(items.len().saturating_add(count), item)?)
 }
 
 impl<'a> Piece<'a> {
@@ -63,6 +60,15 @@ impl<'a> Piece<'a> {
             None => Some(self),
             Some(rest) if rest.is_empty() => None,
             Some(rest) => Some(rest),
+        }
+    }
+
+    /// The truth value that is stored in the row, false where nothing is; or whether the row is no null.
+    fn bit(self, is_stored: bool) -> Result<bool, Fault> {
+        match self.stored() {
+            _ if !is_stored => Ok(!self.is_null()),
+            Some(stored) => stored.truth(),
+            None => Ok(false),
         }
     }
 
@@ -89,11 +95,20 @@ pub fn validity_of(
     if !is_kept && !rows.iter().any(|row| row.is_null()) {
         return Ok(None);
     }
+    bits_of(alloc, rows, false).map(Some)
+}
+
+// A bit for each row: the truth value that is stored in it, or whether it is no null.
+pub(crate) fn bits_of(
+    alloc: Global,
+    rows: &[Piece<'_>],
+    are_stored: bool,
+) -> Result<Bitmap, Fault> {
     let mut bits = MutableBitmap::new(alloc);
     for row in rows {
-        bits.push(!row.is_null())?;
+        bits.push(row.bit(are_stored)?)?;
     }
-    Ok(Some(bits.into_bitmap()?))
+    Ok(bits.into_bitmap()?)
 }
 
 /// The bytes that a text says: characters in quotes, or pairs of digits behind an `x`.

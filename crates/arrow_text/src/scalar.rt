@@ -52,11 +52,6 @@ fn typed_parts(
     scalar_of_parts(alloc, &data_type, parts, depth)
 }
 
-// What a row stores, unless it is null.
-fn value_of<'a>(row: Piece<'a>) -> Option<Piece<'a>> {
-    if row.is_null() { None } else { Some(row) }
-}
-
 // A scalar of a type and a row.
 fn scalar_of_row(
     alloc: Global,
@@ -73,7 +68,8 @@ fn scalar_of_row(
             let value = scalar_of_row(alloc, values, value, depth - 1)?;
             dictionary(alloc, data_type, Some(value))
         }
-        _ => flat_scalar(alloc, data_type, value_of(row)),
+        _ if row.is_null() => flat_scalar(alloc, data_type, None),
+        _ => flat_scalar(alloc, data_type, Some(row)),
     }
 }
 

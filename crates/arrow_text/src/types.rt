@@ -217,7 +217,7 @@ fn type_of_parts(
 ) -> Result<DataType, Fault> {
     let form = *find(&FORMS, word.text()).ok_or(word.fault())?;
     match (form, parts) {
-        (Form::Struct, parts) => struct_of(alloc, parts, depth),
+        (Form::Struct, parts) => Ok(DataType::Struct(fields_of(alloc, parts, false, depth)?)),
         (Form::Union(mode), parts) => union_of(alloc, parts, mode, depth),
         (Form::List(of), [item]) => list_of(alloc, of, *item, depth),
         (Form::FixedSizeList, [size, item]) => fixed_list_of(alloc, *size, *item, depth),
@@ -273,12 +273,6 @@ fn fields_of(
         fields.push(field_of(alloc, part, depth)?)?;
     }
     Ok(fields)
-}
-
-// A struct of fields.
-#[cycle(read_type)]
-fn struct_of(alloc: Global, parts: &[Piece<'_>], depth: usize) -> Result<DataType, Fault> {
-    Ok(DataType::Struct(fields_of(alloc, parts, false, depth)?))
 }
 
 // A union of fields.
@@ -394,7 +388,7 @@ fn measured(
         (Form::Time(of), [unit]) => time_of(of, *unit),
         (Form::Time(Times::Timestamp), [unit, zone]) => zoned(alloc, *unit, *zone),
         (Form::Interval, [unit]) => interval_of(*unit),
-        (Form::FixedSizeBinary, [size]) => bytes_of(*size),
+        (Form::FixedSizeBinary, [size]) => Ok(DataType::FixedSizeBinary(size.integer()?)),
         (Form::Decimal(bits), [precision, scale]) => decimal_of(bits, *precision, *scale),
         _ => Err(word.fault()),
     }
@@ -424,11 +418,6 @@ fn interval_of(unit: Piece<'_>) -> Result<DataType, Fault> {
         Some(unit) => Ok(DataType::Interval(*unit)),
         None => Err(unit.fault()),
     }
-}
-
-// Bytes of a fixed size.
-fn bytes_of(size: Piece<'_>) -> Result<DataType, Fault> {
-    Ok(DataType::FixedSizeBinary(size.integer()?))
 }
 
 // Decimals of so many bits.

@@ -47,6 +47,18 @@ pub fn write_array(out: &mut String, array: &AnyArray) -> Result<(), Fault> {
     write_items(out, array, (0, array.len()), DEEPEST)
 }
 
+/// Appends arrays with a space between two; `none` where there is none.
+pub fn write_arrays(out: &mut String, arrays: &[AnyArray]) -> Result<(), Fault> {
+    if arrays.is_empty() {
+        return push_text(out, "none");
+    }
+    for (place, array) in arrays.iter().enumerate() {
+        push_text(out, if place > 0 { " " } else { "" })?;
+        write_array(out, array)?;
+    }
+    Ok(())
+}
+
 // Appends rows from one on to another, in brackets.
 #[cycle(written)]
 fn write_items(

@@ -70,8 +70,7 @@ pub(crate) fn of_array_at(
     call: &Call<'_>,
     out: &mut String,
 ) -> Result<(), Fault> {
-    call.takes(2)?;
-    let i = call.integer(1)?;
+    let i = call.integer_of(2, 1)?;
     let array = call.array(alloc, 0)?;
     write_of_array_at(method, &*array.array, i, out)
 }
@@ -108,14 +107,13 @@ fn is_valid(array: &AnyArray, i: usize, out: &mut String) -> Result<(), Fault> {
 
 // Whether two arrays are equal.
 pub(crate) fn eq(alloc: Global, call: &Call<'_>, out: &mut String) -> Result<(), Fault> {
-    let pair = call.pair(alloc)?;
+    let pair = call.pair(alloc, 0)?;
     show(out, *pair.left == *pair.right)
 }
 
 // A part of an array, which is kept of it.
 pub(crate) fn slice(alloc: Global, call: &Call<'_>, out: &mut String) -> Result<(), Fault> {
-    call.takes(3)?;
-    let (offset, len) = call.range(1)?;
+    let (offset, len) = call.range_of(3, 1)?;
     let mut array = call.array(alloc, 0)?;
     slice_within(&mut *array.array, offset, len, out)
 }
@@ -134,8 +132,7 @@ fn slice_within(
 
 // A part of an array, which is made of it.
 pub(crate) fn sliced(alloc: Global, call: &Call<'_>, out: &mut String) -> Result<(), Fault> {
-    call.takes(3)?;
-    let (offset, len) = call.range(1)?;
+    let (offset, len) = call.range_of(3, 1)?;
     let array = call.array(alloc, 0)?;
     check_within(offset, len, array.array.len())?;
     write_made(out, Ok(array.into_inner().sliced(offset, len)))
@@ -161,7 +158,6 @@ pub(crate) fn new_empty(alloc: Global, call: &Call<'_>, out: &mut String) -> Res
 
 // An array of null slots.
 pub(crate) fn new_null(alloc: Global, call: &Call<'_>, out: &mut String) -> Result<(), Fault> {
-    call.takes(2)?;
-    let len = call.integer(1)?;
+    let len = call.integer_of(2, 1)?;
     write_made(out, new_null_array(alloc, carried(alloc, call)?, len))
 }

@@ -67,8 +67,7 @@ fn from_bools(alloc: Global, bits: &Bitmap, out: &mut String) -> Result<(), Faul
 
 // So many bits that are not set.
 pub(crate) fn new_zeroed(alloc: Global, call: &Call<'_>, out: &mut String) -> Result<(), Fault> {
-    call.takes(1)?;
-    write_made_bits(out, Bitmap::new_zeroed(alloc, call.integer(0)?))
+    write_made_bits(out, Bitmap::new_zeroed(alloc, call.integer_of(1, 0)?))
 }
 
 // So many bits that are equal to a truth value.
@@ -92,8 +91,7 @@ pub(crate) fn of_bitmap_at(
     call: &Call<'_>,
     out: &mut String,
 ) -> Result<(), Fault> {
-    call.takes(2)?;
-    let i = call.integer(1)?;
+    let i = call.integer_of(2, 1)?;
     let bits = call.bits(alloc, 0)?;
     match method {
         OfBitmapAt::GetBit if i < bits.len() => show(out, bits.get_bit(i)),
@@ -118,8 +116,7 @@ pub(crate) fn of_bitmap_part(
     call: &Call<'_>,
     out: &mut String,
 ) -> Result<(), Fault> {
-    call.takes(3)?;
-    let (start, len) = call.range(1)?;
+    let (start, len) = call.range_of(3, 1)?;
     let bits = call.bits(alloc, 0)?;
     match method {
         OfBitmapPart::RunAt => run_at(&bits, start, len, out),
@@ -232,8 +229,7 @@ fn write_of_bitmaps(
 
 // Whether parts of two bitmaps are equal.
 pub(crate) fn equal_range(alloc: Global, call: &Call<'_>, out: &mut String) -> Result<(), Fault> {
-    call.takes(5)?;
-    let start = call.integer(1)?;
+    let start = call.integer_of(5, 1)?;
     let (other_start, len) = call.range(3)?;
     let left = call.bits(alloc, 0)?;
     let right = call.bits(alloc, 2)?;

@@ -69,8 +69,7 @@ fn from_vec(alloc: Global, values: &Buffer<i32>, out: &mut String) -> Result<(),
 
 // A part of a buffer, which is kept of it.
 pub(crate) fn slice(alloc: Global, call: &Call<'_>, out: &mut String) -> Result<(), Fault> {
-    call.takes(3)?;
-    let (offset, len) = call.range(1)?;
+    let (offset, len) = call.range_of(3, 1)?;
     let mut values = read_values(alloc, call)?;
     check_within(offset, len, values.len())?;
     values.slice(offset, len);
@@ -79,8 +78,7 @@ pub(crate) fn slice(alloc: Global, call: &Call<'_>, out: &mut String) -> Result<
 
 // A part of a buffer, which is made of it.
 pub(crate) fn sliced(alloc: Global, call: &Call<'_>, out: &mut String) -> Result<(), Fault> {
-    call.takes(3)?;
-    let (offset, len) = call.range(1)?;
+    let (offset, len) = call.range_of(3, 1)?;
     let values = read_values(alloc, call)?;
     check_within(offset, len, values.len())?;
     write_values(out, &values.sliced(offset, len))
@@ -100,8 +98,7 @@ fn write_values(out: &mut String, values: &Buffer<i32>) -> Result<(), Fault> {
 
 // Bytes behind others, with room for a block of them.
 pub(crate) fn append_span(alloc: Global, call: &Call<'_>, out: &mut String) -> Result<(), Fault> {
-    call.takes(4)?;
-    let (start, end) = call.range(2)?;
+    let (start, end) = call.range_of(4, 2)?;
     let mut bytes = read_bytes(alloc, call.argument(0)?)?;
     let from = read_bytes(alloc, call.argument(1)?)?;
     append(&mut bytes, &from, start, end, out)

@@ -16,12 +16,6 @@ use arrow_types::types::Offset;
 use std::alloc::Global;
 use std::fmt::Display;
 
-// Arguments 1 and 2 of a step that has no more, where a part begins and how long it is.
-fn range(step: &Call<'_>) -> Result<(usize, usize), Fault> {
-    step.takes(3)?;
-    step.range(1)
-}
-
 // Appends a value and a space, if the step takes no argument.
 fn show_alone<T: Display + Drop>(out: &mut String, step: &Call<'_>, value: T) -> Result<(), Fault> {
     step.takes(0)?;
@@ -75,15 +69,9 @@ fn new_bits(alloc: Global, piece: Piece<'_>) -> Result<MutableBitmap, Fault> {
             step.takes(0)?;
             Ok(MutableBitmap::new(alloc))
         }
-        "with_capacity" => Ok(MutableBitmap::with_capacity(alloc, only(&step)?)?),
+        "with_capacity" => Ok(MutableBitmap::with_capacity(alloc, step.integer_of(1, 0)?)?),
         _ => Err(Fault::Usage),
     }
-}
-
-// The only argument of a step, a number.
-fn only(step: &Call<'_>) -> Result<usize, Fault> {
-    step.takes(1)?;
-    step.integer(0)
 }
 
 // The steps on bits, one after the other.
@@ -140,8 +128,7 @@ fn push_bit(bits: &mut MutableBitmap, step: &Call<'_>, out: &mut String) -> Resu
 
 // Appends a bit so often.
 fn push_often(bits: &mut MutableBitmap, step: &Call<'_>, out: &mut String) -> Result<(), Fault> {
-    step.takes(2)?;
-    let additional = step.integer(0)?;
+    let additional = step.integer_of(2, 0)?;
     let bit = step.argument(1)?.truth()?;
     write_refusal(out, bits.extend_constant(additional, bit))
 }
@@ -153,7 +140,7 @@ fn extend_from_bitmap(
     step: &Call<'_>,
     out: &mut String,
 ) -> Result<(), Fault> {
-    let (start, len) = range(step)?;
+    let (start, len) = step.range_of(3, 1)?;
     let source = read_bits(alloc, step.argument(0)?)?;
     check_within(start, len, source.len())?;
     write_refusal(out, bits.extend_from_bitmap(&source, start, len))
@@ -161,8 +148,7 @@ fn extend_from_bitmap(
 
 // Appends the lowest bits of a word.
 fn push_word(bits: &mut MutableBitmap, step: &Call<'_>, out: &mut String) -> Result<(), Fault> {
-    step.takes(2)?;
-    let word = step.integer(0)?;
+    let word = step.integer_of(2, 0)?;
     let len = step.integer(1)?;
     check_within(len, 0, 64)?;
     write_refusal(out, bits.push_word(word, len))
@@ -207,7 +193,7 @@ pub(crate) fn offsets<O: Offset + Integer>(
 // The offset 0 alone: `with_capacity(8)`.
 fn new_offsets<O: Offset>(alloc: Global, piece: Piece<'_>) -> Result<Offsets<O>, Fault> {
     let step = piece.step(alloc)?;
-    let capacity = only(&step)?;
+    let capacity = step.integer_of(1, 0)?;
     match step.name {
         "with_capacity" => Ok(Offsets::with_capacity(alloc, capacity)?),
         _ => Err(Fault::Usage),
@@ -265,7 +251,7 @@ fn extend_constant<O: Offset>(
     step: &Call<'_>,
     out: &mut String,
 ) -> Result<(), Fault> {
-    let additional = only(step)?;
+    let additional = step.integer_of(1, 0)?;
     write_refusal(out, offsets.extend_constant(additional))
 }
 
@@ -275,7 +261,7 @@ fn try_push<O: Offset>(
     step: &Call<'_>,
     out: &mut String,
 ) -> Result<(), Fault> {
-    let length = only(step)?;
+    let length = step.integer_of(1, 0)?;
     write_refusal(out, offsets.try_push_usize(length))
 }
 
@@ -286,7 +272,7 @@ fn extend_from_slice<O: Offset + Integer>(
     step: &Call<'_>,
     out: &mut String,
 ) -> Result<(), Fault> {
-    let (start, len) = range(step)?;
+    let (start, len) = step.range_of(3, 1)?;
     let other = read::<O>(alloc, step.argument(0)?)?;
     check_within(start, len, other.len() - 1)?;
     write_refusal(out, offsets.try_extend_from_slice(&other, start, len))
@@ -299,8 +285,7 @@ fn extend_from_valid<O: Offset + Integer>(
     step: &Call<'_>,
     out: &mut String,
 ) -> Result<(), Fault> {
-    step.takes(3)?;
-    let start = step.integer(1)?;
+    let start = step.integer_of(3, 1)?;
     let other = read::<O>(alloc, step.argument(0)?)?;
     let validity = read_bits(alloc, step.argument(2)?)?;
     check_within(start, 0, validity.len())?;

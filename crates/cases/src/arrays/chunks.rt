@@ -1,11 +1,10 @@
 //! Calls of columns of one length.
 
-use arrow_arrays::array::AnyArray;
 use arrow_arrays::chunk::Chunk;
 use arrow_text::call::Call;
 use arrow_text::fault::Fault;
 use arrow_text::given::Arrays;
-use arrow_text::write::{show, write_array};
+use arrow_text::write::{show, write_array, write_arrays};
 use std::alloc::Global;
 
 // The arguments as the columns of a chunk.
@@ -34,18 +33,4 @@ pub(crate) fn into_arrays(alloc: Global, call: &Call<'_>, out: &mut String) -> R
     let arrays = made(alloc, call)?.into_arrays();
     let arrays = Arrays { arrays };
     write_arrays(out, &arrays.arrays)
-}
-
-// Appends arrays, parted by spaces; `none` where there is none.
-fn write_arrays(out: &mut String, arrays: &[AnyArray]) -> Result<(), Fault> {
-    if arrays.is_empty() {
-        return Ok(out.push_str("none")?);
-    }
-    for (i, array) in arrays.iter().enumerate() {
-        if i > 0 {
-            out.push(' ')?;
-        }
-        write_array(out, array)?;
-    }
-    Ok(())
 }

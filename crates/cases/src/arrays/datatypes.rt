@@ -24,7 +24,7 @@ pub(crate) fn of_type(
     out: &mut String,
 ) -> Result<(), Fault> {
     call.takes(1)?;
-    let data_type = boxed(alloc, call, 0)?;
+    let data_type = call.boxed_type(alloc, 0)?;
     write_of_type(method, &*data_type, out)
 }
 
@@ -47,12 +47,7 @@ fn clone(data_type: &DataType, out: &mut String) -> Result<(), Fault> {
 // Whether two data types are equal.
 pub(crate) fn eq(alloc: Global, call: &Call<'_>, out: &mut String) -> Result<(), Fault> {
     call.takes(2)?;
-    let left = boxed(alloc, call, 0)?;
-    let right = boxed(alloc, call, 1)?;
+    let left = call.boxed_type(alloc, 0)?;
+    let right = call.boxed_type(alloc, 1)?;
     show(out, *left == *right)
-}
-
-// Argument `i`, a data type in a box.
-fn boxed(alloc: Global, call: &Call<'_>, i: usize) -> Result<Box<DataType>, Fault> {
-    Ok(Box::new(alloc, call.data_type(alloc, i)?)?)
 }

@@ -116,8 +116,7 @@ fn start_end<O: Offset + Integer>(
     call: &Call<'_>,
     out: &mut String,
 ) -> Result<(), Fault> {
-    call.takes(2)?;
-    let i = call.integer(1)?;
+    let i = call.integer_of(2, 1)?;
     let offsets = read::<O>(alloc, call.argument(0)?)?;
     check_within(i, 2, offsets.len())?;
     let (start, end) = offsets.start_end(i);
@@ -130,8 +129,7 @@ fn range<O: Offset + Integer>(
     call: &Call<'_>,
     out: &mut String,
 ) -> Result<(), Fault> {
-    call.takes(3)?;
-    let (start, len) = call.range(1)?;
+    let (start, len) = call.range_of(3, 1)?;
     let offsets = read::<O>(alloc, call.argument(0)?)?;
     check_within(start, len, offsets.len() - 1)?;
     let (start, end) = offsets.range(start, len);
@@ -144,8 +142,7 @@ fn slice<O: Offset + Integer>(
     call: &Call<'_>,
     out: &mut String,
 ) -> Result<(), Fault> {
-    call.takes(3)?;
-    let (offset, len) = call.range(1)?;
+    let (offset, len) = call.range_of(3, 1)?;
     if len == 0 {
         return Err(Fault::Usage);
     }

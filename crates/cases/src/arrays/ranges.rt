@@ -21,8 +21,7 @@ struct Ranges {
 
 // Whether rows of two flat arrays are the same.
 pub(crate) fn equal_range(alloc: Global, call: &Call<'_>, out: &mut String) -> Result<(), Fault> {
-    call.takes(5)?;
-    let start = call.integer(1)?;
+    let start = call.integer_of(5, 1)?;
     let (other_start, len) = call.range(3)?;
     let ranges = Ranges {
         start,

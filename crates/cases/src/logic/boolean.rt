@@ -83,7 +83,7 @@ fn connect(
     call: &Call<'_>,
     out: &mut String,
 ) -> Result<(), Fault> {
-    let pair = call.pair(alloc)?;
+    let pair = call.pair(alloc, 0)?;
     let (AnyArray::Boolean(lhs), AnyArray::Boolean(rhs)) = (&*pair.left, &*pair.right) else {
         return Err(Fault::Usage);
     };
@@ -106,8 +106,7 @@ fn connect_scalar(
     call: &Call<'_>,
     out: &mut String,
 ) -> Result<(), Fault> {
-    call.takes(2)?;
-    let (left, right) = (call.array(alloc, 0)?, call.scalar(alloc, 1)?);
+    let (left, right) = call.array_and_scalar(alloc, 0)?;
     let (AnyArray::Boolean(lhs), AnyScalar::Boolean(rhs)) = (&*left.array, &*right.scalar) else {
         return Err(Fault::Usage);
     };

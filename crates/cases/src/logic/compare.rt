@@ -131,10 +131,8 @@ fn answer_arrays(
     call: &Call<'_>,
     out: &mut String,
 ) -> Result<(), Fault> {
-    call.takes(first.saturating_add(2))?;
-    let left = call.array(alloc, first)?;
-    let right = call.array(alloc, first.saturating_add(1))?;
-    match (kind, &*left.array, &*right.array) {
+    let pair = call.pair(alloc, first)?;
+    match (kind, &*pair.left, &*pair.right) {
         (Kind::Any, lhs, rhs) => any::relate(alloc, asked, lhs, rhs, out),
         (Kind::Boolean, AnyArray::Boolean(lhs), AnyArray::Boolean(rhs)) => {
             typed::of_truths(alloc, asked, lhs, rhs, out)
@@ -168,9 +166,7 @@ fn answer_scalar(
     call: &Call<'_>,
     out: &mut String,
 ) -> Result<(), Fault> {
-    call.takes(first.saturating_add(2))?;
-    let left = call.array(alloc, first)?;
-    let right = call.scalar(alloc, first.saturating_add(1))?;
+    let (left, right) = call.array_and_scalar(alloc, first)?;
     match (kind, &*left.array, &*right.scalar) {
         (Kind::Any, lhs, rhs) => any::relate_scalar(alloc, asked, lhs, rhs, out),
         (Kind::Boolean, AnyArray::Boolean(lhs), AnyScalar::Boolean(rhs)) => {

@@ -1,6 +1,5 @@
 //! Rows that become null where they equal others.
 
-use crate::logic::types::boxed_type;
 use arrow_arrays::array::AnyArray;
 use arrow_flat::array::{AnyElement, AnyPrimitive, PrimitiveArray};
 use arrow_flat::scalar::{AnyPrimitiveScalar, AnyScalar, PrimitiveScalar};
@@ -13,14 +12,14 @@ use std::alloc::Global;
 // Appends whether `nullif` is offered for two data types.
 pub(crate) fn can_nullif(alloc: Global, call: &Call<'_>, out: &mut String) -> Result<(), Fault> {
     call.takes(2)?;
-    let (lhs, rhs) = (boxed_type(alloc, call, 0)?, boxed_type(alloc, call, 1)?);
+    let (lhs, rhs) = (call.boxed_type(alloc, 0)?, call.boxed_type(alloc, 1)?);
     show(out, nullif::can_nullif(&lhs, &rhs))
 }
 
 // Appends the rows of an array, null also where they equal those of another, by the call for any type or for one element
 // type. `Usage` unless both have as many rows, and are of one type that the first is offered for.
 pub(crate) fn nullif(alloc: Global, call: &Call<'_>, out: &mut String) -> Result<(), Fault> {
-    let pair = call.pair(alloc)?;
+    let pair = call.pair(alloc, 0)?;
     let (lhs, rhs) = (&*pair.left, &*pair.right);
     if call.name == "nullif::primitive_nullif" {
         return write_elements(alloc, lhs, rhs, out);
@@ -34,8 +33,7 @@ pub(crate) fn nullif(alloc: Global, call: &Call<'_>, out: &mut String) -> Result
 // Appends the rows of an array, null also where they equal a scalar. `Usage` where it is null, and unless both are of one
 // type that the call for any type is offered for.
 pub(crate) fn nullif_scalar(alloc: Global, call: &Call<'_>, out: &mut String) -> Result<(), Fault> {
-    call.takes(2)?;
-    let (left, right) = (call.array(alloc, 0)?, call.scalar(alloc, 1)?);
+    let (left, right) = call.array_and_scalar(alloc, 0)?;
     let (lhs, rhs) = (&*left.array, &*right.scalar);
     if call.name == "nullif::primitive_nullif_scalar" {
         return write_elements_of_scalar(alloc, lhs, rhs, out);

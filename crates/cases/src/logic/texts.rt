@@ -15,8 +15,7 @@ pub(crate) fn length(alloc: Global, call: &Call<'_>, out: &mut String) -> Result
 
 // Appends a part of each row.
 pub(crate) fn substring(alloc: Global, call: &Call<'_>, out: &mut String) -> Result<(), Fault> {
-    call.takes(3)?;
-    let start = call.integer(1)?;
+    let start = call.integer_of(3, 1)?;
     let length = length_of(call.argument(2)?)?;
     let array = call.array(alloc, 0)?;
     write_made(

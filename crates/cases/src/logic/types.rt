@@ -34,12 +34,7 @@ pub(crate) fn answer(alloc: Global, call: &Call<'_>, out: &mut String) -> Result
         return Ok(false);
     };
     call.takes(1)?;
-    let data_type = boxed_type(alloc, call, 0)?;
+    let data_type = call.boxed_type(alloc, 0)?;
     show(out, is_asked(&data_type))?;
     Ok(true)
-}
-
-// Argument `i`, a data type.
-pub(crate) fn boxed_type(alloc: Global, call: &Call<'_>, i: usize) -> Result<Box<DataType>, Fault> {
-    Ok(Box::new(alloc, call.data_type(alloc, i)?)?)
 }

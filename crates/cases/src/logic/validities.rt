@@ -47,7 +47,7 @@ pub(crate) fn check_same_len(
     call: &Call<'_>,
     out: &mut String,
 ) -> Result<(), Fault> {
-    let pair = call.pair(alloc)?;
+    let pair = call.pair(alloc, 0)?;
     utils::check_same_len(&pair.left, &pair.right)?;
     show(out, "ok")
 }

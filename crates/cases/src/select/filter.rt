@@ -4,7 +4,6 @@ ghost use Rattle.std.specs.Prelude.{IsTrue};
 ghost use Rattle.arrow_arrays.specs.StructParts.{HaveRows};
 
 use crate::select::lists::{as_any, as_boolean, as_primitive};
-use arrow_arrays::array::AnyArray;
 use arrow_arrays::chunk::Chunk;
 use arrow_flat::array::{AnyElement, AnyPrimitive, PrimitiveArray};
 use arrow_memory::buffer::Buffer;
@@ -14,12 +13,12 @@ use arrow_text::fault::Fault;
 use arrow_text::given::Array;
 use arrow_text::piece::Piece;
 use arrow_text::read::read_array;
-use arrow_text::write::{show, write_array, write_made, write_made_or_name, write_name};
+use arrow_text::write::{show, write_arrays, write_made, write_made_or_name, write_name};
 use std::alloc::Global;
 
 // The rows of an array at which a predicate is true.
 pub(crate) fn answer_filter(alloc: Global, call: &Call<'_>, out: &mut String) -> Result<(), Fault> {
-    let given = call.pair(alloc)?;
+    let given = call.pair(alloc, 0)?;
     let predicate = as_boolean(&given.right)?;
     if given.left.len() != predicate.len() {
         return Err(Fault::Usage);
@@ -44,20 +43,6 @@ fn have_rows(columns: &Chunk, len: usize) -> bool
     ensures { IsTrue result → HaveRows len columns.now }
 {
     columns.arrays().is_empty() || columns.len() == len
-}
-
-// Appends the arrays with a space between two, and `none` where there is no array.
-fn write_arrays(out: &mut String, arrays: &[AnyArray]) -> Result<(), Fault> {
-    if arrays.is_empty() {
-        return Ok(out.push_str("none")?);
-    }
-    for (place, array) in arrays.iter().enumerate() {
-        if place > 0 {
-            out.push(' ')?;
-        }
-        write_array(out, array)?;
-    }
-    Ok(())
 }
 
 // A prepared filter: how many rows it keeps and of how many, and of each array the rows that it keeps, or why it refuses.
@@ -92,8 +77,7 @@ pub(crate) fn read_filter(alloc: Global, piece: Piece<'_>) -> Result<Filter, Fau
 // The values of an array behind which those of another stand whose bit in a word is set; where that is refused, its name, and the
 // values that are there then.
 pub(crate) fn answer_word(alloc: Global, call: &Call<'_>, out: &mut String) -> Result<(), Fault> {
-    call.takes(3)?;
-    let word = call.integer(2)?;
+    let word = call.integer_of(3, 2)?;
     let grown = call.array(alloc, 0)?;
     let values = call.array(alloc, 1)?;
     let values = as_primitive(&values.array)?;

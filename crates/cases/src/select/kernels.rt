@@ -25,8 +25,7 @@ pub(crate) fn answer_join(alloc: Global, call: &Call<'_>, out: &mut String) -> R
 
 // Rows that are moved along an array.
 pub(crate) fn answer_shift(alloc: Global, call: &Call<'_>, out: &mut String) -> Result<(), Fault> {
-    call.takes(2)?;
-    let offset = call.integer(1)?;
+    let offset = call.integer_of(2, 1)?;
     let given = call.array(alloc, 0)?;
     write_made(out, shift(alloc, &given.array, offset))
 }

@@ -34,7 +34,7 @@ pub(crate) fn answer_can_take(
 // The rows of an array that indices name, integers of any of eight types: by the call for arrays of any kind or by that
 // for those of one.
 pub(crate) fn answer(alloc: Global, call: &Call<'_>, out: &mut String) -> Result<(), Fault> {
-    let given = call.pair(alloc)?;
+    let given = call.pair(alloc, 0)?;
     let (name, array) = (call.name, &*given.left);
     match as_primitive(&given.right)? {
         AnyPrimitive::Int8(indices) => take_rows(alloc, name, array, indices, out),

@@ -24,9 +24,6 @@ decreases-list_of l = 5 * l.depth + 2
 abbrev pub decreases-fixed_list_of : goal.decreases-fixed_list_of
 decreases-fixed_list_of l = 5 * l.depth + 2
 
-abbrev pub decreases-struct_of : goal.decreases-struct_of
-decreases-struct_of l = 5 * l.depth + 3
-
 abbrev pub decreases-union_of : goal.decreases-union_of
 decreases-union_of l = 5 * l.depth + 3
 
