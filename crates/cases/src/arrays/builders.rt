@@ -5,7 +5,6 @@ use crate::arrays::offsets::{read, write_offsets};
 use crate::arrays::within::check_within;
 use arrow_memory::bitmap::MutableBitmap;
 use arrow_memory::offset::Offsets;
-use arrow_text::bits::read_bits;
 use arrow_text::call::Call;
 use arrow_text::fault::Fault;
 use arrow_text::number::Integer;
@@ -141,7 +140,7 @@ fn extend_from_bitmap(
     out: &mut String,
 ) -> Result<(), Fault> {
     let (start, len) = step.range_of(3, 1)?;
-    let source = read_bits(alloc, step.argument(0)?)?;
+    let source = step.bits(alloc, 0)?;
     check_within(start, len, source.len())?;
     write_refusal(out, bits.extend_from_bitmap(&source, start, len))
 }
@@ -273,7 +272,7 @@ fn extend_from_slice<O: Offset + Integer>(
     out: &mut String,
 ) -> Result<(), Fault> {
     let (start, len) = step.range_of(3, 1)?;
-    let other = read::<O>(alloc, step.argument(0)?)?;
+    let other = read::<O>(alloc, step)?;
     check_within(start, len, other.len() - 1)?;
     write_refusal(out, offsets.try_extend_from_slice(&other, start, len))
 }
@@ -286,8 +285,8 @@ fn extend_from_valid<O: Offset + Integer>(
     out: &mut String,
 ) -> Result<(), Fault> {
     let start = step.integer_of(3, 1)?;
-    let other = read::<O>(alloc, step.argument(0)?)?;
-    let validity = read_bits(alloc, step.argument(2)?)?;
+    let other = read::<O>(alloc, step)?;
+    let validity = step.bits(alloc, 2)?;
     check_within(start, 0, validity.len())?;
     let len = validity.len() - start;
     check_within(start, len, other.len() - 1)?;

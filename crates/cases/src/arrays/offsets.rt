@@ -6,7 +6,6 @@ use arrow_text::call::Call;
 use arrow_text::fault::Fault;
 use arrow_text::number::Integer;
 use arrow_text::parts::read_offsets;
-use arrow_text::piece::Piece;
 use arrow_text::write::show;
 use arrow_types::types::Offset;
 use std::alloc::Global;
@@ -61,7 +60,7 @@ fn of_one<O: Offset + Integer>(
     out: &mut String,
 ) -> Result<(), Fault> {
     call.takes(1)?;
-    let offsets = read::<O>(alloc, call.argument(0)?)?;
+    let offsets = read::<O>(alloc, call)?;
     match method {
         Method::Clone => write_copy(out, &offsets),
         Method::Last => show(out, offsets.last().to_usize()),
@@ -70,11 +69,12 @@ fn of_one<O: Offset + Integer>(
     }
 }
 
-// Offsets as they stand on a line: `offsets32[0,2,3]`.
+// Argument 0, offsets as they stand on a line: `offsets32[0,2,3]`.
 pub(crate) fn read<O: Offset + Integer>(
     alloc: Global,
-    piece: Piece<'_>,
+    call: &Call<'_>,
 ) -> Result<OffsetsBuffer<O>, Fault> {
+    let piece = call.argument(0)?;
     let numbers = read_offsets::<O>(alloc, piece.between(opening::<O>(), "]")?)?;
     Ok(OffsetsBuffer::try_from(alloc, numbers)?)
 }
@@ -117,7 +117,7 @@ fn start_end<O: Offset + Integer>(
     out: &mut String,
 ) -> Result<(), Fault> {
     let i = call.integer_of(2, 1)?;
-    let offsets = read::<O>(alloc, call.argument(0)?)?;
+    let offsets = read::<O>(alloc, call)?;
     check_within(i, 2, offsets.len())?;
     let (start, end) = offsets.start_end(i);
     show_both(out, start, end)
@@ -130,7 +130,7 @@ fn range<O: Offset + Integer>(
     out: &mut String,
 ) -> Result<(), Fault> {
     let (start, len) = call.range_of(3, 1)?;
-    let offsets = read::<O>(alloc, call.argument(0)?)?;
+    let offsets = read::<O>(alloc, call)?;
     check_within(start, len, offsets.len() - 1)?;
     let (start, end) = offsets.range(start, len);
     show_both(out, start, end)
@@ -146,7 +146,7 @@ fn slice<O: Offset + Integer>(
     if len == 0 {
         return Err(Fault::Usage);
     }
-    let mut offsets = read::<O>(alloc, call.argument(0)?)?;
+    let mut offsets = read::<O>(alloc, call)?;
     check_within(offset, len, offsets.len())?;
     offsets.slice(offset, len);
     write_offsets(out, &offsets)

@@ -12,7 +12,8 @@ use arrow_text::fault::Fault;
 use arrow_text::write::{show, write_made_or_name, write_name};
 use arrow_types::error::Error;
 
-// Takes the steps over a growable of these arrays, and appends what each answers, with a space before it.
+// Takes the steps over a growable of these arrays, and appends what each answers, with a space before it and before the array
+// that it becomes at the end.
 pub(super) fn run_actions<'a, G: Growable<'a>>(
     growable: &mut G,
     arrays: &[&AnyArray],
@@ -24,6 +25,9 @@ pub(super) fn run_actions<'a, G: Growable<'a>>(
     for action in &plan.actions {
         out.push(' ')?;
         run_action(growable, arrays, action, out)?;
+    }
+    if plan.is_consumed {
+        out.push(' ')?;
     }
     Ok(())
 }

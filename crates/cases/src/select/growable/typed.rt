@@ -149,7 +149,6 @@ fn run_null(alloc: Global, arrays: &[&AnyArray], plan: &Plan, out: &mut String) 
     if !plan.is_consumed {
         return Ok(());
     }
-    out.push(' ')?;
     match growable.into_array() {
         Ok(array) => write_made_or_name(out, Ok(AnyArray::Null(array))),
         Err(error) => write_name(out, error),
@@ -183,7 +182,6 @@ fn run_flat<'a, G: GrowableValues + 'a>(
     if !plan.is_consumed {
         return Ok(());
     }
-    out.push(' ')?;
     match growable.into_array() {
         Ok(array) => write_made_or_name(out, G::into_any(array)),
         Err(error) => write_name(out, error),
@@ -217,7 +215,6 @@ fn run_nested<'a, A: Nested + 'a>(
     if !plan.is_consumed {
         return Ok(());
     }
-    out.push(' ')?;
     match growable.into_array() {
         Ok(array) => write_made_or_name(out, Ok(array.into_any())),
         Err(error) => write_name(out, error),
@@ -241,7 +238,6 @@ fn run_dictionaries(
     if !plan.is_consumed {
         return Ok(());
     }
-    out.push(' ')?;
     match growable.into_array() {
         Ok(array) => write_made_or_name(out, Ok(AnyArray::Dictionary(array))),
         Err(error) => write_name(out, error),
@@ -294,7 +290,6 @@ fn run_unions(
     if !plan.is_consumed {
         return Ok(());
     }
-    out.push(' ')?;
     match growable.into_array() {
         Ok(array) => write_made_or_name(out, Ok(AnyArray::Union(array))),
         Err(error) => write_name(out, error),
