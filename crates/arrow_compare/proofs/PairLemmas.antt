@@ -8,7 +8,7 @@ use Rattle.arrow_types.specs.Logic.{negated}
 use Rattle.arrow_types.specs.Relation.{Relation, eq, neq, lt, lt_eq, gt, gt_eq, is_null, nulled, related, through}
 use Rattle.arrow_types.specs.Rows.{choice, chosen}
 use Rattle.arrow_types.specs.Slot.{Slot, Null, Boolean}
-use Rattle.arrow_logic.specs.RowByRow.{row_by_row}
+use Rattle.arrow_flat.specs.RowByRow.{row_by_row}
 use Rattle.arrow_relate.specs.Same.{differs, is_same}
 use Rattle.arrow_relate.proofs.NullLemmas.{null_right}
 use Rattle.arrow_relate.proofs.RowLemmas.{map-row_by_row}

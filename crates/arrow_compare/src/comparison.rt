@@ -12,7 +12,7 @@ ghost use Rattle.arrow_types.specs.Relation as relation;
 ghost use Rattle.arrow_flat.specs.AnyScalar.{meaning_of};
 ghost use Rattle.arrow_flat.specs.Parts.{boolean_rows};
 ghost use Rattle.arrow_arrays.specs.Any.{any_array_rows, any_array_type};
-ghost use Rattle.arrow_logic.specs.RowByRow.{row_by_row};
+ghost use Rattle.arrow_flat.specs.RowByRow.{row_by_row};
 ghost use Rattle.arrow_relate.specs.Same.{differs, is_same};
 ghost use Rattle.arrow_compare.specs.Compared.{HasEquality, HasEqualityThrough, HasOrder, HasOrderThrough};
 

@@ -11,5 +11,6 @@ pub mod NullParts
 pub mod Parts
 pub mod PieceLaws
 pub mod Pieces
+pub mod RowByRow
 pub mod ScalarFalls
 pub mod Scalars

@@ -10,7 +10,7 @@ use Rattle.arrow_memory.specs.Bits.{both_bits, by_fours, either_bits, first_bits
 use Rattle.arrow_flat.specs.Parts.{FitsRows}
 use Rattle.arrow_flat.proofs.PartsLemmas.{length-masked}
 use Rattle.arrow_logic.specs.Connective.{bits_by, slot_by, kleene_by, decides, known_bit, known_side}
-use Rattle.arrow_logic.specs.RowByRow.{row_by_row}
+use Rattle.arrow_flat.specs.RowByRow.{row_by_row}
 use Rattle.arrow_logic.specs.Validities.{combined}
 use Rattle.arrow_logic.specs.declared.connective.Connective.{Connective}
 use Rattle.arrow_logic.specs.declared.connective.Connective.TheVariants.{And, Or}

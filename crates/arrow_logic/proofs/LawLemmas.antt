@@ -12,7 +12,7 @@ use Rattle.arrow_types.specs.Part.{at_most, cut, part}
 use Rattle.arrow_types.specs.Rows.{masked}
 use Rattle.arrow_types.specs.Slot.{Slot, Boolean, Bytes, Text}
 use Rattle.arrow_logic.specs.Laws.{length_within}
-use Rattle.arrow_logic.specs.RowByRow.{row_by_row}
+use Rattle.arrow_flat.specs.RowByRow.{row_by_row}
 use Rattle.arrow_logic.proofs.ScalarLemmas.{turned_rows}
 
 -- ---- lists, by what holds of each pair

@@ -1,5 +1,6 @@
 pub mod AnswerLemmas
 pub mod AsciiLemmas
+pub mod BatchLemmas
 pub mod ConnectiveLemmas
 pub mod KeptLemmas
 pub mod LawLemmas

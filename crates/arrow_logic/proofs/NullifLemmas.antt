@@ -7,7 +7,7 @@ use Rattle.arrow_types.specs.Rows.{mask, masked}
 use Rattle.arrow_types.specs.Slot.{Slot, Boolean, Null}
 use Rattle.arrow_flat.specs.Parts.{FitsRows, IsValue}
 use Rattle.arrow_logic.specs.Nullif.{valid_but, within_valid}
-use Rattle.arrow_logic.specs.RowByRow.{row_by_row}
+use Rattle.arrow_flat.specs.RowByRow.{row_by_row}
 use Rattle.arrow_logic.proofs.SameLemmas.{same_slots, slot_is_value}
 
 -- ---- one row

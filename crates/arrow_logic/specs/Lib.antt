@@ -8,7 +8,6 @@ pub mod Laws
 pub mod Length
 pub mod LengthExamples
 pub mod Nullif
-pub mod RowByRow
 pub mod Substring
 pub mod SubstringExamples
 pub mod SubstringLaws

@@ -12,7 +12,7 @@ ghost use Rattle.arrow_flat.specs.Parts.{boolean_rows};
 ghost use Rattle.arrow_flat.specs.Scalars.{slot_by as scalar_slot};
 ghost use Rattle.arrow_arrays.specs.Any.{any_array_rows, kind_of, null_kind};
 ghost use Rattle.arrow_logic.specs.Connective.{slot_by};
-ghost use Rattle.arrow_logic.specs.RowByRow.{row_by_row};
+ghost use Rattle.arrow_flat.specs.RowByRow.{row_by_row};
 
 use crate::connective::Connective;
 use crate::truths::truths;

@@ -8,7 +8,7 @@ ghost use Rattle.arrow_types.specs.Slot.{Boolean};
 ghost use Rattle.arrow_flat.specs.Parts.{boolean_rows, FitsRows};
 ghost use Rattle.arrow_flat.specs.Scalars.{slot_by as scalar_slot};
 ghost use Rattle.arrow_logic.specs.Connective.{decides, kleene_by, known_side};
-ghost use Rattle.arrow_logic.specs.RowByRow.{row_by_row};
+ghost use Rattle.arrow_flat.specs.RowByRow.{row_by_row};
 ghost use Rattle.arrow_logic.specs.Validities.{combined};
 
 use crate::boolean;

@@ -10,10 +10,10 @@ ghost use Rattle.arrow_types.specs.Slot.{Boolean, Bytes, Slot, Text};
 ghost use Rattle.arrow_types.specs.TypeOf.{type_of};
 ghost use Rattle.arrow_flat.specs.Parts.{boolean_rows, rows_by};
 ghost use Rattle.arrow_arrays.specs.Any.{any_array_rows};
-ghost use Rattle.arrow_logic.specs.Laws.{AreTexts, AreTextsOrBytes, GiveAlike, MeetNullif, length_within};
+ghost use Rattle.arrow_logic.specs.Laws.{AreTexts, AreTextsOrBytes, GiveAlike, GiveByBatch, GiveEachByBatch, MeetNullif, length_within};
 ghost use Rattle.arrow_logic.specs.Length.{HasLength};
 ghost use Rattle.arrow_logic.specs.Nullif.{CanNullif};
-ghost use Rattle.arrow_logic.specs.RowByRow.{row_by_row};
+ghost use Rattle.arrow_flat.specs.RowByRow.{AreAlikeLong, row_by_row};
 ghost use Rattle.arrow_logic.specs.Substring.{HasParts};
 
 use arrow_arrays::array::AnyArray;
@@ -157,4 +157,21 @@ pub fn row_by_row_goes_by_rows<L: Rows, R: Rows>(lhs: &L, rhs: &R, other_lhs: &L
 pub fn each_row_goes_by_rows<A: Rows>(array: &A, other: &A)
     requires { A.rows other.now ≡ A.rows array.now }
     ensures { (give : Slot → Slot) → map give (A.rows other.now) ≡ map give (A.rows array.now) }
+{}
+
+/// A kernel that answers row by row of two arrays answers of batches that are concatenated what it answers of each pair of
+/// batches, concatenated. So batches can be spread over threads or machines. The kernels are those of
+/// [`row_by_row_goes_by_rows`].
+///
+/// # Requires
+/// There are as many batches on both sides, each as long as the other one of its pair.
+pub fn row_by_row_goes_by_batches<L: Rows, R: Rows>(lhs: &[&L], rhs: &[&R])
+    requires { AreAlikeLong (map (λ batch. L.rows batch.now) lhs.now) (map (λ batch. R.rows batch.now) rhs.now) }
+    ensures { GiveByBatch (map (λ batch. L.rows batch.now) lhs.now) (map (λ batch. R.rows batch.now) rhs.now) }
+{}
+
+/// A kernel that answers of each row of an array answers of batches that are concatenated what it answers of each batch,
+/// concatenated. The kernels are those of [`each_row_goes_by_rows`].
+pub fn each_row_goes_by_batches<A: Rows>(batches: &[&A])
+    ensures { GiveEachByBatch (map (λ batch. A.rows batch.now) batches.now) }
 {}

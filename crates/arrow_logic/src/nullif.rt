@@ -12,7 +12,7 @@ ghost use Rattle.arrow_flat.specs.Parts.{FitsRows, IsValue, rows_by, with_bits};
 ghost use Rattle.arrow_flat.specs.Scalars.{slot_by};
 ghost use Rattle.arrow_arrays.specs.Any.{any_array_rows, any_array_type};
 ghost use Rattle.arrow_logic.specs.Nullif.{CanNullif, IsFloat, IsPrimitive, valid_but, within_valid};
-ghost use Rattle.arrow_logic.specs.RowByRow.{row_by_row};
+ghost use Rattle.arrow_flat.specs.RowByRow.{row_by_row};
 
 mod equal;
 

@@ -6,7 +6,7 @@ use Rattle.std.proofs.lemmas.Option.{slice_get-map}
 use Rattle.arrow_types.specs.Slot.{Slot, Boolean}
 use Rattle.arrow_memory.proofs.OffsetLemmas.{as_seen, number_at}
 use Rattle.arrow_flat.specs.ByteRows.{ByteParts, AreByteRows}
-use Rattle.arrow_logic.specs.RowByRow.{row_by_row}
+use Rattle.arrow_flat.specs.RowByRow.{row_by_row}
 use Rattle.arrow_relate.specs.LentRows.{AreLentRows, lent_parts}
 use Rattle.arrow_relate.proofs.RowLemmas.{read-row_by_row}
 

@@ -14,7 +14,7 @@ use Rattle.arrow_types.specs.Rows.{masked, valid_at}
 use Rattle.arrow_types.specs.Slot.{Slot, Null, Boolean}
 use Rattle.arrow_flat.specs.Parts.{FitsRows, Parts, boolean_rows}
 use Rattle.arrow_flat.proofs.PartsLemmas.{length-masked, row_at}
-use Rattle.arrow_logic.specs.RowByRow.{row_by_row}
+use Rattle.arrow_flat.specs.RowByRow.{row_by_row}
 use Rattle.arrow_memory.proofs.LogicLemmas.{and_each, not_each, or_each}
 use Rattle.arrow_relate.specs.Finished.{finished}
 use Rattle.arrow_logic.proofs.PairLemmas.{get_or-row_by_row, length-row_by_row}

@@ -7,7 +7,7 @@ use Rattle.arrow_types.specs.Slot.{Slot, Null, Boolean}
 use Rattle.arrow_memory.specs.Bits.{both_bits}
 use Rattle.arrow_flat.specs.Parts.{FitsRows}
 use Rattle.arrow_flat.proofs.PartsLemmas.{length-masked}
-use Rattle.arrow_logic.specs.RowByRow.{row_by_row}
+use Rattle.arrow_flat.specs.RowByRow.{row_by_row}
 use Rattle.arrow_logic.specs.Validities.{combined}
 use Rattle.arrow_logic.proofs.MaskedLemmas.{fits_combined, map-masked}
 use Rattle.arrow_logic.proofs.PairLemmas.{length-row_by_row}

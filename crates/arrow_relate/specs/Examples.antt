@@ -5,7 +5,7 @@ use Rattle.arrow_types.specs.Relation.{related, eq, neq, lt, gt_eq}
 use Rattle.arrow_types.specs.Slot.{Null, Boolean, Number, DayTime, Text}
 use Rattle.arrow_memory.specs.Sliced.{sliced}
 use Rattle.arrow_memory.specs.Words.{word_of}
-use Rattle.arrow_logic.specs.RowByRow.{row_by_row}
+use Rattle.arrow_flat.specs.RowByRow.{row_by_row}
 use Rattle.arrow_relate.specs.Chunked.{chunk_of}
 use Rattle.arrow_relate.specs.Finished.{finished}
 

@@ -7,7 +7,7 @@ ghost use Rattle.arrow_types.specs.ArrowType.{boolean, plain};
 ghost use Rattle.arrow_types.specs.Relation.{related};
 ghost use Rattle.arrow_types.specs.Slot.{Slot, Boolean};
 ghost use Rattle.arrow_flat.specs.Parts.{boolean_rows, rows_by};
-ghost use Rattle.arrow_logic.specs.RowByRow.{row_by_row};
+ghost use Rattle.arrow_flat.specs.RowByRow.{row_by_row};
 
 use crate::comparison::finish;
 use crate::fixed::{FixedRelation, Sameness};

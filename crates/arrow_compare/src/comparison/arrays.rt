@@ -8,7 +8,7 @@ ghost use Rattle.arrow_types.specs.Relation.{related};
 ghost use Rattle.arrow_flat.specs.AnyPrimitive.{any_rows, element_of};
 ghost use Rattle.arrow_flat.specs.Parts.{boolean_rows, rows_by};
 ghost use Rattle.arrow_arrays.specs.Any.{any_array_rows, any_array_type, primitive_kind};
-ghost use Rattle.arrow_logic.specs.RowByRow.{row_by_row};
+ghost use Rattle.arrow_flat.specs.RowByRow.{row_by_row};
 ghost use Rattle.arrow_relate.specs.Related.{relation_of};
 ghost use Rattle.arrow_relate.specs.Same.{is_same};
 ghost use Rattle.arrow_compare.specs.Compared.{HasEquality, HasRelation};

@@ -8,7 +8,7 @@ ghost use Rattle.arrow_types.specs.Relation as relation;
 ghost use Rattle.arrow_relate.specs.Related.{relation_of};
 ghost use Rattle.arrow_types.specs.Slot.{Boolean};
 ghost use Rattle.arrow_flat.specs.Parts.{boolean_rows, rows_by};
-ghost use Rattle.arrow_logic.specs.RowByRow.{row_by_row};
+ghost use Rattle.arrow_flat.specs.RowByRow.{row_by_row};
 ghost use Rattle.arrow_relate.specs.Chunked.{AnswersChunks, TakesChunks};
 ghost use Rattle.arrow_relate.specs.Same.{is_same, differs};
 

@@ -3,7 +3,7 @@ use Rattle.std.proofs.lemmas.Result.{IfOk-weaker}
 use Rattle.arrow_types.specs.Rows.{mask}
 use Rattle.arrow_flat.specs.Parts.{rows_by}
 use Rattle.arrow_logic.specs.Nullif.{valid_but, within_valid}
-use Rattle.arrow_logic.specs.RowByRow.{row_by_row}
+use Rattle.arrow_flat.specs.RowByRow.{row_by_row}
 use Rattle.arrow_logic.proofs.NullifLemmas.{nulled_rows, nulls_equal}
 use Rattle.arrow_logic.proofs.nullif.primitive_nullif.Goals as goal
 

@@ -3,7 +3,7 @@ use Rattle.std.proofs.lemmas.List.{length-map}
 use Rattle.std.proofs.lemmas.Result.{IfOk-weaker}
 use Rattle.arrow_types.specs.Relation.{related}
 use Rattle.arrow_types.specs.Slot.{Boolean}
-use Rattle.arrow_logic.specs.RowByRow.{row_by_row}
+use Rattle.arrow_flat.specs.RowByRow.{row_by_row}
 use Rattle.arrow_relate.proofs.RowLemmas.{rows_of_pairs}
 use Rattle.arrow_relate.proofs.comparison.boolean.BitmapRelatedBy.related_bits.Goals as goal
 

@@ -2,7 +2,7 @@ use Rattle.std.proofs.Common.{◌≡◌, ◌∙◌, ap, arith, length, rules, sy
 use Rattle.std.proofs.lemmas.List.{length-map}
 use Rattle.arrow_types.specs.Relation.{related}
 use Rattle.arrow_flat.specs.ByteRows.{byte_slots, row_bytes}
-use Rattle.arrow_logic.specs.RowByRow.{row_by_row}
+use Rattle.arrow_flat.specs.RowByRow.{row_by_row}
 use Rattle.arrow_relate.proofs.WordLemmas.{answered_rows}
 use Rattle.arrow_logic.proofs.PairLemmas.{length-row_by_row}
 use Rattle.arrow_relate.proofs.comparison.bytes.ByteRowsRelatedBy.related_bits.Goals as goal

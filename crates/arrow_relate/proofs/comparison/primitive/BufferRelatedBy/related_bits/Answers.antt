@@ -3,7 +3,7 @@ use Rattle.std.specs.Prelude.{IfOk}
 use Rattle.std.proofs.lemmas.List.{length-map}
 use Rattle.arrow_types.specs.Relation.{related}
 use Rattle.arrow_types.specs.Slot.{Boolean}
-use Rattle.arrow_logic.specs.RowByRow.{row_by_row}
+use Rattle.arrow_flat.specs.RowByRow.{row_by_row}
 use Rattle.arrow_relate.proofs.RowLemmas.{read_related, related_rows}
 use Rattle.arrow_relate.proofs.comparison.primitive.BufferRelatedBy.related_bits.Goals as goal
 
