@@ -9,4 +9,5 @@ mod keys;
 pub mod laws;
 mod spans;
 pub mod take;
+mod validity;
 pub mod window;

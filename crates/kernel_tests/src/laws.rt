@@ -19,6 +19,7 @@ use arrow_select::concatenate::concatenate;
 use arrow_select::filter::{Filter, build_filter, filter, filter_chunk};
 use arrow_select::if_then_else::if_then_else;
 use arrow_select::laws as selected;
+use arrow_select::laws::batches;
 use arrow_select::take::take;
 use arrow_select::window::shift;
 use arrow_text::fault::Fault;
@@ -31,7 +32,7 @@ use arrow_types::laws::{equals_both_ways, equals_itself, equals_through};
 use std::alloc::Global;
 
 /// The laws, by a name for those that are called together.
-const ANSWERS: [(&str, Answer); 13] = [
+const ANSWERS: [(&str, Answer); 14] = [
     ("logic", logic),
     ("types", types),
     ("comparisons", comparisons),
@@ -43,6 +44,7 @@ const ANSWERS: [(&str, Answer); 13] = [
     ("take", taken),
     ("choice", chosen),
     ("chunk", of_columns),
+    ("batches", batched),
     ("equal", equality),
     ("different", equality),
 ];
@@ -317,6 +319,51 @@ fn of_columns(alloc: Global, _name: &str, arrays: &[AnyArray]) -> Result<bool, F
     Ok(true)
 }
 
+// The laws over batches, of two batches of one length, a predicate and indices of each; what is kept of both is what is kept of
+// them as one.
+fn batched(alloc: Global, _name: &str, arrays: &[AnyArray]) -> Result<bool, Fault> {
+    let [array, other, predicate, indices] = arrays else {
+        return Err(Fault::Usage);
+    };
+    let (mask, places) = (truths(predicate)?, numbers(indices)?);
+    let len = mask.len();
+    if array.len() != len || other.len() != len || len < 1 || !are_within(places, len) {
+        return Err(Fault::Usage);
+    }
+    let data_type = array.data_type();
+    logical::row_by_row_goes_by_batches(&[array, other], &[other, array]);
+    logical::each_row_goes_by_batches(&[array, other]);
+    batches::filter_goes_by_batches(&[mask, mask], &[array, other]);
+    batches::choice_goes_by_batches(&[mask, mask], &[array, other], &[other, array], data_type);
+    batches::take_goes_by_batches(array, &[places, places], data_type);
+    batches::take_goes_by_parts(&[array, other], &[places, places], data_type);
+    batches::shift_goes_by_edge(array, other, 1, data_type);
+    let prepared = build_filter(alloc, mask)?;
+    batches::ranges_go_by_batches(&prepared, prepared.ranges(), &prepared, prepared.ranges());
+    is_kept_by_batches(alloc, [array, other], predicate)
+}
+
+// Whether what is kept of two batches by one predicate is what is kept of them as one.
+fn is_kept_by_batches(
+    alloc: Global,
+    batches: [&AnyArray; 2],
+    predicate: &AnyArray,
+) -> Result<bool, Fault> {
+    let [array, other] = batches;
+    let mask = truths(predicate)?;
+    let whole = Array::new(alloc, concatenate(alloc, &batches)?)?;
+    let predicates = Array::new(alloc, concatenate(alloc, &[predicate, predicate])?)?;
+    let masks = truths(&predicates.array)?;
+    if mask.len() != array.len() || mask.len() != other.len() || masks.len() != whole.array.len() {
+        return Err(Fault::Usage);
+    }
+    let kept = Array::new(alloc, filter(alloc, &whole.array, masks)?)?;
+    let first = Array::new(alloc, filter(alloc, array, mask)?)?;
+    let second = Array::new(alloc, filter(alloc, other, mask)?)?;
+    let parts = Array::new(alloc, concatenate(alloc, &[&first.array, &second.array])?)?;
+    Ok(*kept.array == *parts.array)
+}
+
 // Whether two arrays are equal, as the name says, by the laws of equality: each is equal to itself, the left one to the right
 // one as the right one to the left one, and through a third one.
 fn equality(_alloc: Global, name: &str, arrays: &[AnyArray]) -> Result<bool, Fault> {
@@ -333,7 +380,7 @@ fn equality(_alloc: Global, name: &str, arrays: &[AnyArray]) -> Result<bool, Fau
 }
 
 /// An array, one of the same rows, and one of others; predicates and indices; rows that are wanted.
-const LINES: [Line; 22] = [
+const LINES: [Line; 24] = [
     ["equal i32[1,_2,3] i32[9,1,_,3]@1+3", ""],
     ["different i32[1,_2,3] i32[3,2,_1]", ""],
     ["logic bool[t,_,f]", ""],
@@ -379,6 +426,14 @@ const LINES: [Line; 22] = [
         "",
     ],
     ["chunk i32[1,_2,3] bool[t,_,f]", ""],
+    [
+        "batches i32[1,_2,3] i32[9,4,5,_]@1+3 bool[t,_t,t] i32[2,_9,0]",
+        "",
+    ],
+    [
+        r#"batches dict<i8,utf8>{keys=i8[1,_77,0];values=utf8["a","b"]} dict<i8,utf8>["b","a",_] bool[f,t,t] i32[0,0,_]"#,
+        "",
+    ],
     [
         r#"chunk struct<list<utf8>,dict<i8,utf8>>{validity=ttftt;values=list<utf8>{validity=ttttf;offsets=0,1,4,5,5,7;values=utf8["q","a",_"b","bc","d","e","f"]}|dict<i8,utf8>{keys=i8[0,2,1,_77,3];values=utf8["y","y","x",_"v"]}}@1+4 bool[t,_t,f,t]"#,
         "",

@@ -1,15 +1,15 @@
 //! Runs of rows of a predicate that are alike: true, false or null.
 
-ghost use Rattle.std.specs.Prelude.{◌≡◌, ◌+◌, ◌*◌, ◌/◌, ◌<◌, ◌≤◌, ◌==◌, ℕ, [], not, length, slice_index_or, option_copied, IfNone, IfSome};
+ghost use Rattle.std.specs.Prelude.{◌≡◌, ◌+◌, ◌*◌, ◌/◌, ◌<◌, ◌≤◌, ◌==◌, ℕ, [], not, length, slice_index_or, IfNone, IfSome};
 ghost use Rattle.std.specs.Int.{bit_at};
-ghost use Rattle.arrow_types.specs.Rows.{valid_at};
 ghost use Rattle.arrow_types.specs.Slot.{Null};
 ghost use Rattle.arrow_flat.specs.Parts.{boolean_rows};
 ghost use Rattle.arrow_select.specs.Choice.{truth_slot};
 ghost use Rattle.arrow_select.specs.Runs.{AreRowsOf, IsRunIn, IsRunTo, TakesRun, is_truth, truth_by};
 
+use crate::validity::valid_word;
 use arrow_flat::array::BooleanArray;
-use arrow_memory::bitmap::{Bitmap, WORD_BITS};
+use arrow_memory::bitmap::WORD_BITS;
 use std::marker::Model;
 
 /// Of 64 rows of a predicate, a bit each: which are valid, and the values of all.
@@ -107,17 +107,6 @@ fn word_at(predicate: &BooleanArray, j: usize) -> Word
     Word {
         valid: valid_word(predicate.validity(), j),
         values: predicate.values().word(j),
-    }
-}
-
-// Which of the 64 rows from row `64 * j` on are valid, a bit each.
-pub(super) fn valid_word(validity: Option<&Bitmap>, j: usize) -> u64
-    ensures { (k : ℕ) → k < 64 → IfSome (option_copied validity.entry) (λ bits. 64 * j + k < length bits)
-        → (bit_at result k == 1) ≡ valid_at (option_copied validity.entry) (64 * j + k) }
-{
-    match validity {
-        Some(bits) => bits.word(j),
-        None => u64::MAX,
     }
 }
 

@@ -8,7 +8,7 @@ ghost use Rattle.arrow_memory.specs.Words.{low_bits};
 ghost use Rattle.arrow_flat.specs.Parts.{FitsRows};
 ghost use Rattle.arrow_select.specs.Choice.{MarksChosen, chosen_by, valid_chosen};
 
-use crate::if_then_else::runs::valid_word;
+use crate::validity::valid_word;
 use arrow_flat::array::BooleanArray;
 use arrow_memory::bitmap::{Bitmap, WORD_BITS};
 use arrow_types::error::Error;

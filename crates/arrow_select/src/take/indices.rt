@@ -12,6 +12,7 @@ ghost use Rattle.arrow_memory.specs.Words.{low_bits};
 ghost use Rattle.arrow_arrays.specs.KeyedParts.{IsKeyIn, key_in};
 ghost use Rattle.arrow_select.specs.Taken.{AreIndices, IsIndex, MarksTaken, named_bit, picked, valid_index};
 
+use crate::validity::valid_word;
 use arrow_flat::array::PrimitiveArray;
 use arrow_memory::bitmap::{Bitmap, MutableBitmap, WORD_BITS};
 use arrow_types::error::Error;
@@ -131,17 +132,6 @@ fn append_picked<T: NativeType, I: Index>(
     let start = WORD_BITS * j;
     for k in 0..count {
         taken.push_reserved(value_at(values, stored[start + k], word >> k & 1 == 1));
-    }
-}
-
-// Which of the 64 rows from row `64 * j` on are valid, a bit each.
-fn valid_word(validity: Option<&Bitmap>, j: usize) -> u64
-    ensures { (k : ℕ) → k < 64 → IfSome (option_copied validity.entry) (λ bits. 64 * j + k < length bits)
-        → (bit_at result k == 1) ≡ valid_at (option_copied validity.entry) (64 * j + k) }
-{
-    match validity {
-        Some(bits) => bits.word(j),
-        None => u64::MAX,
     }
 }
 

@@ -2,7 +2,7 @@ use Rattle.std.proofs.Common.{◌∙◌, ◌+◌, ◌*◌, ap, option_copied, sy
 use Rattle.std.specs.Prelude.{◌==◌}
 use Rattle.std.proofs.lemmas.Nat.Bits.{bit_at_ones}
 use Rattle.arrow_types.specs.Rows.{valid_at}
-use Rattle.arrow_select.proofs.take.indices.valid_word.Goals as goal
+use Rattle.arrow_select.proofs.validity.valid_word.Goals as goal
 
 pub returns-in-None : goal.returns-in-None
 returns-in-None c = λ k below within.
