@@ -1,0 +1,9 @@
+pub mod ApartLemmas
+pub mod BatchLemmas
+pub mod ChoiceLemmas
+pub mod FaultLemmas
+pub mod KindLemmas
+pub mod ListLemmas
+pub mod MergeLemmas
+pub mod StoreLemmas
+pub mod TextLemmas

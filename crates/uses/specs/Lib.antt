@@ -1,0 +1,5 @@
+pub mod Batch
+pub mod Coalesced
+pub mod Order
+pub mod Stored
+pub mod Texts
