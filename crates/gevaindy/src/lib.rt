@@ -100,6 +100,16 @@ pub mod compute {
     pub use arrow_select::{concatenate, if_then_else, take, window};
 }
 
+/// Arrays, types and scalars as text, both ways.
+pub mod text {
+    pub use arrow_text::fault::Fault;
+    pub use arrow_text::piece::Piece;
+    pub use arrow_text::read::read_array;
+    pub use arrow_text::scalar::read_scalar;
+    pub use arrow_text::types::{read_type, write_type};
+    pub use arrow_text::write::{write_array, write_scalar};
+}
+
 /// What a caller may replace by what, and which tests meet which conditions, each as a function's contract.
 pub mod laws {
     pub use arrow_compare::laws as comparison;

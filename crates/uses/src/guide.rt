@@ -34,7 +34,8 @@ pub fn picked(
 ) -> Result<AnyArray, Error>
     ensures array_type { IfOk result (λ picked. any_array_type picked ≡ any_array_type array.now) }
     ensures rows { IfOk result (λ picked. any_array_rows picked
-        ≡ gather (select mask.now (any_array_rows array.now)) (uint_rows places.now) (any_array_type array.now)) }
+        ≡ gather (select mask.now (any_array_rows array.now)) (uint_rows places.now)
+        (any_array_type array.now)) }
 {
     let mask = Bitmap::from_bools(alloc, mask)?;
     let mask = BooleanArray::try_new(DataType::Boolean, mask, None)?;

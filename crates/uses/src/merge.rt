@@ -58,8 +58,8 @@ fn are_of_one_type(left: &PrimitiveArray<i64>, right: &PrimitiveArray<i64>) -> b
 fn comes_first(left: &PrimitiveArray<i64>, i: usize, right: &PrimitiveArray<i64>, j: usize) -> bool
     requires here { i < length (int_rows left.now) }
     requires there { j < length (int_rows right.now) }
-    ensures { MatchesOrder result
-        (slice_index_or (int_rows left.now) i Null) (slice_index_or (int_rows right.now) j Null) }
+    ensures { MatchesOrder result (slice_index_or (int_rows left.now) i Null)
+        (slice_index_or (int_rows right.now) j Null) }
 {
     if !left.is_valid(i) {
         return true;
