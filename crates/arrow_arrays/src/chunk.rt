@@ -49,7 +49,8 @@ impl Chunk {
     /// Source: arrow2's `Chunk::try_new`.
     pub fn try_new(arrays: Vec<AnyArray>) -> Result<Chunk, Error>
         ensures ok { IfOk result (λ chunk. chunk ≡ map layout_of arrays.items) }
-        ensures lengths { (result ≡ Err (Error.InvalidArgumentError ArgumentFault.Lengths)) ↔ (AreColumns (map layout_of arrays.items) → ⊥) }
+        ensures lengths { (result ≡ Err (Error.InvalidArgumentError ArgumentFault.Lengths))
+            ↔ (AreColumns (map layout_of arrays.items) → ⊥) }
         ensures others { IfErr result (λ e. e ≡ Error.InvalidArgumentError ArgumentFault.Lengths) }
     {
         if !are_columns(&arrays) {

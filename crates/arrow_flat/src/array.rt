@@ -70,7 +70,8 @@ pub trait Values: Clone + Drop {
     fn equal_range(&self, start: usize, other: &Self, other_start: usize, len: usize) -> bool
         requires here { start + len ≤ length (slots self.now) }
         requires there { other_start + len ≤ length (slots other.now) }
-        ensures { IsTrue result ↔ (sliced (slots self.now) start len ≡ sliced (slots other.now) other_start len) };
+        ensures { IsTrue result ↔ (sliced (slots self.now) start len
+            ≡ sliced (slots other.now) other_start len) };
 
     ghost copies: { (x y : Self) → Self.is_clone x y → y ≡ x };
 
@@ -78,9 +79,11 @@ pub trait Values: Clone + Drop {
     ghost stored: { (x : Self) → All IsValue (slots x) };
 
     // a part has that part of the rows, and the same data types
-    ghost slots_of_slice: { (x : Self) (offset len : ℕ) → offset + len ≤ length (slots x) → slots (slice x offset len) ≡ sliced (slots x) offset len };
+    ghost slots_of_slice: { (x : Self) (offset len : ℕ) → offset + len ≤ length (slots x)
+        → slots (slice x offset len) ≡ sliced (slots x) offset len };
 
-    ghost slice_is_of: { (x : Self) (t : ArrowType) (offset len : ℕ) → are_of x t → are_of (slice x offset len) t };
+    ghost slice_is_of: { (x : Self) (t : ArrowType) (offset len : ℕ) → are_of x t
+        → are_of (slice x offset len) t };
 }
 
 /// An array of a data type whose rows are stored as `V`, null where its validity has a bit that is
@@ -111,9 +114,14 @@ impl<V: Values> Model for FlatArray<V> {
 
     ghost coded = { parts_code V.code };
 
-    ghost view = { λ a. record { arrow_type = type_of a.data_type; values = a.values; validity = a.validity } };
+    ghost view = { λ a. record {
+      arrow_type = type_of a.data_type;
+      values = a.values;
+      validity = a.validity;
+    } };
 
-    ghost invariant = { λ a. IsArray V.slots V.are_of (record { arrow_type = type_of a.data_type; values = a.values; validity = a.validity }) };
+    ghost invariant = { λ a. IsArray V.slots V.are_of
+        (record { arrow_type = type_of a.data_type; values = a.values; validity = a.validity }) };
 }
 
 impl<V: Values> FlatArray<V> {
@@ -227,7 +235,8 @@ impl<V: Values> FlatArray<V> {
     ) -> bool
         requires here { start + len ≤ length (rows_by V.slots self.now) }
         requires there { other_start + len ≤ length (rows_by V.slots other.now) }
-        ensures { IsTrue result ↔ (sliced (rows_by V.slots self.now) start len ≡ sliced (rows_by V.slots other.now) other_start len) }
+        ensures { IsTrue result ↔ (sliced (rows_by V.slots self.now) start len
+            ≡ sliced (rows_by V.slots other.now) other_start len) }
     {
         validity::equal_range(&self.validity, start, &other.validity, other_start, len)
             && equal_runs(
@@ -262,7 +271,9 @@ fn equal_runs<V: Values>(
     requires here { start + len ≤ length (V.slots values.now) }
     requires there { other_start + len ≤ length (V.slots others.now) }
     requires fits { FitsRows validity.now (length (V.slots values.now)) }
-    ensures { IsTrue result ↔ (mask (bits_of_slice validity.now start len) (sliced (V.slots values.now) start len) ≡ mask (bits_of_slice validity.now start len) (sliced (V.slots others.now) other_start len)) }
+    ensures { IsTrue result ↔ (mask (bits_of_slice validity.now start len)
+        (sliced (V.slots values.now) start len)
+        ≡ mask (bits_of_slice validity.now start len) (sliced (V.slots others.now) other_start len)) }
 {
     // Places are those of a `usize`, as the counts of rows are.
     let _ = (values.len(), others.len());
@@ -301,11 +312,15 @@ impl<V: Values> Clone for FlatArray<V> {
 impl<V: Values> PartialEq for FlatArray<V> {
     ghost eq = { λ a b. same_by meaning_code (meaning_by V.slots a) (meaning_by V.slots b) };
 
-    ghost laws = { partial_equiv_from_equiv (on_equiv (meaning_by V.slots) (same_by-equivalence meaning_code)) };
+    ghost laws = { partial_equiv_from_equiv
+        (on_equiv (meaning_by V.slots) (same_by-equivalence meaning_code)) };
 
     fn eq(&self, other: &FlatArray<V>) -> bool
-        ensures value { result ≡ same_by meaning_code (meaning_by V.slots self.now) (meaning_by V.slots other.now) }
-        ensures rows { IsTrue result ↔ ((self.now.arrow_type ≡ other.now.arrow_type) × (rows_by V.slots self.now ≡ rows_by V.slots other.now)) }
+        ensures value { result ≡ same_by meaning_code (meaning_by V.slots self.now)
+            (meaning_by V.slots other.now) }
+        ensures rows { IsTrue result
+            ↔ ((self.now.arrow_type ≡ other.now.arrow_type)
+            × (rows_by V.slots self.now ≡ rows_by V.slots other.now)) }
     {
         self.data_type == other.data_type && self.equal_rows(other)
     }

@@ -141,7 +141,8 @@ impl Bitmap {
     /// `j` is allowed, and the bits may begin anywhere in their words.
     #[inline(always)]
     pub fn word(&self, j: usize) -> u64
-        ensures each { (k : ℕ) → k < 64 → (bit_at result k == 1) ≡ slice_index_or self.now (64 * j + k) false }
+        ensures each { (k : ℕ) → k < 64 → (bit_at result k == 1)
+            ≡ slice_index_or self.now (64 * j + k) false }
         ensures word { result ≡ word_of (sliced self.now (64 * j) 64) }
     {
         if j < self.len / WORD_BITS {

@@ -48,7 +48,8 @@ impl<O: Offset> OffsetsBuffer<O> {
     pub fn try_from(alloc: Global, offsets: Vec<O>) -> Result<OffsetsBuffer<O>, Error>
         ensures ok { IfOk result (λ buffer. map pos buffer ≡ map O.number offsets.items) }
         ensures memory { AreOffsets (map O.number offsets.items) → IsOkUnless result Error.OutOfMemory }
-        ensures fault { (AreOffsets (map O.number offsets.items) → ⊥) → result ≡ Err (Error.OutOfSpec SpecPart.Offsets) }
+        ensures fault { (AreOffsets (map O.number offsets.items) → ⊥) → result
+            ≡ Err (Error.OutOfSpec SpecPart.Offsets) }
     {
         if !are_offsets(&offsets) {
             return Err(Error::OutOfSpec(SpecPart::Offsets));
@@ -263,7 +264,9 @@ impl<O: Offset> Offsets<O> {
     ) -> Result<(), Error>
         requires { start + len < length other.now }
         ensures ok { OnOk result (self.new ≡ with_rows self.old other.now start len) }
-        ensures overflow { (result ≡ Err Error.Overflow) ↔ (O.greatest < last_of self.old + (slice_index other.now (start + len) - slice_index other.now start)) }
+        ensures overflow { (result ≡ Err Error.Overflow)
+            ↔ (O.greatest < last_of self.old +
+            (slice_index other.now (start + len) - slice_index other.now start)) }
         ensures others { IfErr result IsGrowthError }
         ensures err { OnErr result (self.new ≡ self.old) }
     {
@@ -294,8 +297,11 @@ impl<O: Offset> Offsets<O> {
     ) -> Result<(), Error>
         requires part { start + len < length other.now }
         requires covered { start + len ≤ length validity.now }
-        ensures ok { OnOk result (self.new ≡ with_valid_rows self.old (sliced validity.now start len) other.now start) }
-        ensures overflow { (result ≡ Err Error.Overflow) ↔ (O.greatest < last_of self.old + valid_items (sliced validity.now start len) other.now start) }
+        ensures ok { OnOk result (self.new
+            ≡ with_valid_rows self.old (sliced validity.now start len) other.now start) }
+        ensures overflow { (result ≡ Err Error.Overflow)
+            ↔ (O.greatest < last_of self.old + valid_items (sliced validity.now start len) other.now
+            start) }
         ensures others { IfErr result IsGrowthError }
         ensures err { OnErr result (self.new ≡ self.old) }
     {
@@ -327,7 +333,8 @@ impl<O: Offset> Offsets<O> {
 // The last of some offsets.
 fn last<O: Offset>(offsets: &[O]) -> &O
     requires { 0 < length offsets.now }
-    ensures { O.number result.now ≡ slice_index_or (map O.number offsets.now) (length offsets.now - 1) (pos 0) }
+    ensures { O.number result.now
+        ≡ slice_index_or (map O.number offsets.now) (length offsets.now - 1) (pos 0) }
 {
     &offsets[offsets.len() - 1]
 }
@@ -344,8 +351,11 @@ fn append_rows<O: Offset>(
     requires part { start + len < length other.now }
     requires room { vec_len offsets.old + len ≤ vec_capacity offsets.old }
     requires not_negative { pos 0 ≤ℤ O.number to }
-    requires fits { unsigned_abs (O.number to) + (slice_index other.now (start + len) - slice_index other.now start) ≤ O.greatest }
-    ensures { map O.number offsets.new.items ≡ map O.number offsets.old.items ++ map pos (counted_on (unsigned_abs (O.number to)) other.now start len) }
+    requires fits { unsigned_abs (O.number to) +
+        (slice_index other.now (start + len) - slice_index other.now start) ≤ O.greatest }
+    ensures { map O.number offsets.new.items
+        ≡ map O.number offsets.old.items ++ map pos
+        (counted_on (unsigned_abs (O.number to)) other.now start len) }
 {
     let values = other.buffer();
     let from = values[start];
@@ -358,8 +368,11 @@ fn append_shifted<O: Offset>(offsets: &mut Vec<O>, rows: &[O], from: O, to: O)
     requires room { vec_len offsets.old + length rows.now ≤ vec_capacity offsets.old }
     requires starts { pos 0 ≤ℤ O.number from }
     requires not_negative { pos 0 ≤ℤ O.number to }
-    requires fits { All (λ x. (O.number from ≤ℤ O.number x) × ((O.number to +ℤ (O.number x -ℤ O.number from)) ≤ℤ pos O.greatest)) rows.now }
-    ensures { map O.number offsets.new.items ≡ map O.number offsets.old.items ++ map (λ z. O.number to +ℤ (z -ℤ O.number from)) (map O.number rows.now) }
+    requires fits { All (λ x. (O.number from ≤ℤ O.number x)
+        × ((O.number to +ℤ (O.number x -ℤ O.number from)) ≤ℤ pos O.greatest)) rows.now }
+    ensures { map O.number offsets.new.items
+        ≡ map O.number offsets.old.items ++ map (λ z. O.number to +ℤ (z -ℤ O.number from))
+        (map O.number rows.now) }
 {
     let done = offsets.len();
     let Ok(()) = offsets.extend_from_slice(rows) else {
@@ -372,8 +385,10 @@ fn append_shifted<O: Offset>(offsets: &mut Vec<O>, rows: &[O], from: O, to: O)
 fn shift<O: Offset>(offsets: &mut [O], from: O, to: O)
     requires starts { pos 0 ≤ℤ O.number from }
     requires not_negative { pos 0 ≤ℤ O.number to }
-    requires fits { All (λ x. (O.number from ≤ℤ O.number x) × ((O.number to +ℤ (O.number x -ℤ O.number from)) ≤ℤ pos O.greatest)) offsets.old }
-    ensures { map O.number offsets.new ≡ map (λ z. O.number to +ℤ (z -ℤ O.number from)) (map O.number offsets.old) }
+    requires fits { All (λ x. (O.number from ≤ℤ O.number x)
+        × ((O.number to +ℤ (O.number x -ℤ O.number from)) ≤ℤ pos O.greatest)) offsets.old }
+    ensures { map O.number offsets.new
+        ≡ map (λ z. O.number to +ℤ (z -ℤ O.number from)) (map O.number offsets.old) }
 {
     for offset in offsets.iter_mut() {
         *offset = offset.shifted(from, to);
@@ -392,7 +407,8 @@ fn valid_rows_fit<O: Offset>(
     requires part { start + len < length other.now }
     requires covered { start + len ≤ length validity.now }
     requires not_negative { pos 0 ≤ℤ O.number last.now }
-    ensures { IsTrue result ↔ ((unsigned_abs (O.number last.now) + valid_items (sliced validity.now start len) other.now start) ≤ O.greatest) }
+    ensures { IsTrue result ↔ ((unsigned_abs (O.number last.now) + valid_items
+        (sliced validity.now start len) other.now start) ≤ O.greatest) }
 {
     let place = last.to_usize();
     let (first, end) = other.range(start, len);
@@ -447,8 +463,11 @@ fn append_valid_rows<O: Offset>(
     requires covered { start + len ≤ length validity.now }
     requires room { vec_len offsets.old + len ≤ vec_capacity offsets.old }
     requires not_negative { pos 0 ≤ℤ O.number last }
-    requires fits { (unsigned_abs (O.number last) + valid_items (sliced validity.now start len) other.now start) ≤ O.greatest }
-    ensures { map O.number offsets.new.items ≡ map O.number offsets.old.items ++ map pos (valid_ends (unsigned_abs (O.number last)) (sliced validity.now start len) other.now start) }
+    requires fits { (unsigned_abs (O.number last) + valid_items (sliced validity.now start len) other.now
+        start) ≤ O.greatest }
+    ensures { map O.number offsets.new.items
+        ≡ map O.number offsets.old.items ++ map pos
+        (valid_ends (unsigned_abs (O.number last)) (sliced validity.now start len) other.now start) }
 {
     prove!(start < other.len());
     let end = start + len;
@@ -476,9 +495,13 @@ fn append_word_of_rows<O: Offset>(
     requires part { start + count < length other.now }
     requires room { vec_len offsets.old + count ≤ vec_capacity offsets.old }
     requires not_negative { pos 0 ≤ℤ O.number last }
-    requires fits { (unsigned_abs (O.number last) + valid_items (bits_in (word ∷ []) 0 count) other.now start) ≤ O.greatest }
-    ensures ends { map O.number offsets.new.items ≡ map O.number offsets.old.items ++ map pos (valid_ends (unsigned_abs (O.number last)) (bits_in (word ∷ []) 0 count) other.now start) }
-    ensures last { O.number result ≡ pos (unsigned_abs (O.number last) + valid_items (bits_in (word ∷ []) 0 count) other.now start) }
+    requires fits { (unsigned_abs (O.number last) + valid_items (bits_in (word ∷ []) 0 count) other.now
+        start) ≤ O.greatest }
+    ensures ends { map O.number offsets.new.items
+        ≡ map O.number offsets.old.items ++ map pos
+        (valid_ends (unsigned_abs (O.number last)) (bits_in (word ∷ []) 0 count) other.now start) }
+    ensures last { O.number result
+        ≡ pos (unsigned_abs (O.number last) + valid_items (bits_in (word ∷ []) 0 count) other.now start) }
     ensures len { vec_len offsets.new ≡ vec_len offsets.old + count }
     ensures capacity { vec_capacity offsets.old ≤ vec_capacity offsets.new }
 {
@@ -501,10 +524,15 @@ fn write_word_of_rows<O: Offset>(
     requires in_word { length ends.old ≤ 64 }
     requires part { start + length ends.old < length other.now }
     requires not_negative { pos 0 ≤ℤ O.number last }
-    requires fits { (unsigned_abs (O.number last) + valid_items (bits_in (word ∷ []) 0 (length ends.old)) other.now start) ≤ O.greatest }
+    requires fits { (unsigned_abs (O.number last) + valid_items (bits_in (word ∷ []) 0 (length ends.old))
+        other.now start) ≤ O.greatest }
     ensures long { length ends.new ≡ length ends.old }
-    ensures ends { map O.number ends.new ≡ map pos (valid_ends (unsigned_abs (O.number last)) (bits_in (word ∷ []) 0 (length ends.old)) other.now start) }
-    ensures last { O.number result ≡ pos (unsigned_abs (O.number last) + valid_items (bits_in (word ∷ []) 0 (length ends.old)) other.now start) }
+    ensures ends { map O.number ends.new
+        ≡ map pos (valid_ends (unsigned_abs (O.number last)) (bits_in (word ∷ []) 0 (length ends.old))
+        other.now start) }
+    ensures last { O.number result
+        ≡ pos (unsigned_abs (O.number last) + valid_items (bits_in (word ∷ []) 0 (length ends.old))
+        other.now start) }
 {
     let rows = other.buffer();
     let mut last = last;

@@ -168,7 +168,8 @@ fn append_words(words: &mut Vec<u64>, others: &[u64], from: usize, count: usize)
     requires room { vec_len words.old + count ≤ vec_capacity words.old }
     requires fits { from + 64 * count < 2 ^ 64 + 64 }
     ensures long { length words.new.items ≡ length words.old.items + count }
-    ensures appended { AppendsBits words.old.items words.new.items (64 * length words.old.items) (bits_in others.now from (64 * count)) }
+    ensures appended { AppendsBits words.old.items words.new.items (64 * length words.old.items)
+        (bits_in others.now from (64 * count)) }
 {
     let first = from / WORD_BITS;
     if from % WORD_BITS == 0 {
@@ -189,7 +190,8 @@ fn fill_word(words: &mut Vec<u64>, place: usize, others: &[u64], from: usize)
     requires full { length words.old.items ≡ div_ceil place 64 }
     ensures long { length words.new.items ≡ length words.old.items }
     ensures room { vec_capacity words.new ≡ vec_capacity words.old }
-    ensures appended { AppendsBits words.old.items words.new.items place (bits_in others.now from ((64 - place % 64) % 64)) }
+    ensures appended { AppendsBits words.old.items words.new.items place
+        (bits_in others.now from ((64 - place % 64) % 64)) }
 {
     let used = place % WORD_BITS;
     if used > 0 {
@@ -280,7 +282,8 @@ fn append_equal_words(words: &mut Vec<u64>, count: usize, bit: bool)
     requires { vec_len words.old + count ≤ vec_capacity words.old }
     ensures long { length words.new.items ≡ length words.old.items + count }
     ensures room { vec_capacity words.old ≤ vec_capacity words.new }
-    ensures appended { AppendsBits words.old.items words.new.items (64 * length words.old.items) (replicate (64 * count) bit) }
+    ensures appended { AppendsBits words.old.items words.new.items (64 * length words.old.items)
+        (replicate (64 * count) bit) }
 {
     let Ok(()) = words.resize(words.len() + count, equal_bits(WORD_BITS, bit)) else {
         unreachable!();

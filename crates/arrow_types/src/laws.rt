@@ -36,7 +36,8 @@ pub fn order_turns<T: NativeOrd>(left: T, right: T) -> Ordering
 /// The order of numbers is transitive: what is at most a number is at most whatever that is at most.
 pub fn order_chains<T: NativeOrd>(least: T, middle: T, greatest: T) -> bool
     ensures order { result ≡ is_le (T.cmp least greatest) }
-    ensures chains { IsTrue (is_le (T.cmp least middle)) → IsTrue (is_le (T.cmp middle greatest)) → IsTrue result }
+    ensures chains { IsTrue (is_le (T.cmp least middle)) → IsTrue (is_le (T.cmp middle greatest))
+        → IsTrue result }
 {
     least <= greatest
 }
@@ -108,7 +109,8 @@ pub fn equals_both_ways<A: Eq>(left: &A, right: &A) -> bool
 /// `==` is transitive.
 pub fn equals_through<A: Eq>(first: &A, second: &A, third: &A) -> bool
     ensures answer { result ≡ A.eq first.now third.now }
-    ensures transitive { IsTrue (A.eq first.now second.now) → IsTrue (A.eq second.now third.now) → IsTrue result }
+    ensures transitive { IsTrue (A.eq first.now second.now) → IsTrue (A.eq second.now third.now)
+        → IsTrue result }
 {
     first == third
 }

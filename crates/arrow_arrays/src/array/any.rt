@@ -162,7 +162,8 @@ impl AnyArray {
         requires one_type { any_array_type self.now ≡ any_array_type other.now }
         requires here { start + len ≤ length (any_array_rows self.now) }
         requires there { other_start + len ≤ length (any_array_rows other.now) }
-        ensures { IsTrue result ↔ (sliced (any_array_rows self.now) start len ≡ sliced (any_array_rows other.now) other_start len) }
+        ensures { IsTrue result ↔ (sliced (any_array_rows self.now) start len
+            ≡ sliced (any_array_rows other.now) other_start len) }
     {
         have_one_kind(self, other);
         match (self, other) {
@@ -240,7 +241,8 @@ pub(crate) fn equal_spans(
     requires one_type { any_array_type values.now ≡ any_array_type others.now }
     requires here { IfSome span (λ span. span.0 + span.1 ≤ length (any_array_rows values.now)) }
     requires there { IfSome other_span (λ span. span.0 + span.1 ≤ length (any_array_rows others.now)) }
-    ensures { IsTrue result ↔ AreSameSpans (any_array_rows values.now) span (any_array_rows others.now) other_span }
+    ensures { IsTrue result ↔ AreSameSpans (any_array_rows values.now) span (any_array_rows others.now)
+        other_span }
 {
     match (span, other_span) {
         (None, None) => true,
@@ -304,8 +306,11 @@ impl PartialEq for AnyArray {
     ghost laws = { partial_equiv_from_equiv (on_equiv any_array_meaning (same_by-equivalence meaning_code)) };
 
     fn eq(&self, other: &AnyArray) -> bool
-        ensures value { result ≡ same_by meaning_code (any_array_meaning self.now) (any_array_meaning other.now) }
-        ensures rows { IsTrue result ↔ ((any_array_type self.now ≡ any_array_type other.now) × (any_array_rows self.now ≡ any_array_rows other.now)) }
+        ensures value { result ≡ same_by meaning_code (any_array_meaning self.now)
+            (any_array_meaning other.now) }
+        ensures rows { IsTrue result
+            ↔ ((any_array_type self.now ≡ any_array_type other.now)
+            × (any_array_rows self.now ≡ any_array_rows other.now)) }
     {
         self.data_type() == other.data_type() && self.equal_rows(other)
     }

@@ -65,7 +65,8 @@ impl Model for DictionaryArray {
 
     ghost view = { λ a. keyed_of (type_of a.data_type) a.keys (layout_of a.values.value) };
 
-    ghost invariant = { λ a. IsKeyed (key_rows a.keys) (key_type_of a.keys) (keyed_of (type_of a.data_type) a.keys (layout_of a.values.value)) };
+    ghost invariant = { λ a. IsKeyed (key_rows a.keys) (key_type_of a.keys)
+        (keyed_of (type_of a.data_type) a.keys (layout_of a.values.value)) };
 
     ghost size = { λ p. depth (keyed_layout p) };
 
@@ -105,9 +106,13 @@ impl DictionaryArray {
         keys: AnyKeys,
         values: Box<AnyArray>,
     ) -> Result<DictionaryArray, Error>
-        ensures ok { IfOk result (λ array. array ≡ keyed_of (type_of data_type) keys (layout_of values.value)) }
-        ensures sound { OnOk result (IsKeyed (key_rows keys) (key_type_of keys) (keyed_of (type_of data_type) keys (layout_of values.value))) }
-        ensures fault { IfErr result (IsKeyedFault (type_of data_type) (key_rows keys) (key_type_of keys) (layout_of values.value)) }
+        ensures ok { IfOk result (λ array. array
+            ≡ keyed_of (type_of data_type) keys (layout_of values.value)) }
+        ensures sound { OnOk result
+            (IsKeyed (key_rows keys) (key_type_of keys)
+            (keyed_of (type_of data_type) keys (layout_of values.value))) }
+        ensures fault { IfErr result
+            (IsKeyedFault (type_of data_type) (key_rows keys) (key_type_of keys) (layout_of values.value)) }
     {
         check_dictionary(&data_type, &keys, &values)?;
         Ok(DictionaryArray::new(data_type, keys, values))
@@ -225,7 +230,8 @@ impl DictionaryArray {
         requires one_type { self.now.arrow_type ≡ other.now.arrow_type }
         requires here { i < length self.now.keys }
         requires there { j < length other.now.keys }
-        ensures { IsTrue result ↔ (slice_index_or (keyed_rows self.now) i Null ≡ slice_index_or (keyed_rows other.now) j Null) }
+        ensures { IsTrue result ↔ (slice_index_or (keyed_rows self.now) i Null
+            ≡ slice_index_or (keyed_rows other.now) j Null) }
     {
         equal_spans(self.span(i), &self.values, other.span(j), &other.values)
     }
@@ -243,7 +249,8 @@ impl DictionaryArray {
         requires one_type { self.now.arrow_type ≡ other.now.arrow_type }
         requires here { start + len ≤ length (keyed_rows self.now) }
         requires there { other_start + len ≤ length (keyed_rows other.now) }
-        ensures { IsTrue result ↔ (sliced (keyed_rows self.now) start len ≡ sliced (keyed_rows other.now) other_start len) }
+        ensures { IsTrue result ↔ (sliced (keyed_rows self.now) start len
+            ≡ sliced (keyed_rows other.now) other_start len) }
     {
         // lengths fit a `usize`, and so do the places below
         let (_rows, _other_rows) = (self.len(), other.len());
@@ -267,8 +274,11 @@ impl DictionaryArray {
 
 // Tests the parts of a dictionary in order.
 fn check_dictionary(data_type: &DataType, keys: &AnyKeys, values: &AnyArray) -> Result<(), Error>
-    ensures ok { OnOk result (HoldsKeyed (type_of data_type.now) (key_rows keys.now) (key_type_of keys.now) (layout_of values.now)) }
-    ensures fault { IfErr result (IsKeyedFault (type_of data_type.now) (key_rows keys.now) (key_type_of keys.now) (layout_of values.now)) }
+    ensures ok { OnOk result (HoldsKeyed (type_of data_type.now) (key_rows keys.now) (key_type_of keys.now)
+        (layout_of values.now)) }
+    ensures fault { IfErr result
+        (IsKeyedFault (type_of data_type.now) (key_rows keys.now) (key_type_of keys.now)
+        (layout_of values.now)) }
 {
     if !is_carried_as(data_type, PhysicalType::Dictionary(keys.key_type())) {
         return Err(Error::OutOfSpec(SpecPart::Kind));
@@ -305,7 +315,9 @@ impl PartialEq for DictionaryArray {
 
     fn eq(&self, other: &DictionaryArray) -> bool
         ensures value { result ≡ same_by meaning_code (keyed_meaning self.now) (keyed_meaning other.now) }
-        ensures rows { IsTrue result ↔ ((self.now.arrow_type ≡ other.now.arrow_type) × (keyed_rows self.now ≡ keyed_rows other.now)) }
+        ensures rows { IsTrue result
+            ↔ ((self.now.arrow_type ≡ other.now.arrow_type)
+            × (keyed_rows self.now ≡ keyed_rows other.now)) }
     {
         self.data_type == other.data_type && self.equal_rows(other)
     }

@@ -58,9 +58,20 @@ impl Model for FixedSizeListArray {
 
     ghost use Rattle.arrow_arrays.specs.Any.{layout_of};
 
-    ghost view = { λ a. record { arrow_type = type_of a.data_type; validity = a.validity; size = a.size; child = layout_of a.values.value } };
+    ghost view = { λ a. record {
+      arrow_type = type_of a.data_type;
+      validity = a.validity;
+      size = a.size;
+      child = layout_of a.values.value;
+    } };
 
-    ghost invariant = { λ a. IsFixedList (record { arrow_type = type_of a.data_type; validity = a.validity; size = a.size; child = layout_of a.values.value }) };
+    ghost invariant = { λ a. IsFixedList
+        (record {
+          arrow_type = type_of a.data_type;
+          validity = a.validity;
+          size = a.size;
+          child = layout_of a.values.value;
+        }) };
 
     ghost size = { λ p. depth (fixed_list_layout p) };
 
@@ -83,9 +94,22 @@ impl FixedSizeListArray {
         values: Box<AnyArray>,
         validity: Option<Bitmap>,
     ) -> Result<FixedSizeListArray, Error>
-        ensures ok { IfOk result (λ array. array ≡ record { arrow_type = type_of data_type; validity = validity; size = list_size (type_of data_type); child = layout_of values.value }) }
-        ensures sound { OnOk result (IsFixedList (record { arrow_type = type_of data_type; validity = validity; size = list_size (type_of data_type); child = layout_of values.value })) }
-        ensures fault { IfErr result (IsFixedListFault (type_of data_type) (layout_of values.value) validity) }
+        ensures ok { IfOk result (λ array. array
+            ≡ record {
+              arrow_type = type_of data_type;
+              validity = validity;
+              size = list_size (type_of data_type);
+              child = layout_of values.value;
+            }) }
+        ensures sound { OnOk result
+            (IsFixedList (record {
+              arrow_type = type_of data_type;
+              validity = validity;
+              size = list_size (type_of data_type);
+              child = layout_of values.value;
+            })) }
+        ensures fault { IfErr result
+            (IsFixedListFault (type_of data_type) (layout_of values.value) validity) }
     {
         check_fixed(&data_type, &values, &validity)?;
         let size = types::list_size(&data_type);
@@ -211,7 +235,8 @@ impl FixedSizeListArray {
     /// Where the items of row `i` begin and how many there are, if it is not null.
     fn span(&self, i: usize) -> Option<(usize, usize)>
         requires { i < length (fixed_list_rows self.now) }
-        ensures row { slice_index_or (fixed_list_rows self.now) i Null ≡ span_row (rows self.now.child) result }
+        ensures row { slice_index_or (fixed_list_rows self.now) i Null
+            ≡ span_row (rows self.now.child) result }
         ensures within { IfSome result (λ span. span.0 + span.1 ≤ length (rows self.now.child)) }
     {
         if !validity::is_valid(&self.validity, i) {
@@ -226,7 +251,8 @@ impl FixedSizeListArray {
         requires one_type { self.now.arrow_type ≡ other.now.arrow_type }
         requires here { i < length (fixed_list_rows self.now) }
         requires there { j < length (fixed_list_rows other.now) }
-        ensures { IsTrue result ↔ (slice_index_or (fixed_list_rows self.now) i Null ≡ slice_index_or (fixed_list_rows other.now) j Null) }
+        ensures { IsTrue result ↔ (slice_index_or (fixed_list_rows self.now) i Null
+            ≡ slice_index_or (fixed_list_rows other.now) j Null) }
     {
         equal_spans(self.span(i), &self.values, other.span(j), &other.values)
     }
@@ -244,7 +270,8 @@ impl FixedSizeListArray {
         requires one_type { self.now.arrow_type ≡ other.now.arrow_type }
         requires here { start + len ≤ length (fixed_list_rows self.now) }
         requires there { other_start + len ≤ length (fixed_list_rows other.now) }
-        ensures { IsTrue result ↔ (sliced (fixed_list_rows self.now) start len ≡ sliced (fixed_list_rows other.now) other_start len) }
+        ensures { IsTrue result ↔ (sliced (fixed_list_rows self.now) start len
+            ≡ sliced (fixed_list_rows other.now) other_start len) }
     {
         // lengths fit a `usize`, and so do the places below
         let (_rows, _other_rows) = (self.len(), other.len());
@@ -273,7 +300,8 @@ fn check_fixed(
     validity: &Option<Bitmap>,
 ) -> Result<(), Error>
     ensures ok { OnOk result (HoldsFixedList (type_of data_type.now) (layout_of values.now) validity.now) }
-    ensures fault { IfErr result (IsFixedListFault (type_of data_type.now) (layout_of values.now) validity.now) }
+    ensures fault { IfErr result
+        (IsFixedListFault (type_of data_type.now) (layout_of values.now) validity.now) }
 {
     if !is_carried_as(data_type, PhysicalType::FixedSizeList) {
         return Err(Error::OutOfSpec(SpecPart::Kind));
@@ -316,11 +344,15 @@ impl Clone for FixedSizeListArray {
 impl PartialEq for FixedSizeListArray {
     ghost eq = { λ a b. same_by meaning_code (fixed_list_meaning a) (fixed_list_meaning b) };
 
-    ghost laws = { partial_equiv_from_equiv (on_equiv fixed_list_meaning (same_by-equivalence meaning_code)) };
+    ghost laws = { partial_equiv_from_equiv
+        (on_equiv fixed_list_meaning (same_by-equivalence meaning_code)) };
 
     fn eq(&self, other: &FixedSizeListArray) -> bool
-        ensures value { result ≡ same_by meaning_code (fixed_list_meaning self.now) (fixed_list_meaning other.now) }
-        ensures rows { IsTrue result ↔ ((self.now.arrow_type ≡ other.now.arrow_type) × (fixed_list_rows self.now ≡ fixed_list_rows other.now)) }
+        ensures value { result ≡ same_by meaning_code (fixed_list_meaning self.now)
+            (fixed_list_meaning other.now) }
+        ensures rows { IsTrue result
+            ↔ ((self.now.arrow_type ≡ other.now.arrow_type)
+            × (fixed_list_rows self.now ≡ fixed_list_rows other.now)) }
     {
         self.data_type == other.data_type && self.equal_rows(other)
     }

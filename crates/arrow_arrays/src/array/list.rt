@@ -145,9 +145,20 @@ impl Model for ListArray {
 
     ghost use Rattle.arrow_arrays.specs.Any.{layout_of};
 
-    ghost view = { λ a. record { arrow_type = type_of a.data_type; validity = a.validity; offsets = offsets_of a.offsets; child = layout_of a.values.value } };
+    ghost view = { λ a. record {
+      arrow_type = type_of a.data_type;
+      validity = a.validity;
+      offsets = offsets_of a.offsets;
+      child = layout_of a.values.value;
+    } };
 
-    ghost invariant = { λ a. IsList (lists_of a.offsets) (record { arrow_type = type_of a.data_type; validity = a.validity; offsets = offsets_of a.offsets; child = layout_of a.values.value }) };
+    ghost invariant = { λ a. IsList (lists_of a.offsets)
+        (record {
+          arrow_type = type_of a.data_type;
+          validity = a.validity;
+          offsets = offsets_of a.offsets;
+          child = layout_of a.values.value;
+        }) };
 
     ghost size = { λ p. depth (list_layout p) };
 
@@ -170,9 +181,29 @@ impl ListArray {
         values: Box<AnyArray>,
         validity: Option<Bitmap>,
     ) -> Result<ListArray, Error>
-        ensures ok { IfOk result (λ array. array ≡ record { arrow_type = type_of data_type; validity = validity; offsets = offsets_of offsets; child = layout_of values.value }) }
-        ensures sound { OnOk result (IsList (lists_of offsets) (record { arrow_type = type_of data_type; validity = validity; offsets = offsets_of offsets; child = layout_of values.value })) }
-        ensures fault { IfErr result (IsListFault (lists_of offsets) (record { arrow_type = type_of data_type; validity = validity; offsets = offsets_of offsets; child = layout_of values.value })) }
+        ensures ok { IfOk result (λ array. array
+            ≡ record {
+              arrow_type = type_of data_type;
+              validity = validity;
+              offsets = offsets_of offsets;
+              child = layout_of values.value;
+            }) }
+        ensures sound { OnOk result
+            (IsList (lists_of offsets)
+            (record {
+              arrow_type = type_of data_type;
+              validity = validity;
+              offsets = offsets_of offsets;
+              child = layout_of values.value;
+            })) }
+        ensures fault { IfErr result
+            (IsListFault (lists_of offsets)
+            (record {
+              arrow_type = type_of data_type;
+              validity = validity;
+              offsets = offsets_of offsets;
+              child = layout_of values.value;
+            })) }
     {
         let physical = offsets.physical_type();
         check_list(
@@ -322,7 +353,8 @@ impl ListArray {
         requires one_type { self.now.arrow_type ≡ other.now.arrow_type }
         requires here { i + 1 < length self.now.offsets }
         requires there { j + 1 < length other.now.offsets }
-        ensures { IsTrue result ↔ (slice_index_or (list_rows self.now) i Null ≡ slice_index_or (list_rows other.now) j Null) }
+        ensures { IsTrue result ↔ (slice_index_or (list_rows self.now) i Null
+            ≡ slice_index_or (list_rows other.now) j Null) }
     {
         equal_spans(self.span(i), &self.values, other.span(j), &other.values)
     }
@@ -340,7 +372,8 @@ impl ListArray {
         requires one_type { self.now.arrow_type ≡ other.now.arrow_type }
         requires here { start + len ≤ length (list_rows self.now) }
         requires there { other_start + len ≤ length (list_rows other.now) }
-        ensures { IsTrue result ↔ (sliced (list_rows self.now) start len ≡ sliced (list_rows other.now) other_start len) }
+        ensures { IsTrue result ↔ (sliced (list_rows self.now) start len
+            ≡ sliced (list_rows other.now) other_start len) }
     {
         // lengths fit a `usize`, and so do the places below
         let (_rows, _other_rows) = (self.len(), other.len());
@@ -372,8 +405,10 @@ pub(crate) fn check_list(
     values: &AnyArray,
     validity: &Option<Bitmap>,
 ) -> Result<(), Error>
-    ensures ok { OnOk result (HoldsList physical_type (type_of data_type.now) len end (layout_of values.now) validity.now) }
-    ensures fault { IfErr result (IsListFaultBy physical_type (type_of data_type.now) len end (layout_of values.now) validity.now) }
+    ensures ok { OnOk result (HoldsList physical_type (type_of data_type.now) len end (layout_of values.now)
+        validity.now) }
+    ensures fault { IfErr result
+        (IsListFaultBy physical_type (type_of data_type.now) len end (layout_of values.now) validity.now) }
 {
     if !is_carried_as(data_type, physical_type) {
         return Err(Error::OutOfSpec(SpecPart::Kind));
@@ -414,7 +449,8 @@ impl PartialEq for ListArray {
 
     fn eq(&self, other: &ListArray) -> bool
         ensures value { result ≡ same_by meaning_code (list_meaning self.now) (list_meaning other.now) }
-        ensures rows { IsTrue result ↔ ((self.now.arrow_type ≡ other.now.arrow_type) × (list_rows self.now ≡ list_rows other.now)) }
+        ensures rows { IsTrue result
+            ↔ ((self.now.arrow_type ≡ other.now.arrow_type) × (list_rows self.now ≡ list_rows other.now)) }
     {
         self.data_type == other.data_type && self.equal_rows(other)
     }

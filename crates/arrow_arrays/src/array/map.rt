@@ -64,9 +64,20 @@ impl Model for MapArray {
 
     ghost use Rattle.arrow_arrays.specs.Any.{layout_of};
 
-    ghost view = { λ a. record { arrow_type = type_of a.data_type; validity = a.validity; offsets = a.offsets; child = layout_of a.field.value } };
+    ghost view = { λ a. record {
+      arrow_type = type_of a.data_type;
+      validity = a.validity;
+      offsets = a.offsets;
+      child = layout_of a.field.value;
+    } };
 
-    ghost invariant = { λ a. IsList physical.Map (record { arrow_type = type_of a.data_type; validity = a.validity; offsets = a.offsets; child = layout_of a.field.value }) };
+    ghost invariant = { λ a. IsList physical.Map
+        (record {
+          arrow_type = type_of a.data_type;
+          validity = a.validity;
+          offsets = a.offsets;
+          child = layout_of a.field.value;
+        }) };
 
     ghost size = { λ p. depth (list_layout p) };
 
@@ -89,9 +100,29 @@ impl MapArray {
         field: Box<AnyArray>,
         validity: Option<Bitmap>,
     ) -> Result<MapArray, Error>
-        ensures ok { IfOk result (λ array. array ≡ record { arrow_type = type_of data_type; validity = validity; offsets = offsets; child = layout_of field.value }) }
-        ensures sound { OnOk result (IsList (physical.Map) (record { arrow_type = type_of data_type; validity = validity; offsets = offsets; child = layout_of field.value })) }
-        ensures fault { IfErr result (IsListFault (physical.Map) (record { arrow_type = type_of data_type; validity = validity; offsets = offsets; child = layout_of field.value })) }
+        ensures ok { IfOk result (λ array. array
+            ≡ record {
+              arrow_type = type_of data_type;
+              validity = validity;
+              offsets = offsets;
+              child = layout_of field.value;
+            }) }
+        ensures sound { OnOk result
+            (IsList (physical.Map)
+            (record {
+              arrow_type = type_of data_type;
+              validity = validity;
+              offsets = offsets;
+              child = layout_of field.value;
+            })) }
+        ensures fault { IfErr result
+            (IsListFault (physical.Map)
+            (record {
+              arrow_type = type_of data_type;
+              validity = validity;
+              offsets = offsets;
+              child = layout_of field.value;
+            })) }
     {
         check_list(
             &data_type,
@@ -238,7 +269,8 @@ impl MapArray {
         requires one_type { self.now.arrow_type ≡ other.now.arrow_type }
         requires here { i + 1 < length self.now.offsets }
         requires there { j + 1 < length other.now.offsets }
-        ensures { IsTrue result ↔ (slice_index_or (list_rows self.now) i Null ≡ slice_index_or (list_rows other.now) j Null) }
+        ensures { IsTrue result ↔ (slice_index_or (list_rows self.now) i Null
+            ≡ slice_index_or (list_rows other.now) j Null) }
     {
         equal_spans(self.span(i), &self.field, other.span(j), &other.field)
     }
@@ -256,7 +288,8 @@ impl MapArray {
         requires one_type { self.now.arrow_type ≡ other.now.arrow_type }
         requires here { start + len ≤ length (list_rows self.now) }
         requires there { other_start + len ≤ length (list_rows other.now) }
-        ensures { IsTrue result ↔ (sliced (list_rows self.now) start len ≡ sliced (list_rows other.now) other_start len) }
+        ensures { IsTrue result ↔ (sliced (list_rows self.now) start len
+            ≡ sliced (list_rows other.now) other_start len) }
     {
         // lengths fit a `usize`, and so do the places below
         let (_rows, _other_rows) = (self.len(), other.len());
@@ -302,7 +335,8 @@ impl PartialEq for MapArray {
 
     fn eq(&self, other: &MapArray) -> bool
         ensures value { result ≡ same_by meaning_code (list_meaning self.now) (list_meaning other.now) }
-        ensures rows { IsTrue result ↔ ((self.now.arrow_type ≡ other.now.arrow_type) × (list_rows self.now ≡ list_rows other.now)) }
+        ensures rows { IsTrue result
+            ↔ ((self.now.arrow_type ≡ other.now.arrow_type) × (list_rows self.now ≡ list_rows other.now)) }
     {
         self.data_type == other.data_type && self.equal_rows(other)
     }

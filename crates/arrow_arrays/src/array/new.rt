@@ -58,9 +58,11 @@ pub fn new_empty_array(alloc: Global, data_type: DataType) -> Result<AnyArray, E
 pub fn new_null_array(alloc: Global, data_type: DataType, length: usize) -> Result<AnyArray, Error>
     requires carried { IsCarried (type_of data_type) }
     ensures ok_type { IfOk result (λ array. any_array_type array ≡ type_of data_type) }
-    ensures ok_rows { IfOk result (λ array. any_array_rows array ≡ replicate length (null_slot (type_of data_type))) }
+    ensures ok_rows { IfOk result
+        (λ array. any_array_rows array ≡ replicate length (null_slot (type_of data_type))) }
     ensures err { IfErr result IsGrowthError }
-    ensures overflow { result ≡ Err Error.Overflow → Fits (type_of data_type) (replicate length (null_slot (type_of data_type))) → ⊥ }
+    ensures overflow { result ≡ Err Error.Overflow
+        → Fits (type_of data_type) (replicate length (null_slot (type_of data_type))) → ⊥ }
 {
     null_rows(alloc, data_type, length)
 }
@@ -206,10 +208,14 @@ fn null_columns(
 ) -> Result<Vec<AnyArray>, Error>
     requires carried { All IsCarried (field_types (type_of data_type.now)) }
     requires some { 0 < length (field_types (type_of data_type.now)) }
-    ensures types { IfOk result (λ columns. map any_array_type columns.items ≡ field_types (type_of data_type.now)) }
-    ensures rows { IfOk result (λ columns. map any_array_rows columns.items ≡ null_columns_of first others (field_types (type_of data_type.now))) }
+    ensures types { IfOk result
+        (λ columns. map any_array_type columns.items ≡ field_types (type_of data_type.now)) }
+    ensures rows { IfOk result
+        (λ columns. map any_array_rows columns.items
+        ≡ null_columns_of first others (field_types (type_of data_type.now))) }
     ensures err { IfErr result IsGrowthError }
-    ensures overflow { result ≡ Err Error.Overflow → FitNullColumns first others (field_types (type_of data_type.now)) → ⊥ }
+    ensures overflow { result ≡ Err Error.Overflow
+        → FitNullColumns first others (field_types (type_of data_type.now)) → ⊥ }
 {
     let fields = types::fields_of(data_type);
     let mut columns = Vec::with_capacity(alloc, fields.len())?;
@@ -227,10 +233,16 @@ fn push_columns(
     count: usize,
 ) -> Result<(), Error>
     requires { All IsCarried (map (λ field. type_in (field_of field)) fields.now) }
-    ensures types { OnOk result (map any_array_type columns.new.items ≡ map any_array_type columns.old.items ++ map (λ field. type_in (field_of field)) fields.now) }
-    ensures rows { OnOk result (map any_array_rows columns.new.items ≡ map any_array_rows columns.old.items ++ map (λ t. nulls_of t count) (map (λ field. type_in (field_of field)) fields.now)) }
+    ensures types { OnOk result
+        (map any_array_type columns.new.items
+        ≡ map any_array_type columns.old.items ++ map (λ field. type_in (field_of field)) fields.now) }
+    ensures rows { OnOk result
+        (map any_array_rows columns.new.items
+        ≡ map any_array_rows columns.old.items ++ map (λ t. nulls_of t count)
+        (map (λ field. type_in (field_of field)) fields.now)) }
     ensures err { IfErr result IsGrowthError }
-    ensures overflow { result ≡ Err Error.Overflow → All (FitNulls count) (map (λ field. type_in (field_of field)) fields.now) → ⊥ }
+    ensures overflow { result ≡ Err Error.Overflow
+        → All (FitNulls count) (map (λ field. type_in (field_of field)) fields.now) → ⊥ }
 {
     for field in fields {
         let column = null_rows(alloc, field.data_type().clone()?, count)?;

@@ -59,9 +59,18 @@ impl Model for StructArray {
 
     ghost use Rattle.arrow_arrays.specs.Any.{layout_of};
 
-    ghost view = { λ a. record { arrow_type = type_of a.data_type; validity = a.validity; children = map layout_of a.values.items } };
+    ghost view = { λ a. record {
+      arrow_type = type_of a.data_type;
+      validity = a.validity;
+      children = map layout_of a.values.items;
+    } };
 
-    ghost invariant = { λ a. IsStruct (record { arrow_type = type_of a.data_type; validity = a.validity; children = map layout_of a.values.items }) };
+    ghost invariant = { λ a. IsStruct
+        (record {
+          arrow_type = type_of a.data_type;
+          validity = a.validity;
+          children = map layout_of a.values.items;
+        }) };
 
     ghost size = { λ p. depth (struct_layout p) };
 
@@ -83,9 +92,20 @@ impl StructArray {
         values: Vec<AnyArray>,
         validity: Option<Bitmap>,
     ) -> Result<StructArray, Error>
-        ensures ok { IfOk result (λ array. array ≡ record { arrow_type = type_of data_type; validity = validity; children = map layout_of values.items }) }
-        ensures sound { OnOk result (IsStruct (record { arrow_type = type_of data_type; validity = validity; children = map layout_of values.items })) }
-        ensures fault { IfErr result (IsStructFault (type_of data_type) (map layout_of values.items) validity) }
+        ensures ok { IfOk result (λ array. array
+            ≡ record {
+              arrow_type = type_of data_type;
+              validity = validity;
+              children = map layout_of values.items;
+            }) }
+        ensures sound { OnOk result
+            (IsStruct (record {
+              arrow_type = type_of data_type;
+              validity = validity;
+              children = map layout_of values.items;
+            })) }
+        ensures fault { IfErr result
+            (IsStructFault (type_of data_type) (map layout_of values.items) validity) }
     {
         check_struct(&data_type, &values, &validity)?;
         Ok(StructArray {
@@ -212,7 +232,8 @@ impl StructArray {
         requires one_type { self.now.arrow_type ≡ other.now.arrow_type }
         requires here { i < row_count self.now.children }
         requires there { j < row_count other.now.children }
-        ensures { IsTrue result ↔ (slice_index_or (struct_rows self.now) i Null ≡ slice_index_or (struct_rows other.now) j Null) }
+        ensures { IsTrue result ↔ (slice_index_or (struct_rows self.now) i Null
+            ≡ slice_index_or (struct_rows other.now) j Null) }
     {
         match (self.has_bit(i), other.has_bit(j)) {
             (true, true) => equal_parts(&self.values, i, &other.values, j),
@@ -234,7 +255,8 @@ impl StructArray {
         requires one_type { self.now.arrow_type ≡ other.now.arrow_type }
         requires here { start + len ≤ length (struct_rows self.now) }
         requires there { other_start + len ≤ length (struct_rows other.now) }
-        ensures { IsTrue result ↔ (sliced (struct_rows self.now) start len ≡ sliced (struct_rows other.now) other_start len) }
+        ensures { IsTrue result ↔ (sliced (struct_rows self.now) start len
+            ≡ sliced (struct_rows other.now) other_start len) }
     {
         // lengths fit a `usize`, and so do the places below
         let (_rows, _other_rows) = (self.len(), other.len());
@@ -263,7 +285,8 @@ fn check_struct(
     validity: &Option<Bitmap>,
 ) -> Result<(), Error>
     ensures ok { OnOk result (HoldsStruct (type_of data_type.now) (map layout_of values.now) validity.now) }
-    ensures fault { IfErr result (IsStructFault (type_of data_type.now) (map layout_of values.now) validity.now) }
+    ensures fault { IfErr result
+        (IsStructFault (type_of data_type.now) (map layout_of values.now) validity.now) }
 {
     if !is_carried_as(data_type, PhysicalType::Struct) {
         return Err(Error::OutOfSpec(SpecPart::Kind));
@@ -348,7 +371,9 @@ impl PartialEq for StructArray {
 
     fn eq(&self, other: &StructArray) -> bool
         ensures value { result ≡ same_by meaning_code (struct_meaning self.now) (struct_meaning other.now) }
-        ensures rows { IsTrue result ↔ ((self.now.arrow_type ≡ other.now.arrow_type) × (struct_rows self.now ≡ struct_rows other.now)) }
+        ensures rows { IsTrue result
+            ↔ ((self.now.arrow_type ≡ other.now.arrow_type)
+            × (struct_rows self.now ≡ struct_rows other.now)) }
     {
         self.data_type == other.data_type && self.equal_rows(other)
     }

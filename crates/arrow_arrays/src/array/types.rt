@@ -75,7 +75,8 @@ pub fn mode(data_type: &DataType) -> UnionMode
 // The position of the field of a union that has a type id, if one has.
 pub(crate) fn field_of_id(data_type: &DataType, id: i8) -> Option<usize>
     requires { IsCarriedAs physical.Union (type_of data_type.now) }
-    ensures { FindsField (field_ids (type_of data_type.now)) (length (field_types (type_of data_type.now))) id result }
+    ensures { FindsField (field_ids (type_of data_type.now)) (length (field_types (type_of data_type.now)))
+        id result }
 {
     match data_type {
         DataType::Union(fields, ids, _) => match ids {
@@ -112,7 +113,8 @@ fn position_among(id: i8, ids: &[i32]) -> Option<usize>
 
 // Whether arrays have the types of fields, one each.
 pub(crate) fn have_types(values: &[AnyArray], fields: &[Field]) -> bool
-    ensures { IsTrue result ↔ (map any_array_type values.now ≡ map (λ field. type_in (field_of field)) fields.now) }
+    ensures { IsTrue result ↔ (map any_array_type values.now
+        ≡ map (λ field. type_in (field_of field)) fields.now) }
 {
     if values.len() != fields.len() {
         return false;

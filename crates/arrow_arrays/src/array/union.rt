@@ -67,15 +67,29 @@ impl Model for UnionArray {
 
     ghost use Rattle.arrow_arrays.specs.Any.{layout_of};
 
-    ghost view = { λ a. record { arrow_type = type_of a.data_type; types = a.types; child_rows = child_rows_of a.offsets; start = a.start; children = map layout_of a.fields.items } };
+    ghost view = { λ a. record {
+      arrow_type = type_of a.data_type;
+      types = a.types;
+      child_rows = child_rows_of a.offsets;
+      start = a.start;
+      children = map layout_of a.fields.items;
+    } };
 
-    ghost invariant = { λ a. IsUnion a.offsets (record { arrow_type = type_of a.data_type; types = a.types; child_rows = child_rows_of a.offsets; start = a.start; children = map layout_of a.fields.items }) };
+    ghost invariant = { λ a. IsUnion a.offsets
+        (record {
+          arrow_type = type_of a.data_type;
+          types = a.types;
+          child_rows = child_rows_of a.offsets;
+          start = a.start;
+          children = map layout_of a.fields.items;
+        }) };
 
     ghost size = { λ p. depth (union_layout p) };
 
     ghost use Rattle.arrow_arrays.specs.UnionFalls.{variants_fall};
 
-    ghost size_decreases = { λ a h. variants_fall a.fields.items (type_of a.data_type) a.types (child_rows_of a.offsets) a.start };
+    ghost size_decreases = { λ a h. variants_fall a.fields.items (type_of a.data_type) a.types
+        (child_rows_of a.offsets) a.start };
 }
 
 impl UnionArray {
@@ -95,9 +109,24 @@ impl UnionArray {
         fields: Vec<AnyArray>,
         offsets: Option<Buffer<i32>>,
     ) -> Result<UnionArray, Error>
-        ensures ok { IfOk result (λ array. array ≡ (record { arrow_type = type_of data_type; types = types; child_rows = child_rows_of offsets; start = 0; children = map layout_of fields.items })) }
-        ensures sound { OnOk result (IsUnion offsets (record { arrow_type = type_of data_type; types = types; child_rows = child_rows_of offsets; start = 0; children = map layout_of fields.items })) }
-        ensures fault { IfErr result (IsUnionFault (type_of data_type) types (map layout_of fields.items) offsets) }
+        ensures ok { IfOk result (λ array. array
+            ≡ (record {
+              arrow_type = type_of data_type;
+              types = types;
+              child_rows = child_rows_of offsets;
+              start = 0;
+              children = map layout_of fields.items;
+            })) }
+        ensures sound { OnOk result
+            (IsUnion offsets (record {
+              arrow_type = type_of data_type;
+              types = types;
+              child_rows = child_rows_of offsets;
+              start = 0;
+              children = map layout_of fields.items;
+            })) }
+        ensures fault { IfErr result
+            (IsUnionFault (type_of data_type) types (map layout_of fields.items) offsets) }
     {
         // There are at most as many rows as a `usize` counts.
         let _ = types.len();
@@ -123,7 +152,8 @@ impl UnionArray {
     /// The type id of each row.
     pub fn types(&self) -> &Buffer<i8>
         ensures same { result.now ≡ self.now.types }
-        ensures known { All (IsKnown (field_ids self.now.arrow_type) (length self.now.children)) self.now.types }
+        ensures known { All (IsKnown (field_ids self.now.arrow_type) (length self.now.children))
+            self.now.types }
     {
         &self.types
     }
@@ -133,7 +163,8 @@ impl UnionArray {
         ensures same { map layout_of result.now ≡ self.now.children }
         ensures fields { map type_of_layout self.now.children ≡ field_types self.now.arrow_type }
         ensures some { 0 < length self.now.children }
-        ensures spans { SpansRows self.now.child_rows self.now.start (length self.now.types) self.now.children }
+        ensures spans { SpansRows self.now.child_rows self.now.start (length self.now.types)
+            self.now.children }
     {
         &self.fields
     }
@@ -160,9 +191,13 @@ impl UnionArray {
     /// `i` is below the count of rows.
     pub fn index(&self, i: usize) -> (usize, usize)
         requires { i < length self.now.types }
-        ensures row { slice_index_or (union_rows self.now) i Null ≡ Variant (slice_index_or self.now.types i (pos 0)) (row_in self.now.children result.0 result.1) }
-        ensures child_row { slice_get (child_rows_by self.now.child_rows self.now.start (length self.now.types)) i ≡ Some result.1 }
-        ensures field { FindsField (field_ids self.now.arrow_type) (length self.now.children) (slice_index_or self.now.types i (pos 0)) (Some result.0) }
+        ensures row { slice_index_or (union_rows self.now) i Null
+            ≡ Variant (slice_index_or self.now.types i (pos 0))
+            (row_in self.now.children result.0 result.1) }
+        ensures child_row { slice_get
+            (child_rows_by self.now.child_rows self.now.start (length self.now.types)) i ≡ Some result.1 }
+        ensures field { FindsField (field_ids self.now.arrow_type) (length self.now.children)
+            (slice_index_or self.now.types i (pos 0)) (Some result.0) }
         ensures within { result.1 < length (rows_of_field self.now.children result.0) }
     {
         // Its reading opens the parts, so that each row lies in a field.
@@ -173,7 +208,8 @@ impl UnionArray {
     /// The field that row `i` lies in: the first that has its type id.
     fn field_of(&self, i: usize) -> usize
         requires { i < length self.now.types }
-        ensures { FindsField (field_ids self.now.arrow_type) (length self.now.children) (slice_index_or self.now.types i (pos 0)) (Some result) }
+        ensures { FindsField (field_ids self.now.arrow_type) (length self.now.children)
+            (slice_index_or self.now.types i (pos 0)) (Some result) }
     {
         let Some(field) = types::field_of_id(&self.data_type, self.types.as_slice()[i]) else {
             unreachable!();
@@ -184,7 +220,8 @@ impl UnionArray {
     /// The row of its child that row `i` lies in.
     fn child_row_of(&self, i: usize) -> usize
         requires { i < length self.now.types }
-        ensures { slice_get (child_rows_by self.now.child_rows self.now.start (length self.now.types)) i ≡ Some result }
+        ensures { slice_get (child_rows_by self.now.child_rows self.now.start (length self.now.types)) i
+            ≡ Some result }
     {
         match &self.offsets {
             None => self.start + i,
@@ -268,7 +305,8 @@ impl UnionArray {
         requires one_type { self.now.arrow_type ≡ other.now.arrow_type }
         requires here { i < length self.now.types }
         requires there { j < length other.now.types }
-        ensures { IsTrue result ↔ (slice_index_or (union_rows self.now) i Null ≡ slice_index_or (union_rows other.now) j Null) }
+        ensures { IsTrue result ↔ (slice_index_or (union_rows self.now) i Null
+            ≡ slice_index_or (union_rows other.now) j Null) }
     {
         let (field, row) = self.index(i);
         let (other_field, other_row) = other.index(j);
@@ -289,7 +327,8 @@ impl UnionArray {
         requires one_type { self.now.arrow_type ≡ other.now.arrow_type }
         requires here { start + len ≤ length (union_rows self.now) }
         requires there { other_start + len ≤ length (union_rows other.now) }
-        ensures { IsTrue result ↔ (sliced (union_rows self.now) start len ≡ sliced (union_rows other.now) other_start len) }
+        ensures { IsTrue result ↔ (sliced (union_rows self.now) start len
+            ≡ sliced (union_rows other.now) other_start len) }
     {
         // lengths fit a `usize`, and so do the child_rows below
         let (_rows, _other_rows) = (self.len(), other.len());
@@ -318,8 +357,10 @@ fn check_union(
     fields: &[AnyArray],
     offsets: &Option<Buffer<i32>>,
 ) -> Result<(), Error>
-    ensures ok { OnOk result (HoldsUnion (type_of data_type.now) types.now (map layout_of fields.now) offsets.now) }
-    ensures fault { IfErr result (IsUnionFault (type_of data_type.now) types.now (map layout_of fields.now) offsets.now) }
+    ensures ok { OnOk result (HoldsUnion (type_of data_type.now) types.now (map layout_of fields.now)
+        offsets.now) }
+    ensures fault { IfErr result
+        (IsUnionFault (type_of data_type.now) types.now (map layout_of fields.now) offsets.now) }
 {
     if !is_carried_as(data_type, PhysicalType::Union) {
         return Err(Error::OutOfSpec(SpecPart::Kind));
@@ -366,7 +407,8 @@ fn fits_offsets(
     requires kind { IsCarriedAs physical.Union (type_of data_type.now) }
     requires children { map any_array_type fields.now ≡ field_types (type_of data_type.now) }
     requires counts { IfSome offsets.now (λ zs. length zs ≡ length types.now) }
-    ensures { IsTrue result ↔ FitsOffsets (field_ids (type_of data_type.now)) (map layout_of fields.now) types.now offsets.now }
+    ensures { IsTrue result ↔ FitsOffsets (field_ids (type_of data_type.now)) (map layout_of fields.now)
+        types.now offsets.now }
 {
     match offsets {
         None => true,
@@ -385,7 +427,9 @@ fn are_inside(
     requires kind { IsCarriedAs physical.Union (type_of data_type.now) }
     requires children { map any_array_type fields.now ≡ field_types (type_of data_type.now) }
     requires count { length offsets.now ≡ length types.now }
-    ensures { IsTrue result ↔ All (λ row. IsInside (field_ids (type_of data_type.now)) (map layout_of fields.now) row.0 row.1) (zip types.now offsets.now) }
+    ensures { IsTrue result ↔ All
+        (λ row. IsInside (field_ids (type_of data_type.now)) (map layout_of fields.now) row.0 row.1)
+        (zip types.now offsets.now) }
 {
     let (ids, child_rows) = (types.as_slice(), offsets.as_slice());
     for i in 0..ids.len() {
@@ -400,7 +444,8 @@ fn are_inside(
 fn is_inside(data_type: &DataType, id: i8, fields: &[AnyArray], offset: i32) -> bool
     requires kind { IsCarriedAs physical.Union (type_of data_type.now) }
     requires children { map any_array_type fields.now ≡ field_types (type_of data_type.now) }
-    ensures { IsTrue result ↔ IsInside (field_ids (type_of data_type.now)) (map layout_of fields.now) id offset }
+    ensures { IsTrue result ↔ IsInside (field_ids (type_of data_type.now)) (map layout_of fields.now) id
+        offset }
 {
     match types::field_of_id(data_type, id) {
         None => true,
@@ -411,7 +456,9 @@ fn is_inside(data_type: &DataType, id: i8, fields: &[AnyArray], offset: i32) -> 
 // Whether each type id is one of a field.
 fn are_known(data_type: &DataType, types: &Buffer<i8>) -> bool
     requires { IsCarriedAs physical.Union (type_of data_type.now) }
-    ensures { IsTrue result ↔ All (IsKnown (field_ids (type_of data_type.now)) (length (field_types (type_of data_type.now)))) types.now }
+    ensures { IsTrue result ↔ All
+        (IsKnown (field_ids (type_of data_type.now)) (length (field_types (type_of data_type.now))))
+        types.now }
 {
     for id in types.as_slice() {
         if !is_known(data_type, *id) {
@@ -424,7 +471,8 @@ fn are_known(data_type: &DataType, types: &Buffer<i8>) -> bool
 // Whether a type id is one of a field.
 fn is_known(data_type: &DataType, id: i8) -> bool
     requires { IsCarriedAs physical.Union (type_of data_type.now) }
-    ensures { IsTrue result ↔ IsKnown (field_ids (type_of data_type.now)) (length (field_types (type_of data_type.now))) id }
+    ensures { IsTrue result ↔ IsKnown (field_ids (type_of data_type.now))
+        (length (field_types (type_of data_type.now))) id }
 {
     match types::field_of_id(data_type, id) {
         None => false,
@@ -467,7 +515,9 @@ impl PartialEq for UnionArray {
 
     fn eq(&self, other: &UnionArray) -> bool
         ensures value { result ≡ same_by meaning_code (union_meaning self.now) (union_meaning other.now) }
-        ensures rows { IsTrue result ↔ ((self.now.arrow_type ≡ other.now.arrow_type) × (union_rows self.now ≡ union_rows other.now)) }
+        ensures rows { IsTrue result
+            ↔ ((self.now.arrow_type ≡ other.now.arrow_type)
+            × (union_rows self.now ≡ union_rows other.now)) }
     {
         self.data_type == other.data_type && self.equal_rows(other)
     }

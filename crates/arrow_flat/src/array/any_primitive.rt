@@ -189,7 +189,8 @@ impl AnyPrimitive {
         requires one_type { element_of self.now ≡ element_of other.now }
         requires here { start + len ≤ length (any_rows self.now) }
         requires there { other_start + len ≤ length (any_rows other.now) }
-        ensures { IsTrue result ↔ (sliced (any_rows self.now) start len ≡ sliced (any_rows other.now) other_start len) }
+        ensures { IsTrue result ↔ (sliced (any_rows self.now) start len
+            ≡ sliced (any_rows other.now) other_start len) }
     {
         of_both!((self, other), (left, right) => left.equal_range(start, right, other_start, len))
     }
@@ -221,7 +222,8 @@ impl PartialEq for AnyPrimitive {
 
     fn eq(&self, other: &AnyPrimitive) -> bool
         ensures value { result ≡ same_by meaning_code (any_meaning self.now) (any_meaning other.now) }
-        ensures rows { IsTrue result ↔ ((any_type self.now ≡ any_type other.now) × (any_rows self.now ≡ any_rows other.now)) }
+        ensures rows { IsTrue result
+            ↔ ((any_type self.now ≡ any_type other.now) × (any_rows self.now ≡ any_rows other.now)) }
     {
         self.data_type() == other.data_type() && self.equal_rows(other)
     }

@@ -59,9 +59,13 @@ impl FlatArray<Bitmap> {
         values: Bitmap,
         validity: Option<Bitmap>,
     ) -> Result<FlatArray<Bitmap>, Error>
-        ensures ok { IfOk result (λ array. array ≡ record { arrow_type = type_of data_type; values = values; validity = validity }) }
-        ensures sound { OnOk result (IsCarriedAs physical.Boolean (type_of data_type) × FitsRows validity (length values)) }
-        ensures fault { IfErr result (NamesKindOrLength (IsCarriedAs physical.Boolean (type_of data_type)) (FitsRows validity (length values))) }
+        ensures ok { IfOk result (λ array. array
+            ≡ record { arrow_type = type_of data_type; values = values; validity = validity }) }
+        ensures sound { OnOk result
+            (IsCarriedAs physical.Boolean (type_of data_type) × FitsRows validity (length values)) }
+        ensures fault { IfErr result
+            (NamesKindOrLength (IsCarriedAs physical.Boolean (type_of data_type))
+            (FitsRows validity (length values))) }
     {
         if !is_carried_as(&data_type, PhysicalType::Boolean) {
             return Err(Error::OutOfSpec(SpecPart::Kind));

@@ -131,7 +131,8 @@ impl<O: Offset, K: ByteKind> Values for ByteRows<O, K> {
 
     ghost stored = { λ rows. All-map IsValue K.slot (row_bytes rows) (λ k d within. K.values _) };
 
-    ghost slots_of_slice = { λ rows offset len within. slots_of_pieces K.slot rows.offsets rows.bytes offset len };
+    ghost slots_of_slice = { λ rows offset len within. slots_of_pieces K.slot rows.offsets rows.bytes offset
+        len };
 
     ghost slice_is_of = { λ x t offset len kind. kind };
 }
@@ -169,7 +170,8 @@ fn are_as_long<O: Offset>(
 ) -> bool
     requires here { start + len < length offsets.now }
     requires there { other_start + len < length others.now }
-    ensures { IsTrue result ↔ (sliced (lengths offsets.now) start len ≡ sliced (lengths others.now) other_start len) }
+    ensures { IsTrue result ↔ (sliced (lengths offsets.now) start len
+        ≡ sliced (lengths others.now) other_start len) }
 {
     // Places are those of a `usize`, as the counts of offsets are.
     let _ = (offsets.len(), others.len());
@@ -211,7 +213,11 @@ impl<O: Offset, K: ByteKind> FlatArray<ByteRows<O, K>> {
         requires length { FitsRows validity (length offsets - 1) }
         requires offsets { last_of offsets ≤ length values }
         requires text { All K.Allows (pieces offsets values) }
-        ensures { result ≡ record { arrow_type = type_of data_type; values = record { offsets = offsets; bytes = values }; validity = validity } }
+        ensures { result ≡ record {
+          arrow_type = type_of data_type;
+          values = record { offsets = offsets; bytes = values };
+          validity = validity;
+        } }
     {
         // That the offsets never fall is theirs to say.
         let _ = offsets.len();
@@ -239,9 +245,20 @@ impl<O: Offset, K: ByteKind> FlatArray<ByteRows<O, K>> {
         values: Buffer<u8>,
         validity: Option<Bitmap>,
     ) -> Result<FlatArray<ByteRows<O, K>>, Error>
-        ensures ok { IfOk result (λ array. array ≡ record { arrow_type = type_of data_type; values = record { offsets = offsets; bytes = values }; validity = validity }) }
-        ensures sound { OnOk result (IsCarriedAs (K.physical_type O.IS_LARGE) (type_of data_type) × FitsRows validity (length offsets - 1) × (last_of offsets ≤ length values) × All K.Allows (pieces offsets values)) }
-        ensures fault { IfErr result (NamesFirst (IsCarriedAs (K.physical_type O.IS_LARGE) (type_of data_type)) (FitsRows validity (length offsets - 1)) (last_of offsets ≤ length values) (All K.Allows (pieces offsets values))) }
+        ensures ok { IfOk result (λ array. array
+            ≡ record {
+              arrow_type = type_of data_type;
+              values = record { offsets = offsets; bytes = values };
+              validity = validity;
+            }) }
+        ensures sound { OnOk result
+            (IsCarriedAs (K.physical_type O.IS_LARGE) (type_of data_type)
+            × FitsRows validity (length offsets - 1) × (last_of offsets ≤ length values)
+            × All K.Allows (pieces offsets values)) }
+        ensures fault { IfErr result
+            (NamesFirst (IsCarriedAs (K.physical_type O.IS_LARGE) (type_of data_type))
+            (FitsRows validity (length offsets - 1)) (last_of offsets ≤ length values)
+            (All K.Allows (pieces offsets values))) }
     {
         if !is_carried_as(&data_type, K::physical_type(O::IS_LARGE)) {
             return Err(Error::OutOfSpec(SpecPart::Kind));

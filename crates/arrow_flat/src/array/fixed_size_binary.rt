@@ -79,7 +79,8 @@ impl FixedRows {
 impl Values for FixedRows {
     ghost slots = { fixed_slots };
 
-    ghost are_of = { λ rows t. (physical_type_of t ≡ physical.FixedSizeBinary) × (rows.size ≡ fixed_size_in t) };
+    ghost are_of = { λ rows t. (physical_type_of t ≡ physical.FixedSizeBinary)
+        × (rows.size ≡ fixed_size_in t) };
 
     ghost slice = { fixed_slice };
 
@@ -101,7 +102,8 @@ impl Values for FixedRows {
 
     ghost stored = { λ rows. All-map IsValue Bytes (fixed_row_bytes rows) (λ k d within. refl) };
 
-    ghost slots_of_slice = { λ rows offset len within. slots_of_chunks Bytes rows.count rows.size rows.bytes offset len within };
+    ghost slots_of_slice = { λ rows offset len within. slots_of_chunks Bytes rows.count rows.size rows.bytes
+        offset len within };
 
     ghost slice_is_of = { λ x t offset len kind. kind };
 }
@@ -143,9 +145,22 @@ impl FlatArray<FixedRows> {
         values: Buffer<u8>,
         validity: Option<Bitmap>,
     ) -> Result<FixedSizeBinaryArray, Error>
-        ensures ok { IfOk result (λ array. array ≡ record { arrow_type = type_of data_type; values = record { size = fixed_size_in (type_of data_type); count = length values / fixed_size_in (type_of data_type); bytes = values }; validity = validity }) }
-        ensures sound { OnOk result (IsCarriedAs physical.FixedSizeBinary (type_of data_type) × FitsBytes (fixed_size_in (type_of data_type)) (length values) validity) }
-        ensures fault { IfErr result (NamesKindOrLength (IsCarriedAs physical.FixedSizeBinary (type_of data_type)) (FitsBytes (fixed_size_in (type_of data_type)) (length values) validity)) }
+        ensures ok { IfOk result (λ array. array
+            ≡ record {
+              arrow_type = type_of data_type;
+              values = record {
+                size = fixed_size_in (type_of data_type);
+                count = length values / fixed_size_in (type_of data_type);
+                bytes = values;
+              };
+              validity = validity;
+            }) }
+        ensures sound { OnOk result
+            (IsCarriedAs physical.FixedSizeBinary (type_of data_type)
+            × FitsBytes (fixed_size_in (type_of data_type)) (length values) validity) }
+        ensures fault { IfErr result
+            (NamesKindOrLength (IsCarriedAs physical.FixedSizeBinary (type_of data_type))
+            (FitsBytes (fixed_size_in (type_of data_type)) (length values) validity)) }
     {
         if !is_carried_as(&data_type, PhysicalType::FixedSizeBinary) {
             return Err(Error::OutOfSpec(SpecPart::Kind));

@@ -56,9 +56,11 @@ impl NullArray {
     /// # Errors
     /// `OutOfSpec(Kind)` where the data type is not carried or has another physical type.
     pub fn try_new(data_type: DataType, length: usize) -> Result<NullArray, Error>
-        ensures ok { IfOk result (λ array. array ≡ record { arrow_type = type_of data_type; count = length }) }
+        ensures ok { IfOk result (λ array. array
+            ≡ record { arrow_type = type_of data_type; count = length }) }
         ensures sound { OnOk result (IsCarriedAs physical.Null (type_of data_type)) }
-        ensures fault { IfErr result (NamesKindOrLength (IsCarriedAs physical.Null (type_of data_type)) (Unit {0})) }
+        ensures fault { IfErr result
+            (NamesKindOrLength (IsCarriedAs physical.Null (type_of data_type)) (Unit {0})) }
     {
         if !is_carried_as(&data_type, PhysicalType::Null) {
             return Err(Error::OutOfSpec(SpecPart::Kind));
@@ -161,7 +163,8 @@ impl PartialEq for NullArray {
 
     fn eq(&self, other: &NullArray) -> bool
         ensures value { result ≡ same_by meaning_code (null_meaning self.now) (null_meaning other.now) }
-        ensures rows { IsTrue result ↔ ((self.now.arrow_type ≡ other.now.arrow_type) × (null_rows self.now ≡ null_rows other.now)) }
+        ensures rows { IsTrue result
+            ↔ ((self.now.arrow_type ≡ other.now.arrow_type) × (null_rows self.now ≡ null_rows other.now)) }
     {
         self.data_type == other.data_type && self.length == other.length
     }

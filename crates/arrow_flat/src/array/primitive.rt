@@ -61,9 +61,14 @@ impl<T: NativeType> FlatArray<Buffer<T>> {
         values: Buffer<T>,
         validity: Option<Bitmap>,
     ) -> Result<FlatArray<Buffer<T>>, Error>
-        ensures ok { IfOk result (λ array. array ≡ record { arrow_type = type_of data_type; values = values; validity = validity }) }
-        ensures sound { OnOk result (IsCarriedAs (physical.Primitive T.PRIMITIVE) (type_of data_type) × FitsRows validity (length values)) }
-        ensures fault { IfErr result (NamesKindOrLength (IsCarriedAs (physical.Primitive T.PRIMITIVE) (type_of data_type)) (FitsRows validity (length values))) }
+        ensures ok { IfOk result (λ array. array
+            ≡ record { arrow_type = type_of data_type; values = values; validity = validity }) }
+        ensures sound { OnOk result
+            (IsCarriedAs (physical.Primitive T.PRIMITIVE) (type_of data_type)
+            × FitsRows validity (length values)) }
+        ensures fault { IfErr result
+            (NamesKindOrLength (IsCarriedAs (physical.Primitive T.PRIMITIVE) (type_of data_type))
+            (FitsRows validity (length values))) }
     {
         if !is_carried_as(&data_type, PhysicalType::Primitive(T::PRIMITIVE)) {
             return Err(Error::OutOfSpec(SpecPart::Kind));

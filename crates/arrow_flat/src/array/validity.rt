@@ -40,7 +40,8 @@ pub fn is_valid(validity: &Option<Bitmap>, i: usize) -> bool
 /// The validity marks the nulls of some rows, and `i` is below their count.
 pub fn row_is_valid(validity: Option<&Bitmap>, i: usize) -> bool
     requires { HasRow (option_copied validity) i }
-    ensures { (rows : List Slot) → MarksNulls (option_copied validity.entry) rows → i < length rows → result ≡ not (is_null (slice_index_or rows i Null)) }
+    ensures { (rows : List Slot) → MarksNulls (option_copied validity.entry) rows → i < length rows → result
+        ≡ not (is_null (slice_index_or rows i Null)) }
 {
     match validity {
         None => true,
@@ -82,7 +83,8 @@ pub(crate) fn equal_range(
 ) -> bool
     requires here { IfSome validity.now (λ bits. start + len ≤ length bits) }
     requires there { IfSome other.now (λ bits. other_start + len ≤ length bits) }
-    ensures { IsTrue result ↔ (bits_of_slice validity.now start len ≡ bits_of_slice other.now other_start len) }
+    ensures { IsTrue result ↔ (bits_of_slice validity.now start len
+        ≡ bits_of_slice other.now other_start len) }
 {
     match (validity, other) {
         (None, None) => true,

@@ -13,7 +13,10 @@ pub type BinaryScalar<O> = ByteScalar<O, Binary>;
 impl<O: Offset> ByteScalar<O, Binary> {
     /// Bytes, or a null. It takes no memory.
     pub fn new(value: Option<Vec<u8>>) -> BinaryScalar<O>
-        ensures { result ≡ record { arrow_type = plain (if O.IS_LARGE then large_binary else binary); value = option_map (λ bytes. bytes.items) value } }
+        ensures { result ≡ record {
+          arrow_type = plain (if O.IS_LARGE then large_binary else binary);
+          value = option_map (λ bytes. bytes.items) value;
+        } }
     {
         ByteScalar::of_bytes(value)
     }

@@ -42,16 +42,23 @@ impl<O: Offset, K: ByteKind> Model for ByteScalar<O, K> {
 
     ghost coded = { scalar_code (coded_list coded_ℕ) };
 
-    ghost view = { λ a. record { arrow_type = type_of a.data_type; value = option_map (λ bytes. bytes.items) a.value } };
+    ghost view = { λ a. record {
+      arrow_type = type_of a.data_type;
+      value = option_map (λ bytes. bytes.items) a.value;
+    } };
 
-    ghost invariant = { λ a. IsByteScalar (K.plain_type O.IS_LARGE) K.Allows (record { arrow_type = type_of a.data_type; value = option_map (λ bytes. bytes.items) a.value }) };
+    ghost invariant = { λ a. IsByteScalar (K.plain_type O.IS_LARGE) K.Allows
+        (record { arrow_type = type_of a.data_type; value = option_map (λ bytes. bytes.items) a.value }) };
 }
 
 impl<O: Offset, K: ByteKind> ByteScalar<O, K> {
     /// A row of these bytes, or a null.
     pub(crate) fn of_bytes(value: Option<Vec<u8>>) -> ByteScalar<O, K>
         requires { IfSome value (λ bytes. K.Allows bytes.items) }
-        ensures { result ≡ record { arrow_type = plain (K.plain_type O.IS_LARGE); value = option_map (λ bytes. bytes.items) value } }
+        ensures { result ≡ record {
+          arrow_type = plain (K.plain_type O.IS_LARGE);
+          value = option_map (λ bytes. bytes.items) value;
+        } }
     {
         ByteScalar {
             data_type: K::data_type(O::IS_LARGE),

@@ -54,7 +54,8 @@ impl Model for DictionaryScalar {
 
     ghost view = { λ a. record { arrow_type = type_of a.data_type; value = inner_of a.value } };
 
-    ghost invariant = { λ a. IsDictionary (record { arrow_type = type_of a.data_type; value = inner_of a.value }) };
+    ghost invariant = { λ a. IsDictionary
+        (record { arrow_type = type_of a.data_type; value = inner_of a.value }) };
 
     ghost size = { dict_depth };
 
@@ -74,9 +75,13 @@ impl DictionaryScalar {
         data_type: DataType,
         value: Option<Box<AnyScalar>>,
     ) -> Result<DictionaryScalar, Error>
-        ensures ok { IfOk result (λ scalar. scalar ≡ record { arrow_type = type_of data_type; value = inner_of value }) }
-        ensures sound { OnOk result (HasDictionary (type_of data_type) × IsOf (values_in (type_of data_type)) (inner_of value)) }
-        ensures fault { IfErr result (NamesKindOrChild (HasDictionary (type_of data_type)) (IsOf (values_in (type_of data_type)) (inner_of value))) }
+        ensures ok { IfOk result (λ scalar. scalar
+            ≡ record { arrow_type = type_of data_type; value = inner_of value }) }
+        ensures sound { OnOk result
+            (HasDictionary (type_of data_type) × IsOf (values_in (type_of data_type)) (inner_of value)) }
+        ensures fault { IfErr result
+            (NamesKindOrChild (HasDictionary (type_of data_type))
+            (IsOf (values_in (type_of data_type)) (inner_of value))) }
     {
         let Some(values) = values_of(&data_type) else {
             return Err(Error::OutOfSpec(SpecPart::Kind));
@@ -147,7 +152,9 @@ impl AnyScalar {
 
 // The type of a dictionary's values, or `None` where the data type is no dictionary's.
 fn values_of(data_type: &DataType) -> Option<&DataType>
-    ensures { MatchOption result (HasDictionary (type_of data_type.now) → ⊥) (λ values. HasDictionary (type_of data_type.now) × (type_of values.now ≡ values_in (type_of data_type.now))) }
+    ensures { MatchOption result (HasDictionary (type_of data_type.now) → ⊥)
+        (λ values. HasDictionary (type_of data_type.now)
+        × (type_of values.now ≡ values_in (type_of data_type.now))) }
 {
     match data_type {
         DataType::Dictionary(_, values, _) => Some(values),

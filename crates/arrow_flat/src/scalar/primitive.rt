@@ -51,9 +51,12 @@ impl<T: NativeType> PrimitiveScalar<T> {
     /// # Errors
     /// `OutOfSpec(Kind)` where the data type is not carried or has another physical type.
     pub fn try_new(data_type: DataType, value: Option<T>) -> Result<PrimitiveScalar<T>, Error>
-        ensures ok { IfOk result (λ scalar. scalar ≡ record { arrow_type = type_of data_type; value = value }) }
+        ensures ok { IfOk result (λ scalar. scalar
+            ≡ record { arrow_type = type_of data_type; value = value }) }
         ensures sound { OnOk result (IsCarriedAs (physical.Primitive T.PRIMITIVE) (type_of data_type)) }
-        ensures fault { IfErr result (NamesKindOrLength (IsCarriedAs (physical.Primitive T.PRIMITIVE) (type_of data_type)) (Unit {0})) }
+        ensures fault { IfErr result
+            (NamesKindOrLength (IsCarriedAs (physical.Primitive T.PRIMITIVE) (type_of data_type))
+            (Unit {0})) }
     {
         if !is_carried_as(&data_type, PhysicalType::Primitive(T::PRIMITIVE)) {
             return Err(Error::OutOfSpec(SpecPart::Kind));

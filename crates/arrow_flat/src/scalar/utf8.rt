@@ -24,7 +24,10 @@ fn into_bytes(text: Option<String>) -> Option<Vec<u8>>
 impl<O: Offset> ByteScalar<O, Text> {
     /// A text, or a null. It takes no memory.
     pub fn new(value: Option<String>) -> Utf8Scalar<O>
-        ensures { result ≡ record { arrow_type = plain (if O.IS_LARGE then large_utf8 else utf8); value = option_map string_bytes value } }
+        ensures { result ≡ record {
+          arrow_type = plain (if O.IS_LARGE then large_utf8 else utf8);
+          value = option_map string_bytes value;
+        } }
     {
         ByteScalar::of_bytes(into_bytes(value))
     }

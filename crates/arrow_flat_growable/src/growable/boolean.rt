@@ -118,9 +118,11 @@ impl GrowableValues for GrowableBits {
         Ok(AnyArray::Boolean(array))
     }
 
-    ghost rows_of_slice = { λ array start len fits within. mask-part array.validity (map Boolean array.values) start len within };
+    ghost rows_of_slice = { λ array start len fits within. mask-part array.validity
+        (map Boolean array.values) start len within };
 
-    ghost length_of_slice = { λ array start len fits within. length-sliced (map Boolean array.values) start len within };
+    ghost length_of_slice = { λ array start len fits within. length-sliced (map Boolean array.values) start
+        len within };
 
     ghost length_of_blanks = { λ bits n. length-replicate n (Boolean false) };
 
@@ -132,7 +134,8 @@ impl GrowableValues for GrowableBits {
 
     ghost spares_blanks = { λ bits stored x n spared same. tt };
 
-    ghost fits_stored = { λ x t bits stored kind spared same. fits_unmasked t bits stored (ap is_counted kind) same };
+    ghost fits_stored = { λ x t bits stored kind spared same. fits_unmasked t bits stored
+        (ap is_counted kind) same };
 
     ghost fits_rows = { λ x t bits stored kind same. fits_mask t bits stored (ap is_counted kind) same };
 }

@@ -446,7 +446,8 @@ impl<O: AnyOffset, K: GrowableKind> GrowableValues for GrowableBytes<O, K> {
 
     ghost kind = { K.any_kind O.IS_LARGE };
 
-    ghost stored_slice = { λ array start len. map K.slot (stored_rows array.validity array.values start len) };
+    ghost stored_slice = { λ array start len. map K.slot
+        (stored_rows array.validity array.values start len) };
 
     ghost blanks = { λ rows n. replicate n (K.slot []) };
 
@@ -513,21 +514,28 @@ impl<O: AnyOffset, K: GrowableKind> GrowableValues for GrowableBytes<O, K> {
         K::to_any(&array)
     }
 
-    ghost rows_of_slice = { λ a start len fits within. laws.rows_of_slice K.slot a.validity a.values start len fits within };
+    ghost rows_of_slice = { λ a start len fits within. laws.rows_of_slice K.slot a.validity a.values start
+        len fits within };
 
-    ghost length_of_slice = { λ a start len fits within. laws.length_of_slice K.slot a.validity a.values start len fits within };
+    ghost length_of_slice = { λ a start len fits within. laws.length_of_slice K.slot a.validity a.values
+        start len fits within };
 
     ghost length_of_blanks = { λ x n. length-replicate n (K.slot []) };
 
-    ghost null_of = { λ x t kind. laws.null_of O.IS_LARGE t (K.physical_type O.IS_LARGE) (K.lies_as_bytes O.IS_LARGE) kind };
+    ghost null_of = { λ x t kind. laws.null_of O.IS_LARGE t (K.physical_type O.IS_LARGE)
+        (K.lies_as_bytes O.IS_LARGE) kind };
 
     ghost spares_none = { refl };
 
-    ghost spares_slice = { λ bits stored a start len fits within spares same. laws.spares_slice K.slot K.counts bits stored a.validity a.values start len fits within spares same };
+    ghost spares_slice = { λ bits stored a start len fits within spares same. laws.spares_slice K.slot
+        K.counts bits stored a.validity a.values start len fits within spares same };
 
-    ghost spares_blanks = { λ bits stored x n spares same. laws.spares_blanks (K.slot []) (K.counts []) bits stored n spares same };
+    ghost spares_blanks = { λ bits stored x n spares same. laws.spares_blanks (K.slot []) (K.counts []) bits
+        stored n spares same };
 
-    ghost fits_stored = { λ x t bits stored kind spares same fits. laws.fits_stored O.IS_LARGE t (K.physical_type O.IS_LARGE) (K.lies_as_bytes O.IS_LARGE) kind bits stored spares same fits };
+    ghost fits_stored = { λ x t bits stored kind spares same fits. laws.fits_stored O.IS_LARGE t
+        (K.physical_type O.IS_LARGE) (K.lies_as_bytes O.IS_LARGE) kind bits stored spares same fits };
 
-    ghost fits_rows = { λ x t bits stored kind same fits. laws.fits_rows O.IS_LARGE t (K.physical_type O.IS_LARGE) (K.lies_as_bytes O.IS_LARGE) kind bits stored same fits };
+    ghost fits_rows = { λ x t bits stored kind same fits. laws.fits_rows O.IS_LARGE t
+        (K.physical_type O.IS_LARGE) (K.lies_as_bytes O.IS_LARGE) kind bits stored same fits };
 }

@@ -45,7 +45,8 @@ impl Model for GrowableFixedRows {
 
     ghost view = { λ a. record { size = a.size; count = a.count; bytes = a.bytes.items } };
 
-    ghost invariant = { λ a. AreFixedRows (record { size = a.size; count = a.count; bytes = a.bytes.items }) };
+    ghost invariant = { λ a. AreFixedRows
+        (record { size = a.size; count = a.count; bytes = a.bytes.items }) };
 }
 
 // How many rows of a size there are with more behind them, and how many bytes these have.
@@ -76,7 +77,8 @@ impl GrowableValues for GrowableFixedRows {
 
     ghost slots = { fixed_slots };
 
-    ghost are_of = { λ rows t. (physical_type_of t ≡ physical.FixedSizeBinary) × (rows.size ≡ fixed_size_in t) };
+    ghost are_of = { λ rows t. (physical_type_of t ≡ physical.FixedSizeBinary)
+        × (rows.size ≡ fixed_size_in t) };
 
     ghost kind = { fixed_size_binary_kind };
 
@@ -165,9 +167,11 @@ impl GrowableValues for GrowableFixedRows {
         Ok(AnyArray::FixedSizeBinary(array))
     }
 
-    ghost rows_of_slice = { λ array start len fits within. mask-part array.validity (fixed_slots array.values) start len within };
+    ghost rows_of_slice = { λ array start len fits within. mask-part array.validity
+        (fixed_slots array.values) start len within };
 
-    ghost length_of_slice = { λ array start len fits within. length-sliced (fixed_slots array.values) start len within };
+    ghost length_of_slice = { λ array start len fits within. length-sliced (fixed_slots array.values) start
+        len within };
 
     ghost length_of_blanks = { λ rows n. length-replicate n (Bytes (replicate rows.size 0)) };
 
@@ -179,7 +183,8 @@ impl GrowableValues for GrowableFixedRows {
 
     ghost spares_blanks = { λ bits stored x n spared same. tt };
 
-    ghost fits_stored = { λ x t bits stored kind spared same. fits_unmasked t bits stored (ap is_counted kind.0) same };
+    ghost fits_stored = { λ x t bits stored kind spared same. fits_unmasked t bits stored
+        (ap is_counted kind.0) same };
 
     ghost fits_rows = { λ x t bits stored kind same. fits_mask t bits stored (ap is_counted kind.0) same };
 }

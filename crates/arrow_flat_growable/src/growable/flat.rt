@@ -131,10 +131,15 @@ pub trait GrowableValues: Drop {
         ensures err { IsOkUnless result Error.OutOfMemory };
 
     // a part under its bits has the rows of that part
-    ghost rows_of_slice: { (array : Self.Array) (start len : ℕ) → FitsRows (bits_in array) (length (stored_in array)) → start + len ≤ length (stored_in array) → mask (bits_of_slice (bits_in array) start len) (stored_slice array start len) ≡ sliced (masked (bits_in array) (stored_in array)) start len };
+    ghost rows_of_slice: { (array : Self.Array) (start len : ℕ)
+        → FitsRows (bits_in array) (length (stored_in array)) → start + len ≤ length (stored_in array)
+        → mask (bits_of_slice (bits_in array) start len) (stored_slice array start len)
+        ≡ sliced (masked (bits_in array) (stored_in array)) start len };
 
     // as many
-    ghost length_of_slice: { (array : Self.Array) (start len : ℕ) → FitsRows (bits_in array) (length (stored_in array)) → start + len ≤ length (stored_in array) → length (stored_slice array start len) ≡ len };
+    ghost length_of_slice: { (array : Self.Array) (start len : ℕ)
+        → FitsRows (bits_in array) (length (stored_in array)) → start + len ≤ length (stored_in array)
+        → length (stored_slice array start len) ≡ len };
 
     ghost length_of_blanks: { (x : Self) (n : ℕ) → length (blanks x n) ≡ n };
 
@@ -144,14 +149,20 @@ pub trait GrowableValues: Drop {
     // nothing that counts comes beneath nulls
     ghost spares_none: { spares [] [] };
 
-    ghost spares_slice: { (bits : List Bool) (stored : List Slot) (array : Self.Array) (start len : ℕ) → FitsRows (bits_in array) (length (stored_in array)) → start + len ≤ length (stored_in array) → spares bits stored → length bits ≡ length stored → spares (bits ++ bits_of_slice (bits_in array) start len) (stored ++ stored_slice array start len) };
+    ghost spares_slice: { (bits : List Bool) (stored : List Slot) (array : Self.Array) (start len : ℕ)
+        → FitsRows (bits_in array) (length (stored_in array)) → start + len ≤ length (stored_in array)
+        → spares bits stored → length bits ≡ length stored
+        → spares (bits ++ bits_of_slice (bits_in array) start len) (stored ++ stored_slice array start len) };
 
-    ghost spares_blanks: { (bits : List Bool) (stored : List Slot) (x : Self) (n : ℕ) → spares bits stored → length bits ≡ length stored → spares (bits ++ replicate n false) (stored ++ blanks x n) };
+    ghost spares_blanks: { (bits : List Bool) (stored : List Slot) (x : Self) (n : ℕ) → spares bits stored
+        → length bits ≡ length stored → spares (bits ++ replicate n false) (stored ++ blanks x n) };
 
     // so what is stored fits where the rows do, and the other way round
-    ghost fits_stored: { (x : Self) (t : ArrowType) (bits : List Bool) (stored : List Slot) → are_of x t → spares bits stored → length bits ≡ length stored → Fits t (mask bits stored) → Fits t stored };
+    ghost fits_stored: { (x : Self) (t : ArrowType) (bits : List Bool) (stored : List Slot) → are_of x t
+        → spares bits stored → length bits ≡ length stored → Fits t (mask bits stored) → Fits t stored };
 
-    ghost fits_rows: { (x : Self) (t : ArrowType) (bits : List Bool) (stored : List Slot) → are_of x t → length bits ≡ length stored → Fits t stored → Fits t (mask bits stored) };
+    ghost fits_rows: { (x : Self) (t : ArrowType) (bits : List Bool) (stored : List Slot) → are_of x t
+        → length bits ≡ length stored → Fits t stored → Fits t (mask bits stored) };
 }
 
 /// A flat array under construction.
@@ -189,9 +200,17 @@ impl<'a, G: GrowableValues> Model for FlatGrowable<'a, G> {
 
     ghost coded = { grown_code };
 
-    ghost view = { λ a. record { arrow_type = type_of a.data_type; sources = Some (map (λ r. flat_layout G.type_in G.bits_in G.stored_in r.now) a.arrays.items); rows = mask a.validity (G.slots a.values); count = a.len; failed = a.has_failed } };
+    ghost view = { λ a. record {
+      arrow_type = type_of a.data_type;
+      sources = Some (map (λ r. flat_layout G.type_in G.bits_in G.stored_in r.now) a.arrays.items);
+      rows = mask a.validity (G.slots a.values);
+      count = a.len;
+      failed = a.has_failed;
+    } };
 
-    ghost invariant = { λ a. IsGrownFlat G.slots G.are_of G.spares a.values a.validity a.len (map (λ r. flat_layout G.type_in G.bits_in G.stored_in r.now) a.arrays.items) (type_of a.data_type) a.has_failed };
+    ghost invariant = { λ a. IsGrownFlat G.slots G.are_of G.spares a.values a.validity a.len
+        (map (λ r. flat_layout G.type_in G.bits_in G.stored_in r.now) a.arrays.items) (type_of a.data_type)
+        a.has_failed };
 }
 
 impl<'a, G: GrowableValues> FlatGrowable<'a, G> {

@@ -52,7 +52,13 @@ impl Model for GrowableNull {
 
     ghost coded = { grown_code };
 
-    ghost view = { λ a. record { arrow_type = type_of a.data_type; sources = None; rows = replicate a.len Null; count = a.len; failed = a.has_failed } };
+    ghost view = { λ a. record {
+      arrow_type = type_of a.data_type;
+      sources = None;
+      rows = replicate a.len Null;
+      count = a.len;
+      failed = a.has_failed;
+    } };
 
     ghost invariant = { λ a. IsCarriedAs physical.Null (type_of a.data_type) };
 }

@@ -125,9 +125,11 @@ impl<T: AnyElement> GrowableValues for Vec<T> {
         Ok(AnyArray::Primitive(T::to_any(&array)?))
     }
 
-    ghost rows_of_slice = { λ array start len fits within. mask-part array.validity (map T.slot array.values) start len within };
+    ghost rows_of_slice = { λ array start len fits within. mask-part array.validity
+        (map T.slot array.values) start len within };
 
-    ghost length_of_slice = { λ array start len fits within. length-sliced (map T.slot array.values) start len within };
+    ghost length_of_slice = { λ array start len fits within. length-sliced (map T.slot array.values) start
+        len within };
 
     ghost length_of_blanks = { λ values n. length-replicate n (T.slot T.zero) };
 
@@ -139,7 +141,8 @@ impl<T: AnyElement> GrowableValues for Vec<T> {
 
     ghost spares_blanks = { λ bits stored x n spared same. tt };
 
-    ghost fits_stored = { λ x t bits stored kind spared same. fits_unmasked t bits stored (ap is_counted kind) same };
+    ghost fits_stored = { λ x t bits stored kind spared same. fits_unmasked t bits stored
+        (ap is_counted kind) same };
 
     ghost fits_rows = { λ x t bits stored kind same. fits_mask t bits stored (ap is_counted kind) same };
 }

@@ -66,9 +66,17 @@ impl<'a> Model for GrowableDictionary<'a> {
 
     ghost coded = { grown_code };
 
-    ghost view = { λ a. record { arrow_type = type_of a.data_type; sources = Some (map (λ r. keyed_layout r.now) a.arrays.items); rows = dictionary_rows (any_array_rows a.values) a.validity (key_slots a.keys); count = a.len; failed = a.has_failed } };
+    ghost view = { λ a. record {
+      arrow_type = type_of a.data_type;
+      sources = Some (map (λ r. keyed_layout r.now) a.arrays.items);
+      rows = dictionary_rows (any_array_rows a.values) a.validity (key_slots a.keys);
+      count = a.len;
+      failed = a.has_failed;
+    } };
 
-    ghost invariant = { λ a. IsGrownDictionary (grown_key_type a.keys) a.starts.items (layout_of a.values) a.validity (key_slots a.keys) a.len (map (λ r. keyed_layout r.now) a.arrays.items) (type_of a.data_type) a.has_failed };
+    ghost invariant = { λ a. IsGrownDictionary (grown_key_type a.keys) a.starts.items (layout_of a.values)
+        a.validity (key_slots a.keys) a.len (map (λ r. keyed_layout r.now) a.arrays.items)
+        (type_of a.data_type) a.has_failed };
 }
 
 impl<'a> GrowableDictionary<'a> {

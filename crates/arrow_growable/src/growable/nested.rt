@@ -73,9 +73,17 @@ impl<'a> Model for GrowableNested<'a> {
 
     ghost use Rattle.arrow_growable.specs.AnyGrowable.{grown_of};
 
-    ghost view = { λ a. record { arrow_type = type_of a.data_type; sources = Some (bound_layouts a.arrays); rows = nested_rows (form_of a.spans) a.validity (map (λ g. g.rows) (map grown_of a.children.items)); count = a.len; failed = a.has_failed } };
+    ghost view = { λ a. record {
+      arrow_type = type_of a.data_type;
+      sources = Some (bound_layouts a.arrays);
+      rows = nested_rows (form_of a.spans) a.validity (map (λ g. g.rows) (map grown_of a.children.items));
+      count = a.len;
+      failed = a.has_failed;
+    } };
 
-    ghost invariant = { λ a. IsGrownNested (grown_arrays a.spans) (form_of a.spans) (map grown_of a.children.items) a.validity a.len (bound_layouts a.arrays) (type_of a.data_type) a.has_failed };
+    ghost invariant = { λ a. IsGrownNested (grown_arrays a.spans) (form_of a.spans)
+        (map grown_of a.children.items) a.validity a.len (bound_layouts a.arrays) (type_of a.data_type)
+        a.has_failed };
 
     ghost size = { λ g. type_depth g.arrow_type };
 

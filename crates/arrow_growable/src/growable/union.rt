@@ -75,9 +75,18 @@ impl<'a> Model for GrowableUnion<'a> {
 
     ghost use Rattle.arrow_growable.specs.AnyGrowable.{grown_of};
 
-    ghost view = { λ a. record { arrow_type = type_of a.data_type; sources = Some (map (λ r. union_layout r.now) a.arrays.items); rows = variant_rows (type_of a.data_type) a.types.items (offsets_in a.offsets) (map grown_of a.children.items); count = a.len; failed = a.has_failed } };
+    ghost view = { λ a. record {
+      arrow_type = type_of a.data_type;
+      sources = Some (map (λ r. union_layout r.now) a.arrays.items);
+      rows = variant_rows (type_of a.data_type) a.types.items (offsets_in a.offsets)
+          (map grown_of a.children.items);
+      count = a.len;
+      failed = a.has_failed;
+    } };
 
-    ghost invariant = { λ a. IsGrownUnion (map (λ r. union_layout r.now) a.arrays.items) (type_of a.data_type) a.types.items (offsets_in a.offsets) (map grown_of a.children.items) a.len a.has_failed };
+    ghost invariant = { λ a. IsGrownUnion (map (λ r. union_layout r.now) a.arrays.items)
+        (type_of a.data_type) a.types.items (offsets_in a.offsets) (map grown_of a.children.items) a.len
+        a.has_failed };
 
     ghost size = { λ g. type_depth g.arrow_type };
 

@@ -39,10 +39,12 @@ pub(crate) trait Units: ByteKind {
         requires { len ≤ length from.now }
         ensures { IsTrue result → IsCutByBytes cut (take len from.now) };
 
-    ghost is_part: { (start : ℤ) (count : Option ℕ) (bytes : List ℕ) → part start count (Self.slot bytes) ≡ Self.slot (cut start count bytes) };
+    ghost is_part: { (start : ℤ) (count : Option ℕ) (bytes : List ℕ) → part start count (Self.slot bytes)
+        ≡ Self.slot (cut start count bytes) };
 
     // a row may have the bytes of a part, and it may have none
-    ghost allows_part: { (start : ℤ) (count : Option ℕ) (bytes : List ℕ) → Self.Allows bytes → Self.Allows (cut start count bytes) };
+    ghost allows_part: { (start : ℤ) (count : Option ℕ) (bytes : List ℕ) → Self.Allows bytes
+        → Self.Allows (cut start count bytes) };
 
     ghost allows_none: { Self.Allows [] };
 }

@@ -17,7 +17,9 @@ pub trait QuaternaryLogic {
 
     /// What each bit of a word gives with those of the others.
     fn of_words(first: u64, second: u64, third: u64, fourth: u64) -> u64
-        ensures { (k : ℕ) → k < 64 → (bit_at result k == 1) ≡ bits (bit_at first k == 1) (bit_at second k == 1) (bit_at third k == 1) (bit_at fourth k == 1) };
+        ensures { (k : ℕ) → k < 64 → (bit_at result k == 1)
+            ≡ bits (bit_at first k == 1) (bit_at second k == 1) (bit_at third k == 1)
+            (bit_at fourth k == 1) };
 }
 
 impl Bitmap {
@@ -38,7 +40,8 @@ impl Bitmap {
         requires second { length self.now ≡ length second.now }
         requires third { length self.now ≡ length third.now }
         requires fourth { length self.now ≡ length fourth.now }
-        ensures ok { IfOk result (λ bitmap. bitmap ≡ by_fours L.bits self.now second.now third.now fourth.now) }
+        ensures ok { IfOk result (λ bitmap. bitmap
+            ≡ by_fours L.bits self.now second.now third.now fourth.now) }
         ensures err { IsOkUnless result Error.OutOfMemory }
     {
         let mut words = self.to_words(alloc)?;
@@ -72,7 +75,9 @@ fn combine_by_fours<L: QuaternaryLogic>(
     requires third_fits { third_from + 64 * length words.old < 2 ^ 64 + 64 }
     requires fourth_fits { fourth_from + 64 * length words.old < 2 ^ 64 + 64 }
     ensures long { length words.new ≡ length words.old }
-    ensures each { (i : ℕ) → i < 64 * length words.old → is_set words.new i ≡ L.bits (is_set words.old i) (is_set second.now (second_from + i)) (is_set third.now (third_from + i)) (is_set fourth.now (fourth_from + i)) }
+    ensures each { (i : ℕ) → i < 64 * length words.old → is_set words.new i
+        ≡ L.bits (is_set words.old i) (is_set second.now (second_from + i))
+        (is_set third.now (third_from + i)) (is_set fourth.now (fourth_from + i)) }
 {
     let Some(last) = words.len().checked_sub(1) else {
         return;

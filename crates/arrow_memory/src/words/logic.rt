@@ -12,7 +12,8 @@ pub trait Logic {
 
     /// What each bit of a word gives with the other's.
     fn of_words(left: u64, right: u64) -> u64
-        ensures { (k : ℕ) → k < 64 → (bit_at result k == 1) ≡ bits (bit_at left k == 1) (bit_at right k == 1) };
+        ensures { (k : ℕ) → k < 64 → (bit_at result k == 1)
+            ≡ bits (bit_at left k == 1) (bit_at right k == 1) };
 }
 
 /// What the second of two bits is.
@@ -31,7 +32,8 @@ pub(crate) fn combine<L: Logic>(words: &mut [u64], others: &[u64], from: usize)
     requires part { from + 64 * length words.old < 64 * length others.now + 64 }
     requires fits { from + 64 * length words.old < 2 ^ 64 + 64 }
     ensures long { length words.new ≡ length words.old }
-    ensures each { (i : ℕ) → i < 64 * length words.old → is_set words.new i ≡ L.bits (is_set words.old i) (is_set others.now (from + i)) }
+    ensures each { (i : ℕ) → i < 64 * length words.old → is_set words.new i
+        ≡ L.bits (is_set words.old i) (is_set others.now (from + i)) }
 {
     let Some(last) = words.len().checked_sub(1) else {
         return;

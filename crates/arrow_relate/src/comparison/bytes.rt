@@ -244,7 +244,8 @@ pub fn relate<O: Offset, K: ComparedBytes>(
 
 /// A kind of rows that are compared by their bytes.
 pub trait ComparedBytes: ByteKind {
-    ghost related_slots: { (op : RowRelation) (x y : List ℕ) → related op (Self.slot x) (Self.slot y) ≡ Boolean (holds op (byte_order x y)) };
+    ghost related_slots: { (op : RowRelation) (x y : List ℕ) → related op (Self.slot x) (Self.slot y)
+        ≡ Boolean (holds op (byte_order x y)) };
 }
 
 impl ComparedBytes for Text {

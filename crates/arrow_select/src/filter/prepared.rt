@@ -51,7 +51,8 @@ impl Model for Filter {
 
     ghost view = { λ filter. mask_at 0 filter.mask_len (named filter.ranges.items) };
 
-    ghost invariant = { λ filter. IsPlan filter.ranges.items filter.count (mask_at 0 filter.mask_len (named filter.ranges.items)) };
+    ghost invariant = { λ filter. IsPlan filter.ranges.items filter.count
+        (mask_at 0 filter.mask_len (named filter.ranges.items)) };
 }
 
 /// The filter that keeps the rows at which the predicate is true. A null of the predicate counts as false, whatever is

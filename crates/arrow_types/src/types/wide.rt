@@ -32,7 +32,8 @@ impl Model for i256 {
 
     ghost inverse = { λ n. record { high = high_half n; low = low_half n } };
 
-    ghost inverse_ok = { λ a low i. record { high = high_half-wide a.high a.low low i; low = low_half-wide a.high a.low low i } };
+    ghost inverse_ok = { λ a low
+        i. record { high = high_half-wide a.high a.low low i; low = low_half-wide a.high a.low low i } };
 }
 
 impl i256 {
@@ -83,7 +84,8 @@ impl Eq for i256 {
 impl PartialOrd for i256 {
     ghost partial_cmp = { as_partial_cmp int_cmp };
 
-    ghost laws = { partial_order_from_own_ties (Prim.search (comparing, rules)) (Prim.search (comparing, rules)) };
+    ghost laws = { partial_order_from_own_ties (Prim.search (comparing, rules))
+        (Prim.search (comparing, rules)) };
 
     fn partial_cmp(&self, other: &i256) -> Option<Ordering> {
         Some(self.cmp(other))

@@ -74,7 +74,8 @@ pub(super) fn null_fixed_lists(
     length: usize,
 ) -> Result<AnyArray, Error>
     requires kind { IsCarriedAs physical.FixedSizeList (type_of data_type) }
-    requires items { IsNulls (item_type (type_of data_type)) (length * list_size (type_of data_type)) items.value }
+    requires items { IsNulls (item_type (type_of data_type)) (length * list_size (type_of data_type))
+        items.value }
     ensures ok { IfOk result (IsNulls (type_of data_type) length) }
     ensures err { IsOkUnless result Error.OutOfMemory }
 {
@@ -94,7 +95,8 @@ pub(super) fn null_structs(
 ) -> Result<AnyArray, Error>
     requires kind { IsCarriedAs physical.Struct (type_of data_type) }
     requires types { map any_array_type columns.items ≡ field_types (type_of data_type) }
-    requires rows { map any_array_rows columns.items ≡ null_columns_of length length (field_types (type_of data_type)) }
+    requires rows { map any_array_rows columns.items
+        ≡ null_columns_of length length (field_types (type_of data_type)) }
     ensures ok { IfOk result (IsNulls (type_of data_type) length) }
     ensures err { IsOkUnless result Error.OutOfMemory }
 {
@@ -136,7 +138,8 @@ pub(super) fn sparse_nulls(
     requires kind { IsCarriedAs physical.Union (type_of data_type) }
     requires mode { mode_in (type_of data_type) ≡ UnionMode.Sparse }
     requires types { map any_array_type fields.items ≡ field_types (type_of data_type) }
-    requires rows { map any_array_rows fields.items ≡ null_columns_of length length (field_types (type_of data_type)) }
+    requires rows { map any_array_rows fields.items
+        ≡ null_columns_of length length (field_types (type_of data_type)) }
     ensures ok { IfOk result (IsNulls (type_of data_type) length) }
     ensures err { IsOkUnless result Error.OutOfMemory }
 {
@@ -157,7 +160,8 @@ pub(super) fn dense_nulls(
     requires kind { IsCarriedAs physical.Union (type_of data_type) }
     requires mode { mode_in (type_of data_type) ≡ UnionMode.Dense }
     requires types { map any_array_type fields.items ≡ field_types (type_of data_type) }
-    requires rows { map any_array_rows fields.items ≡ null_columns_of (min length 1) 0 (field_types (type_of data_type)) }
+    requires rows { map any_array_rows fields.items
+        ≡ null_columns_of (min length 1) 0 (field_types (type_of data_type)) }
     ensures ok { IfOk result (IsNulls (type_of data_type) length) }
     ensures err { IsOkUnless result Error.OutOfMemory }
 {
