@@ -3,18 +3,17 @@
 //! A null row has no relation: the answer there is null. The calls named `and_validity` look at nulls too: two nulls are the
 //! same, and a null and a value are not. With a scalar each row, and the scalar, is read through its dictionaries.
 
-ghost use Rattle.std.specs.Prelude.{◌≡◌, length, map, IfOk, IsOkUnless};
-ghost use Rattle.arrow_types.specs.declared.error.Error.{Error};
-ghost use Rattle.arrow_types.specs.ArrowType.{boolean, logical, plain};
+ghost use Rattle.std.specs.Prelude.{◌≡◌, length, map};
+ghost use Rattle.arrow_types.specs.ArrowType.{boolean, logical};
 ghost use Rattle.arrow_types.specs.Physical.{physical_type_of};
 ghost use Rattle.arrow_types.specs.Relation.{related, through};
 ghost use Rattle.arrow_types.specs.Relation as relation;
 ghost use Rattle.arrow_flat.specs.AnyScalar.{meaning_of};
-ghost use Rattle.arrow_flat.specs.Parts.{boolean_rows};
 ghost use Rattle.arrow_arrays.specs.Any.{any_array_rows, any_array_type};
 ghost use Rattle.arrow_flat.specs.RowByRow.{row_by_row};
 ghost use Rattle.arrow_relate.specs.Same.{differs, is_same};
 ghost use Rattle.arrow_compare.specs.Compared.{HasEquality, HasEqualityThrough, HasOrder, HasOrderThrough};
+ghost use Rattle.arrow_logic.specs.Truths.{AnswersTruths};
 
 mod answers;
 mod arrays;
@@ -50,10 +49,8 @@ pub fn eq(alloc: Global, lhs: &AnyArray, rhs: &AnyArray) -> Result<BooleanArray,
     requires one_type { logical (any_array_type lhs.now) ≡ logical (any_array_type rhs.now) }
     requires one_length { length (any_array_rows lhs.now) ≡ length (any_array_rows rhs.now) }
     requires has_equality { HasEquality (physical_type_of (any_array_type lhs.now)) }
-    ensures array_type { IfOk result (λ array. array.arrow_type ≡ plain boolean) }
-    ensures rows { IfOk result (λ array. boolean_rows array
-        ≡ row_by_row (related relation.eq) (any_array_rows lhs.now) (any_array_rows rhs.now)) }
-    ensures err { IsOkUnless result Error.OutOfMemory }
+    ensures { AnswersTruths result
+        (row_by_row (related relation.eq) (any_array_rows lhs.now) (any_array_rows rhs.now)) }
 {
     relate(alloc, Relation::Eq, lhs, rhs)
 }
@@ -72,10 +69,7 @@ pub fn eq_and_validity(alloc: Global, lhs: &AnyArray, rhs: &AnyArray) -> Result<
     requires one_type { logical (any_array_type lhs.now) ≡ logical (any_array_type rhs.now) }
     requires one_length { length (any_array_rows lhs.now) ≡ length (any_array_rows rhs.now) }
     requires has_equality { HasEquality (physical_type_of (any_array_type lhs.now)) }
-    ensures array_type { IfOk result (λ array. array.arrow_type ≡ plain boolean) }
-    ensures rows { IfOk result (λ array. boolean_rows array
-        ≡ row_by_row is_same (any_array_rows lhs.now) (any_array_rows rhs.now)) }
-    ensures err { IsOkUnless result Error.OutOfMemory }
+    ensures { AnswersTruths result (row_by_row is_same (any_array_rows lhs.now) (any_array_rows rhs.now)) }
 {
     same(alloc, lhs, rhs)
 }
@@ -94,11 +88,9 @@ pub fn eq_and_validity(alloc: Global, lhs: &AnyArray, rhs: &AnyArray) -> Result<
 pub fn eq_scalar(alloc: Global, lhs: &AnyArray, rhs: &AnyScalar) -> Result<BooleanArray, Error>
     requires one_type { logical (any_array_type lhs.now) ≡ logical (meaning_of rhs.now).0 }
     requires has_equality { HasEqualityThrough (any_array_type lhs.now) }
-    ensures array_type { IfOk result (λ array. array.arrow_type ≡ plain boolean) }
-    ensures rows { IfOk result (λ array. boolean_rows array
-        ≡ map (λ s. related relation.eq (through s) (through (meaning_of rhs.now).1))
+    ensures { AnswersTruths result
+        (map (λ s. related relation.eq (through s) (through (meaning_of rhs.now).1))
         (any_array_rows lhs.now)) }
-    ensures err { IsOkUnless result Error.OutOfMemory }
 {
     relate_scalar(alloc, Relation::Eq, lhs, rhs)
 }
@@ -121,10 +113,8 @@ pub fn eq_scalar_and_validity(
 ) -> Result<BooleanArray, Error>
     requires one_type { logical (any_array_type lhs.now) ≡ logical (meaning_of rhs.now).0 }
     requires has_equality { HasEqualityThrough (any_array_type lhs.now) }
-    ensures array_type { IfOk result (λ array. array.arrow_type ≡ plain boolean) }
-    ensures rows { IfOk result (λ array. boolean_rows array
-        ≡ map (λ s. is_same (through s) (through (meaning_of rhs.now).1)) (any_array_rows lhs.now)) }
-    ensures err { IsOkUnless result Error.OutOfMemory }
+    ensures { AnswersTruths result
+        (map (λ s. is_same (through s) (through (meaning_of rhs.now).1)) (any_array_rows lhs.now)) }
 {
     same_scalar(alloc, lhs, rhs)
 }
@@ -143,10 +133,8 @@ pub fn neq(alloc: Global, lhs: &AnyArray, rhs: &AnyArray) -> Result<BooleanArray
     requires one_type { logical (any_array_type lhs.now) ≡ logical (any_array_type rhs.now) }
     requires one_length { length (any_array_rows lhs.now) ≡ length (any_array_rows rhs.now) }
     requires has_equality { HasEquality (physical_type_of (any_array_type lhs.now)) }
-    ensures array_type { IfOk result (λ array. array.arrow_type ≡ plain boolean) }
-    ensures rows { IfOk result (λ array. boolean_rows array
-        ≡ row_by_row (related relation.neq) (any_array_rows lhs.now) (any_array_rows rhs.now)) }
-    ensures err { IsOkUnless result Error.OutOfMemory }
+    ensures { AnswersTruths result
+        (row_by_row (related relation.neq) (any_array_rows lhs.now) (any_array_rows rhs.now)) }
 {
     relate(alloc, Relation::Neq, lhs, rhs)
 }
@@ -169,10 +157,7 @@ pub fn neq_and_validity(
     requires one_type { logical (any_array_type lhs.now) ≡ logical (any_array_type rhs.now) }
     requires one_length { length (any_array_rows lhs.now) ≡ length (any_array_rows rhs.now) }
     requires has_equality { HasEquality (physical_type_of (any_array_type lhs.now)) }
-    ensures array_type { IfOk result (λ array. array.arrow_type ≡ plain boolean) }
-    ensures rows { IfOk result (λ array. boolean_rows array
-        ≡ row_by_row differs (any_array_rows lhs.now) (any_array_rows rhs.now)) }
-    ensures err { IsOkUnless result Error.OutOfMemory }
+    ensures { AnswersTruths result (row_by_row differs (any_array_rows lhs.now) (any_array_rows rhs.now)) }
 {
     boolean::not(alloc, &same(alloc, lhs, rhs)?)
 }
@@ -191,11 +176,9 @@ pub fn neq_and_validity(
 pub fn neq_scalar(alloc: Global, lhs: &AnyArray, rhs: &AnyScalar) -> Result<BooleanArray, Error>
     requires one_type { logical (any_array_type lhs.now) ≡ logical (meaning_of rhs.now).0 }
     requires has_equality { HasEqualityThrough (any_array_type lhs.now) }
-    ensures array_type { IfOk result (λ array. array.arrow_type ≡ plain boolean) }
-    ensures rows { IfOk result (λ array. boolean_rows array
-        ≡ map (λ s. related relation.neq (through s) (through (meaning_of rhs.now).1))
+    ensures { AnswersTruths result
+        (map (λ s. related relation.neq (through s) (through (meaning_of rhs.now).1))
         (any_array_rows lhs.now)) }
-    ensures err { IsOkUnless result Error.OutOfMemory }
 {
     relate_scalar(alloc, Relation::Neq, lhs, rhs)
 }
@@ -217,10 +200,8 @@ pub fn neq_scalar_and_validity(
 ) -> Result<BooleanArray, Error>
     requires one_type { logical (any_array_type lhs.now) ≡ logical (meaning_of rhs.now).0 }
     requires has_equality { HasEqualityThrough (any_array_type lhs.now) }
-    ensures array_type { IfOk result (λ array. array.arrow_type ≡ plain boolean) }
-    ensures rows { IfOk result (λ array. boolean_rows array
-        ≡ map (λ s. differs (through s) (through (meaning_of rhs.now).1)) (any_array_rows lhs.now)) }
-    ensures err { IsOkUnless result Error.OutOfMemory }
+    ensures { AnswersTruths result
+        (map (λ s. differs (through s) (through (meaning_of rhs.now).1)) (any_array_rows lhs.now)) }
 {
     boolean::not(alloc, &same_scalar(alloc, lhs, rhs)?)
 }
@@ -240,10 +221,8 @@ pub fn lt(alloc: Global, lhs: &AnyArray, rhs: &AnyArray) -> Result<BooleanArray,
     requires one_type { logical (any_array_type lhs.now) ≡ logical (any_array_type rhs.now) }
     requires one_length { length (any_array_rows lhs.now) ≡ length (any_array_rows rhs.now) }
     requires has_order { HasOrder (physical_type_of (any_array_type lhs.now)) }
-    ensures array_type { IfOk result (λ array. array.arrow_type ≡ plain boolean) }
-    ensures rows { IfOk result (λ array. boolean_rows array
-        ≡ row_by_row (related relation.lt) (any_array_rows lhs.now) (any_array_rows rhs.now)) }
-    ensures err { IsOkUnless result Error.OutOfMemory }
+    ensures { AnswersTruths result
+        (row_by_row (related relation.lt) (any_array_rows lhs.now) (any_array_rows rhs.now)) }
 {
     relate(alloc, Relation::Lt, lhs, rhs)
 }
@@ -263,11 +242,9 @@ pub fn lt(alloc: Global, lhs: &AnyArray, rhs: &AnyArray) -> Result<BooleanArray,
 pub fn lt_scalar(alloc: Global, lhs: &AnyArray, rhs: &AnyScalar) -> Result<BooleanArray, Error>
     requires one_type { logical (any_array_type lhs.now) ≡ logical (meaning_of rhs.now).0 }
     requires has_order { HasOrderThrough (any_array_type lhs.now) }
-    ensures array_type { IfOk result (λ array. array.arrow_type ≡ plain boolean) }
-    ensures rows { IfOk result (λ array. boolean_rows array
-        ≡ map (λ s. related relation.lt (through s) (through (meaning_of rhs.now).1))
+    ensures { AnswersTruths result
+        (map (λ s. related relation.lt (through s) (through (meaning_of rhs.now).1))
         (any_array_rows lhs.now)) }
-    ensures err { IsOkUnless result Error.OutOfMemory }
 {
     relate_scalar(alloc, Relation::Lt, lhs, rhs)
 }
@@ -287,10 +264,8 @@ pub fn lt_eq(alloc: Global, lhs: &AnyArray, rhs: &AnyArray) -> Result<BooleanArr
     requires one_type { logical (any_array_type lhs.now) ≡ logical (any_array_type rhs.now) }
     requires one_length { length (any_array_rows lhs.now) ≡ length (any_array_rows rhs.now) }
     requires has_order { HasOrder (physical_type_of (any_array_type lhs.now)) }
-    ensures array_type { IfOk result (λ array. array.arrow_type ≡ plain boolean) }
-    ensures rows { IfOk result (λ array. boolean_rows array
-        ≡ row_by_row (related relation.lt_eq) (any_array_rows lhs.now) (any_array_rows rhs.now)) }
-    ensures err { IsOkUnless result Error.OutOfMemory }
+    ensures { AnswersTruths result
+        (row_by_row (related relation.lt_eq) (any_array_rows lhs.now) (any_array_rows rhs.now)) }
 {
     relate(alloc, Relation::LtEq, lhs, rhs)
 }
@@ -310,11 +285,9 @@ pub fn lt_eq(alloc: Global, lhs: &AnyArray, rhs: &AnyArray) -> Result<BooleanArr
 pub fn lt_eq_scalar(alloc: Global, lhs: &AnyArray, rhs: &AnyScalar) -> Result<BooleanArray, Error>
     requires one_type { logical (any_array_type lhs.now) ≡ logical (meaning_of rhs.now).0 }
     requires has_order { HasOrderThrough (any_array_type lhs.now) }
-    ensures array_type { IfOk result (λ array. array.arrow_type ≡ plain boolean) }
-    ensures rows { IfOk result (λ array. boolean_rows array
-        ≡ map (λ s. related relation.lt_eq (through s) (through (meaning_of rhs.now).1))
+    ensures { AnswersTruths result
+        (map (λ s. related relation.lt_eq (through s) (through (meaning_of rhs.now).1))
         (any_array_rows lhs.now)) }
-    ensures err { IsOkUnless result Error.OutOfMemory }
 {
     relate_scalar(alloc, Relation::LtEq, lhs, rhs)
 }
@@ -334,10 +307,8 @@ pub fn gt(alloc: Global, lhs: &AnyArray, rhs: &AnyArray) -> Result<BooleanArray,
     requires one_type { logical (any_array_type lhs.now) ≡ logical (any_array_type rhs.now) }
     requires one_length { length (any_array_rows lhs.now) ≡ length (any_array_rows rhs.now) }
     requires has_order { HasOrder (physical_type_of (any_array_type lhs.now)) }
-    ensures array_type { IfOk result (λ array. array.arrow_type ≡ plain boolean) }
-    ensures rows { IfOk result (λ array. boolean_rows array
-        ≡ row_by_row (related relation.gt) (any_array_rows lhs.now) (any_array_rows rhs.now)) }
-    ensures err { IsOkUnless result Error.OutOfMemory }
+    ensures { AnswersTruths result
+        (row_by_row (related relation.gt) (any_array_rows lhs.now) (any_array_rows rhs.now)) }
 {
     relate(alloc, Relation::Gt, lhs, rhs)
 }
@@ -357,11 +328,9 @@ pub fn gt(alloc: Global, lhs: &AnyArray, rhs: &AnyArray) -> Result<BooleanArray,
 pub fn gt_scalar(alloc: Global, lhs: &AnyArray, rhs: &AnyScalar) -> Result<BooleanArray, Error>
     requires one_type { logical (any_array_type lhs.now) ≡ logical (meaning_of rhs.now).0 }
     requires has_order { HasOrderThrough (any_array_type lhs.now) }
-    ensures array_type { IfOk result (λ array. array.arrow_type ≡ plain boolean) }
-    ensures rows { IfOk result (λ array. boolean_rows array
-        ≡ map (λ s. related relation.gt (through s) (through (meaning_of rhs.now).1))
+    ensures { AnswersTruths result
+        (map (λ s. related relation.gt (through s) (through (meaning_of rhs.now).1))
         (any_array_rows lhs.now)) }
-    ensures err { IsOkUnless result Error.OutOfMemory }
 {
     relate_scalar(alloc, Relation::Gt, lhs, rhs)
 }
@@ -381,10 +350,8 @@ pub fn gt_eq(alloc: Global, lhs: &AnyArray, rhs: &AnyArray) -> Result<BooleanArr
     requires one_type { logical (any_array_type lhs.now) ≡ logical (any_array_type rhs.now) }
     requires one_length { length (any_array_rows lhs.now) ≡ length (any_array_rows rhs.now) }
     requires has_order { HasOrder (physical_type_of (any_array_type lhs.now)) }
-    ensures array_type { IfOk result (λ array. array.arrow_type ≡ plain boolean) }
-    ensures rows { IfOk result (λ array. boolean_rows array
-        ≡ row_by_row (related relation.gt_eq) (any_array_rows lhs.now) (any_array_rows rhs.now)) }
-    ensures err { IsOkUnless result Error.OutOfMemory }
+    ensures { AnswersTruths result
+        (row_by_row (related relation.gt_eq) (any_array_rows lhs.now) (any_array_rows rhs.now)) }
 {
     relate(alloc, Relation::GtEq, lhs, rhs)
 }
@@ -404,11 +371,9 @@ pub fn gt_eq(alloc: Global, lhs: &AnyArray, rhs: &AnyArray) -> Result<BooleanArr
 pub fn gt_eq_scalar(alloc: Global, lhs: &AnyArray, rhs: &AnyScalar) -> Result<BooleanArray, Error>
     requires one_type { logical (any_array_type lhs.now) ≡ logical (meaning_of rhs.now).0 }
     requires has_order { HasOrderThrough (any_array_type lhs.now) }
-    ensures array_type { IfOk result (λ array. array.arrow_type ≡ plain boolean) }
-    ensures rows { IfOk result (λ array. boolean_rows array
-        ≡ map (λ s. related relation.gt_eq (through s) (through (meaning_of rhs.now).1))
+    ensures { AnswersTruths result
+        (map (λ s. related relation.gt_eq (through s) (through (meaning_of rhs.now).1))
         (any_array_rows lhs.now)) }
-    ensures err { IsOkUnless result Error.OutOfMemory }
 {
     relate_scalar(alloc, Relation::GtEq, lhs, rhs)
 }

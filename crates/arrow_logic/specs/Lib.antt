@@ -11,4 +11,5 @@ pub mod Nullif
 pub mod Substring
 pub mod SubstringExamples
 pub mod SubstringLaws
+pub mod Truths
 pub mod Validities

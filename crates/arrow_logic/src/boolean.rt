@@ -13,6 +13,7 @@ ghost use Rattle.arrow_flat.specs.Scalars.{slot_by as scalar_slot};
 ghost use Rattle.arrow_arrays.specs.Any.{any_array_rows, kind_of, null_kind};
 ghost use Rattle.arrow_logic.specs.Connective.{slot_by};
 ghost use Rattle.arrow_flat.specs.RowByRow.{row_by_row};
+ghost use Rattle.arrow_logic.specs.Truths.{AnswersTruths};
 
 use crate::connective::Connective;
 use crate::truths::truths;
@@ -36,10 +37,7 @@ use std::alloc::Global;
 /// Source: arrow2's `boolean::and`.
 pub fn and(alloc: Global, lhs: &BooleanArray, rhs: &BooleanArray) -> Result<BooleanArray, Error>
     requires { length (boolean_rows lhs.now) ≡ length (boolean_rows rhs.now) }
-    ensures array_type { IfOk result (λ array. array.arrow_type ≡ plain boolean) }
-    ensures rows { IfOk result (λ array. boolean_rows array
-        ≡ row_by_row both (boolean_rows lhs.now) (boolean_rows rhs.now)) }
-    ensures err { IsOkUnless result Error.OutOfMemory }
+    ensures { AnswersTruths result (row_by_row both (boolean_rows lhs.now) (boolean_rows rhs.now)) }
 {
     connect(alloc, Connective::And, lhs, rhs)
 }
@@ -55,10 +53,7 @@ pub fn and(alloc: Global, lhs: &BooleanArray, rhs: &BooleanArray) -> Result<Bool
 /// Source: arrow2's `boolean::or`.
 pub fn or(alloc: Global, lhs: &BooleanArray, rhs: &BooleanArray) -> Result<BooleanArray, Error>
     requires { length (boolean_rows lhs.now) ≡ length (boolean_rows rhs.now) }
-    ensures array_type { IfOk result (λ array. array.arrow_type ≡ plain boolean) }
-    ensures rows { IfOk result (λ array. boolean_rows array
-        ≡ row_by_row either (boolean_rows lhs.now) (boolean_rows rhs.now)) }
-    ensures err { IsOkUnless result Error.OutOfMemory }
+    ensures { AnswersTruths result (row_by_row either (boolean_rows lhs.now) (boolean_rows rhs.now)) }
 {
     connect(alloc, Connective::Or, lhs, rhs)
 }
@@ -70,9 +65,7 @@ pub fn or(alloc: Global, lhs: &BooleanArray, rhs: &BooleanArray) -> Result<Boole
 ///
 /// Source: arrow2's `boolean::not`.
 pub fn not(alloc: Global, array: &BooleanArray) -> Result<BooleanArray, Error>
-    ensures array_type { IfOk result (λ array. array.arrow_type ≡ plain boolean) }
-    ensures rows { IfOk result (λ answer. boolean_rows answer ≡ map negated (boolean_rows array.now)) }
-    ensures err { IsOkUnless result Error.OutOfMemory }
+    ensures { AnswersTruths result (map negated (boolean_rows array.now)) }
 {
     let values = array.values().not(alloc)?;
     Ok(truths(values, shared(array.validity())?))
@@ -89,10 +82,8 @@ pub fn and_scalar(
     array: &BooleanArray,
     scalar: &BooleanScalar,
 ) -> Result<BooleanArray, Error>
-    ensures array_type { IfOk result (λ array. array.arrow_type ≡ plain boolean) }
-    ensures rows { IfOk result (λ answer. boolean_rows answer
-        ≡ map (λ s. both s (scalar_slot Boolean scalar.now.value)) (boolean_rows array.now)) }
-    ensures err { IsOkUnless result Error.OutOfMemory }
+    ensures { AnswersTruths result
+        (map (λ s. both s (scalar_slot Boolean scalar.now.value)) (boolean_rows array.now)) }
 {
     connect_scalar(alloc, Connective::And, array, scalar.value())
 }
@@ -108,10 +99,8 @@ pub fn or_scalar(
     array: &BooleanArray,
     scalar: &BooleanScalar,
 ) -> Result<BooleanArray, Error>
-    ensures array_type { IfOk result (λ array. array.arrow_type ≡ plain boolean) }
-    ensures rows { IfOk result (λ answer. boolean_rows answer
-        ≡ map (λ s. either s (scalar_slot Boolean scalar.now.value)) (boolean_rows array.now)) }
-    ensures err { IsOkUnless result Error.OutOfMemory }
+    ensures { AnswersTruths result
+        (map (λ s. either s (scalar_slot Boolean scalar.now.value)) (boolean_rows array.now)) }
 {
     connect_scalar(alloc, Connective::Or, array, scalar.value())
 }
@@ -123,10 +112,7 @@ pub fn or_scalar(
 ///
 /// Source: arrow2's `boolean::is_null`.
 pub fn is_null(alloc: Global, input: &AnyArray) -> Result<BooleanArray, Error>
-    ensures array_type { IfOk result (λ array. array.arrow_type ≡ plain boolean) }
-    ensures rows { IfOk result (λ array. boolean_rows array
-        ≡ map (λ s. Boolean (is_null s)) (any_array_rows input.now)) }
-    ensures err { IsOkUnless result Error.OutOfMemory }
+    ensures { AnswersTruths result (map (λ s. Boolean (is_null s)) (any_array_rows input.now)) }
 {
     let nulls = match input.validity() {
         None => Bitmap::new_constant(alloc, is_of_nulls(input), input.len())?,
@@ -142,10 +128,7 @@ pub fn is_null(alloc: Global, input: &AnyArray) -> Result<BooleanArray, Error>
 ///
 /// Source: arrow2's `boolean::is_not_null`.
 pub fn is_not_null(alloc: Global, input: &AnyArray) -> Result<BooleanArray, Error>
-    ensures array_type { IfOk result (λ array. array.arrow_type ≡ plain boolean) }
-    ensures rows { IfOk result (λ array. boolean_rows array
-        ≡ map (λ s. Boolean (not (is_null s))) (any_array_rows input.now)) }
-    ensures err { IsOkUnless result Error.OutOfMemory }
+    ensures { AnswersTruths result (map (λ s. Boolean (not (is_null s))) (any_array_rows input.now)) }
 {
     let valid = match input.validity() {
         None => Bitmap::new_constant(alloc, !is_of_nulls(input), input.len())?,

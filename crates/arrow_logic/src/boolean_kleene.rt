@@ -10,6 +10,7 @@ ghost use Rattle.arrow_flat.specs.Scalars.{slot_by as scalar_slot};
 ghost use Rattle.arrow_logic.specs.Connective.{decides, kleene_by, known_side};
 ghost use Rattle.arrow_flat.specs.RowByRow.{row_by_row};
 ghost use Rattle.arrow_logic.specs.Validities.{combined};
+ghost use Rattle.arrow_logic.specs.Truths.{AnswersTruths};
 
 use crate::boolean;
 use crate::connective::Connective;
@@ -32,10 +33,7 @@ use std::alloc::Global;
 /// Source: arrow2's `boolean_kleene::and`.
 pub fn and(alloc: Global, lhs: &BooleanArray, rhs: &BooleanArray) -> Result<BooleanArray, Error>
     requires { length (boolean_rows lhs.now) ≡ length (boolean_rows rhs.now) }
-    ensures array_type { IfOk result (λ array. array.arrow_type ≡ plain boolean) }
-    ensures rows { IfOk result (λ array. boolean_rows array
-        ≡ row_by_row kleene_both (boolean_rows lhs.now) (boolean_rows rhs.now)) }
-    ensures err { IsOkUnless result Error.OutOfMemory }
+    ensures { AnswersTruths result (row_by_row kleene_both (boolean_rows lhs.now) (boolean_rows rhs.now)) }
 {
     connect(alloc, Connective::And, lhs, rhs)
 }
@@ -51,10 +49,7 @@ pub fn and(alloc: Global, lhs: &BooleanArray, rhs: &BooleanArray) -> Result<Bool
 /// Source: arrow2's `boolean_kleene::or`.
 pub fn or(alloc: Global, lhs: &BooleanArray, rhs: &BooleanArray) -> Result<BooleanArray, Error>
     requires { length (boolean_rows lhs.now) ≡ length (boolean_rows rhs.now) }
-    ensures array_type { IfOk result (λ array. array.arrow_type ≡ plain boolean) }
-    ensures rows { IfOk result (λ array. boolean_rows array
-        ≡ row_by_row kleene_either (boolean_rows lhs.now) (boolean_rows rhs.now)) }
-    ensures err { IsOkUnless result Error.OutOfMemory }
+    ensures { AnswersTruths result (row_by_row kleene_either (boolean_rows lhs.now) (boolean_rows rhs.now)) }
 {
     connect(alloc, Connective::Or, lhs, rhs)
 }
@@ -70,10 +65,8 @@ pub fn and_scalar(
     array: &BooleanArray,
     scalar: &BooleanScalar,
 ) -> Result<BooleanArray, Error>
-    ensures array_type { IfOk result (λ array. array.arrow_type ≡ plain boolean) }
-    ensures rows { IfOk result (λ answer. boolean_rows answer
-        ≡ map (λ s. kleene_both s (scalar_slot Boolean scalar.now.value)) (boolean_rows array.now)) }
-    ensures err { IsOkUnless result Error.OutOfMemory }
+    ensures { AnswersTruths result
+        (map (λ s. kleene_both s (scalar_slot Boolean scalar.now.value)) (boolean_rows array.now)) }
 {
     connect_scalar(alloc, Connective::And, array, scalar.value())
 }
@@ -89,10 +82,8 @@ pub fn or_scalar(
     array: &BooleanArray,
     scalar: &BooleanScalar,
 ) -> Result<BooleanArray, Error>
-    ensures array_type { IfOk result (λ array. array.arrow_type ≡ plain boolean) }
-    ensures rows { IfOk result (λ answer. boolean_rows answer
-        ≡ map (λ s. kleene_either s (scalar_slot Boolean scalar.now.value)) (boolean_rows array.now)) }
-    ensures err { IsOkUnless result Error.OutOfMemory }
+    ensures { AnswersTruths result
+        (map (λ s. kleene_either s (scalar_slot Boolean scalar.now.value)) (boolean_rows array.now)) }
 {
     connect_scalar(alloc, Connective::Or, array, scalar.value())
 }

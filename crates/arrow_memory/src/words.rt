@@ -257,18 +257,15 @@ fn append_more(words: &mut Vec<u64>, place: usize, others: &[u64], from: usize, 
     clear_behind(words, place + len);
 }
 
-// Puts a bit so many times behind the first `place` bits.
+// Puts a bit so many times, more often than a word has bits, behind the first `place` bits.
 pub(crate) fn append_equal(words: &mut Vec<u64>, place: usize, count: usize, bit: bool)
+    requires many { 64 < count }
     requires full { length words.old.items ≡ div_ceil place 64 }
     requires room { div_ceil (place + count) 64 ≤ vec_capacity words.old }
     requires fits { place + count < 2 ^ 64 }
     ensures full { length words.new.items ≡ div_ceil (place + count) 64 }
     ensures appended { AppendsBits words.old.items words.new.items place (replicate count bit) }
 {
-    if count <= WORD_BITS {
-        append_word(words, place, equal_bits(count, bit), count);
-        return;
-    }
     let head = WORD_BITS - place % WORD_BITS;
     append_word(words, place, equal_bits(head, bit), head);
     let (whole, tail) = ((count - head) / WORD_BITS, (count - head) % WORD_BITS);

@@ -11,6 +11,7 @@ ghost use Rattle.arrow_types.specs.Slot.{Boolean};
 ghost use Rattle.arrow_flat.specs.Parts.{FitsRows, boolean_rows};
 ghost use Rattle.arrow_relate.specs.Finished.{finished};
 ghost use Rattle.arrow_relate.specs.Words.{IsWordOf};
+ghost use Rattle.arrow_logic.specs.Truths.{AnswersTruths};
 
 /// A call at a relation that is known when the program runs: its first type parameter, `_`, is that relation.
 macro_rules! by_relation {
@@ -59,10 +60,7 @@ pub fn finish_eq_validities(
 ) -> Result<BooleanArray, Error>
     requires left { FitsRows lhs (length (boolean_rows out)) }
     requires right { FitsRows rhs (length (boolean_rows out)) }
-    ensures array_type { IfOk result (λ array. array.arrow_type ≡ plain boolean) }
-    ensures rows { IfOk result (λ array. boolean_rows array
-        ≡ finished finished_eq (boolean_rows out) lhs rhs) }
-    ensures err { IsOkUnless result Error.OutOfMemory }
+    ensures { AnswersTruths result (finished finished_eq (boolean_rows out) lhs rhs) }
 {
     finish::<Equal>(alloc, out, lhs, rhs)
 }
@@ -85,10 +83,7 @@ pub fn finish_neq_validities(
 ) -> Result<BooleanArray, Error>
     requires left { FitsRows lhs (length (boolean_rows out)) }
     requires right { FitsRows rhs (length (boolean_rows out)) }
-    ensures array_type { IfOk result (λ array. array.arrow_type ≡ plain boolean) }
-    ensures rows { IfOk result (λ array. boolean_rows array
-        ≡ finished finished_neq (boolean_rows out) lhs rhs) }
-    ensures err { IsOkUnless result Error.OutOfMemory }
+    ensures { AnswersTruths result (finished finished_neq (boolean_rows out) lhs rhs) }
 {
     finish::<NotEqual>(alloc, out, lhs, rhs)
 }

@@ -2,6 +2,7 @@
 //! validities are looked at afterwards, a word at a time.
 
 ghost use Rattle.std.specs.Prelude.{◌≡◌, length, map, IfOk, IsOkUnless};
+ghost use Rattle.arrow_logic.specs.Truths.{AnswersTruths};
 ghost use Rattle.arrow_types.specs.declared.error.Error.{Error};
 ghost use Rattle.arrow_types.specs.ArrowType.{boolean, plain};
 ghost use Rattle.arrow_types.specs.Relation.{related};
@@ -68,10 +69,8 @@ pub(crate) fn relate_by<R: FixedRelation, V: RelatedBy<R>>(
     rhs: &FlatArray<V>,
 ) -> Result<BooleanArray, Error>
     requires { length (rows_by V.slots lhs.now) ≡ length (rows_by V.slots rhs.now) }
-    ensures array_type { IfOk result (λ array. array.arrow_type ≡ plain boolean) }
-    ensures rows { IfOk result (λ array. boolean_rows array
-        ≡ row_by_row (related R.op) (rows_by V.slots lhs.now) (rows_by V.slots rhs.now)) }
-    ensures err { IsOkUnless result Error.OutOfMemory }
+    ensures { AnswersTruths result
+        (row_by_row (related R.op) (rows_by V.slots lhs.now) (rows_by V.slots rhs.now)) }
 {
     let bits = V::related_bits(alloc, lhs, rhs)?;
     let either = combine_validities(alloc, lhs.validity(), rhs.validity())?;
@@ -85,10 +84,8 @@ pub(crate) fn relate_scalar_by<R: FixedRelation, V: RelatedToScalar<R, S>, S>(
     rhs: S,
 ) -> Result<BooleanArray, Error>
     requires { V.IsScalar rhs }
-    ensures array_type { IfOk result (λ array. array.arrow_type ≡ plain boolean) }
-    ensures rows { IfOk result (λ array. boolean_rows array
-        ≡ map (λ s. related R.op s (V.scalar_slot rhs)) (rows_by V.slots lhs.now)) }
-    ensures err { IsOkUnless result Error.OutOfMemory }
+    ensures { AnswersTruths result
+        (map (λ s. related R.op s (V.scalar_slot rhs)) (rows_by V.slots lhs.now)) }
 {
     let bits = V::related_scalar_bits(alloc, lhs, rhs)?;
     let validity = shared(lhs.validity())?;
@@ -103,10 +100,8 @@ pub(crate) fn same_by<E: Sameness, V: RelatedBy<E>>(
     rhs: &FlatArray<V>,
 ) -> Result<BooleanArray, Error>
     requires { length (rows_by V.slots lhs.now) ≡ length (rows_by V.slots rhs.now) }
-    ensures array_type { IfOk result (λ array. array.arrow_type ≡ plain boolean) }
-    ensures rows { IfOk result (λ array. boolean_rows array
-        ≡ row_by_row E.tells (rows_by V.slots lhs.now) (rows_by V.slots rhs.now)) }
-    ensures err { IsOkUnless result Error.OutOfMemory }
+    ensures { AnswersTruths result
+        (row_by_row E.tells (rows_by V.slots lhs.now) (rows_by V.slots rhs.now)) }
 {
     let bits = V::related_bits(alloc, lhs, rhs)?;
     let (left, right) = (shared(lhs.validity())?, shared(rhs.validity())?);
@@ -121,10 +116,7 @@ pub(crate) fn same_scalar_by<E: Sameness, V: RelatedToScalar<E, S>, S>(
     rhs: S,
 ) -> Result<BooleanArray, Error>
     requires { V.IsScalar rhs }
-    ensures array_type { IfOk result (λ array. array.arrow_type ≡ plain boolean) }
-    ensures rows { IfOk result (λ array. boolean_rows array
-        ≡ map (λ s. E.tells s (V.scalar_slot rhs)) (rows_by V.slots lhs.now)) }
-    ensures err { IsOkUnless result Error.OutOfMemory }
+    ensures { AnswersTruths result (map (λ s. E.tells s (V.scalar_slot rhs)) (rows_by V.slots lhs.now)) }
 {
     let bits = V::related_scalar_bits(alloc, lhs, rhs)?;
     let validity = shared(lhs.validity())?;

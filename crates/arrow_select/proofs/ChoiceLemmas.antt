@@ -9,7 +9,9 @@ use Rattle.arrow_types.specs.Rows.{chosen, choice}
 use Rattle.arrow_types.specs.Slot.{Slot, Null, Boolean, null_slot}
 use Rattle.arrow_memory.specs.Sliced.{sliced}
 use Rattle.arrow_memory.proofs.SlicedLemmas.{length-sliced}
+use Rattle.arrow_arrays.specs.Any.{layout_of}
 use Rattle.arrow_arrays.specs.Layout.{Layout, rows, type_of_layout}
+use Rattle.arrow_arrays.specs.declared.array.any.AnyArray.{AnyArray}
 use Rattle.arrow_flat_growable.specs.Grown.{Grown, CannotHold, FitsWith, NamesRows, named_rows}
 use Rattle.arrow_growable.specs.Growing.{HasAppended}
 use Rattle.arrow_growable.proofs.GrowLemmas.{named, nulls, refuses_whole, too_many_first}
@@ -156,3 +158,8 @@ module _ (l r : Layout) (g : Grown) (kept : List Slot) (held : HasAppended (l �
 pub cannot_choose : (ps : List Slot) (l r : Layout) → CannotAppendChosen ps l r → CannotChoose ps l r
 cannot_choose ps l r (inl over) = inl over
 cannot_choose ps l r (inr crowded) = inr (inl crowded)
+
+-- rows that do not fit can't either, whatever the arrays are
+pub unfit : (ps : List Slot) (l r x y : AnyArray) → l ≡ x → r ≡ y → ChosenDoNotFit ps (layout_of x) (layout_of y) → CannotChoose ps (layout_of l) (layout_of r)
+unfit ps l r x y left right over =
+    subst (λ a. CannotChoose ps (layout_of l) (layout_of a)) (sym right) (subst (λ a. CannotChoose ps (layout_of a) (layout_of y)) (sym left) (inl over))

@@ -3,6 +3,7 @@ pub mod ArrayLemmas
 pub mod BatchLemmas
 pub mod BatchRanges
 pub mod ChoiceLemmas
+pub mod ChosenBytes
 pub mod ChosenLemmas
 pub mod ChunkLemmas
 pub mod EdgeLemmas

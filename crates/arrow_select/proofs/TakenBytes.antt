@@ -92,7 +92,7 @@ span_if v os count s here there key valid named =
     (λ i. if valid i && named i then (slice_index os (place_in s), slice_index os (place_in s + 1)) else (0, 0)) ∙ span_by v os count s key
 
 -- as many ends as rows
-length-ends : (place : ℕ) (lengths : List ℕ) → length (ends_from place lengths) ≡ length lengths
+pub length-ends : (place : ℕ) (lengths : List ℕ) → length (ends_from place lengths) ≡ length lengths
 length-ends place [] = refl
 length-ends place (n ∷ lengths) = ap suc (length-ends (place + n) lengths)
 

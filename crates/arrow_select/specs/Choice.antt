@@ -1,8 +1,11 @@
 -- Rows of two arrays as a predicate chooses: in runs of rows of one of them, or of nulls, and why they are refused.
-use Rattle.std.specs.Prelude.{◌≡◌, ◌<◌, ◌⊎◌, ◌&&◌, ℕ, Bool, true, false, Option, Some, None, List, [], ◌∷◌, length, slice_get, slice_index_or, if◌then◌else◌}
+use Rattle.std.specs.Prelude.{◌≡◌, ◌-◌, ◌<◌, ◌≤◌, ◌⊎◌, ◌&&◌, ℕ, Bool, true, false, Option, Some, None, List, [], ◌∷◌, length, map, slice_get, slice_index_or, if◌then◌else◌}
+use Rattle.std.specs.List.{range_with_len}
 use Rattle.arrow_types.specs.Fits.{Fits}
 use Rattle.arrow_types.specs.Rows.{chosen, valid_at}
 use Rattle.arrow_types.specs.Slot.{Slot, Null, Boolean}
+use Rattle.arrow_memory.specs.Offsets.{last_of}
+use Rattle.arrow_flat.specs.ByteRows.{ByteParts, row_bytes}
 use Rattle.arrow_flat.specs.Parts.{Parts, FitsRows}
 use Rattle.arrow_arrays.specs.Crowded.{CrowdedRow, Unjoined}
 use Rattle.arrow_arrays.specs.Layout.{Layout, rows, type_of_layout}
@@ -58,3 +61,20 @@ valid_chosen p left right i =
 pub record MarksChosen (p : Parts (List Bool)) (left right validity : Option (List Bool)) : Type 0 where
   pub fits : FitsRows validity (length p.values)
   pub each : (i : ℕ) → i < length p.values → valid_at validity i ≡ valid_chosen p left right i
+
+-- rows of bytes as two slices that are lent: their offsets, and the bytes
+abbrev pub lent : List ℕ → List ℕ → ByteParts
+lent offsets bytes = record { offsets = offsets; bytes = bytes }
+
+-- they hold so many rows
+abbrev pub IsLent : List ℕ → List ℕ → ℕ → Type 0
+IsLent offsets bytes count = (length offsets - 1 ≡ count) × (last_of offsets ≤ length bytes)
+
+-- the bytes of the row that bits choose at a place: none where the row is not valid
+abbrev pub row_chosen : Option (List Bool) → List Bool → ByteParts → ByteParts → ℕ → List ℕ
+row_chosen validity bits l r i =
+    if valid_at validity i then slice_index_or (row_bytes (if slice_index_or bits i false then l else r)) i [] else []
+
+-- and of all rows
+abbrev pub chosen_bytes : Option (List Bool) → List Bool → ByteParts → ByteParts → List (List ℕ)
+chosen_bytes validity bits l r = map (row_chosen validity bits l r) (range_with_len 0 (length bits))

@@ -18,6 +18,7 @@ ghost use Rattle.arrow_select.specs.Ranges.{side_of, sides_from};
 ghost use Rattle.arrow_select.specs.Refusals.{IsIfThenElseRefusal};
 
 mod boolean;
+mod bytes;
 mod primitive;
 mod runs;
 mod words;
@@ -29,6 +30,7 @@ use arrow_flat::array::BooleanArray;
 use arrow_growable::growable::{AnyGrowable, Growable, make_growable};
 use arrow_types::error::{ArgumentFault, Error};
 use boolean::chosen_booleans;
+use bytes::chosen_byte_rows;
 use primitive::chosen_primitives;
 use runs::Runs;
 use std::alloc::Global;
@@ -80,8 +82,8 @@ pub fn if_then_else(
     chosen_rows(alloc, predicate, lhs, rhs)
 }
 
-// The rows that the predicate chooses of two arrays of one data type: of numbers, intervals and truth values by words,
-// and of others by runs.
+// The rows that the predicate chooses of two arrays of one data type: of numbers, intervals and booleans by words, of texts
+// and bytes row by row, and of others by runs.
 fn chosen_rows(
     alloc: Global,
     predicate: &BooleanArray,
@@ -109,6 +111,18 @@ fn chosen_rows(
             let _ = left.data_type();
             let _ = right.data_type();
             Ok(AnyArray::Primitive(chosen_primitives(alloc, predicate, left, right)?))
+        }
+        (AnyArray::Utf8(left), AnyArray::Utf8(right)) => {
+            Ok(AnyArray::Utf8(chosen_byte_rows(alloc, predicate, left, right)?))
+        }
+        (AnyArray::LargeUtf8(left), AnyArray::LargeUtf8(right)) => {
+            Ok(AnyArray::LargeUtf8(chosen_byte_rows(alloc, predicate, left, right)?))
+        }
+        (AnyArray::Binary(left), AnyArray::Binary(right)) => {
+            Ok(AnyArray::Binary(chosen_byte_rows(alloc, predicate, left, right)?))
+        }
+        (AnyArray::LargeBinary(left), AnyArray::LargeBinary(right)) => {
+            Ok(AnyArray::LargeBinary(chosen_byte_rows(alloc, predicate, left, right)?))
         }
         _ => {
             let growable = make_growable(alloc, &[lhs, rhs], false, predicate.len())?;

@@ -10,7 +10,7 @@ use arrow_types::error::Error;
 use std::alloc::Global;
 
 /// How many bytes a span is copied as where it has no more: two moves.
-const BLOCK: usize = 32;
+pub(crate) const BLOCK: usize = 32;
 
 // The bytes of the spans, each from its first byte up to its end. There is room for `total`, and for a block more, from the
 // first on.

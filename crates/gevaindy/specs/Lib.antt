@@ -67,6 +67,7 @@ pub use Rattle.arrow_logic.specs.Answers as Closures
 pub use Rattle.arrow_logic.specs.Length
 pub use Rattle.arrow_logic.specs.Nullif
 pub use Rattle.arrow_logic.specs.Substring
+pub use Rattle.arrow_logic.specs.Truths
 pub use Rattle.arrow_logic.specs.Validities
 pub use Rattle.arrow_relate.specs.Finished
 pub use Rattle.arrow_relate.specs.Same

@@ -25,3 +25,5 @@ mod selection;
 mod stored;
 #[cfg(test)]
 mod types;
+#[cfg(test)]
+mod uses;

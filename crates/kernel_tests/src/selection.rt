@@ -72,7 +72,7 @@ fn joins(alloc: Global, _name: &str, arrays: &[AnyArray]) -> Result<bool, Fault>
 }
 
 // Whether a call made an array that is equal to another one.
-fn is_made(
+pub fn is_made(
     alloc: Global,
     outcome: Result<AnyArray, Error>,
     wanted: &AnyArray,

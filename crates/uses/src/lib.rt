@@ -8,5 +8,3 @@ pub mod distinct;
 pub mod guide;
 pub mod merge;
 pub mod store;
-#[cfg(test)]
-mod tests;

@@ -9,6 +9,7 @@ ghost use Rattle.arrow_flat.specs.Parts.{boolean_rows};
 ghost use Rattle.arrow_arrays.specs.AnyKeys.{key_rows};
 ghost use Rattle.arrow_arrays.specs.KeyedParts.{AreKeys};
 ghost use Rattle.arrow_compare.specs.Filled.{known_or};
+ghost use Rattle.arrow_logic.specs.Truths.{AnswersTruths};
 
 use arrow_arrays::array::AnyKeys;
 use arrow_flat::array::BooleanArray;
@@ -48,10 +49,7 @@ pub(super) fn known_or(
     spare: bool,
     answers: &BooleanArray,
 ) -> Result<BooleanArray, Error>
-    ensures array_type { IfOk result (λ array. array.arrow_type ≡ plain boolean) }
-    ensures rows { IfOk result (λ array. boolean_rows array
-        ≡ map (known_or spare) (boolean_rows answers.now)) }
-    ensures err { IsOkUnless result Error.OutOfMemory }
+    ensures { AnswersTruths result (map (known_or spare) (boolean_rows answers.now)) }
 {
     Ok(truths(known_bits(alloc, spare, answers)?, None))
 }

@@ -1,18 +1,18 @@
 //! Rows of two arrays of logically one type.
 
-ghost use Rattle.std.specs.Prelude.{◌≡◌, length, map, IfOk, IsOkUnless};
-ghost use Rattle.arrow_types.specs.declared.error.Error.{Error};
-ghost use Rattle.arrow_types.specs.ArrowType.{boolean, logical, plain};
+ghost use Rattle.std.specs.Prelude.{◌≡◌, length, map};
+ghost use Rattle.arrow_types.specs.ArrowType.{boolean, logical};
 ghost use Rattle.arrow_types.specs.Physical.{physical_type_of};
 ghost use Rattle.arrow_types.specs.Relation.{related};
 ghost use Rattle.arrow_flat.specs.AnyPrimitive.{any_rows, element_of};
-ghost use Rattle.arrow_flat.specs.Parts.{boolean_rows, rows_by};
+ghost use Rattle.arrow_flat.specs.Parts.{rows_by};
 ghost use Rattle.arrow_arrays.specs.Any.{any_array_rows, any_array_type, primitive_kind};
 ghost use Rattle.arrow_flat.specs.RowByRow.{row_by_row};
 ghost use Rattle.arrow_relate.specs.Related.{relation_of};
 ghost use Rattle.arrow_relate.specs.Same.{is_same};
 ghost use Rattle.arrow_compare.specs.Compared.{HasEquality, HasRelation};
 ghost use Rattle.arrow_compare.specs.Kinds.{IsEquality, KindHasRelation};
+ghost use Rattle.arrow_logic.specs.Truths.{AnswersTruths};
 
 use crate::kinds::have_one_kind;
 use arrow_arrays::array::AnyArray;
@@ -33,10 +33,8 @@ pub(super) fn relate(
     requires one_type { logical (any_array_type lhs.now) ≡ logical (any_array_type rhs.now) }
     requires one_length { length (any_array_rows lhs.now) ≡ length (any_array_rows rhs.now) }
     requires has_relation { HasRelation (relation_of by) (physical_type_of (any_array_type lhs.now)) }
-    ensures array_type { IfOk result (λ array. array.arrow_type ≡ plain boolean) }
-    ensures rows { IfOk result (λ array. boolean_rows array
-        ≡ row_by_row (related (relation_of by)) (any_array_rows lhs.now) (any_array_rows rhs.now)) }
-    ensures err { IsOkUnless result Error.OutOfMemory }
+    ensures { AnswersTruths result
+        (row_by_row (related (relation_of by)) (any_array_rows lhs.now) (any_array_rows rhs.now)) }
 {
     have_one_kind(by, lhs, rhs);
     match (lhs, rhs) {
@@ -65,10 +63,7 @@ pub(super) fn same(alloc: Global, lhs: &AnyArray, rhs: &AnyArray) -> Result<Bool
     requires one_type { logical (any_array_type lhs.now) ≡ logical (any_array_type rhs.now) }
     requires one_length { length (any_array_rows lhs.now) ≡ length (any_array_rows rhs.now) }
     requires has_equality { HasEquality (physical_type_of (any_array_type lhs.now)) }
-    ensures array_type { IfOk result (λ array. array.arrow_type ≡ plain boolean) }
-    ensures rows { IfOk result (λ array. boolean_rows array
-        ≡ row_by_row is_same (any_array_rows lhs.now) (any_array_rows rhs.now)) }
-    ensures err { IsOkUnless result Error.OutOfMemory }
+    ensures { AnswersTruths result (row_by_row is_same (any_array_rows lhs.now) (any_array_rows rhs.now)) }
 {
     have_one_kind(Relation::Eq, lhs, rhs);
     match (lhs, rhs) {
@@ -102,10 +97,8 @@ fn relate_primitive(
     requires one_element { element_of lhs.now ≡ element_of rhs.now }
     requires one_length { length (any_rows lhs.now) ≡ length (any_rows rhs.now) }
     requires has_relation { KindHasRelation (relation_of by) (primitive_kind (element_of lhs.now)) }
-    ensures array_type { IfOk result (λ array. array.arrow_type ≡ plain boolean) }
-    ensures rows { IfOk result (λ array. boolean_rows array
-        ≡ row_by_row (related (relation_of by)) (any_rows lhs.now) (any_rows rhs.now)) }
-    ensures err { IsOkUnless result Error.OutOfMemory }
+    ensures { AnswersTruths result
+        (row_by_row (related (relation_of by)) (any_rows lhs.now) (any_rows rhs.now)) }
 {
     match lhs {
         AnyPrimitive::Int8(left) => relate_numbers(alloc, by, left, rhs),
@@ -132,10 +125,8 @@ fn relate_numbers<T: AnyElement + NativeOrd>(
 ) -> Result<BooleanArray, Error>
     requires one_element { element_of rhs.now ≡ T.PRIMITIVE }
     requires one_length { length (rows_by (map T.slot) lhs.now) ≡ length (any_rows rhs.now) }
-    ensures array_type { IfOk result (λ array. array.arrow_type ≡ plain boolean) }
-    ensures rows { IfOk result (λ array. boolean_rows array
-        ≡ row_by_row (related (relation_of by)) (rows_by (map T.slot) lhs.now) (any_rows rhs.now)) }
-    ensures err { IsOkUnless result Error.OutOfMemory }
+    ensures { AnswersTruths result
+        (row_by_row (related (relation_of by)) (rows_by (map T.slot) lhs.now) (any_rows rhs.now)) }
 {
     primitive::relate(alloc, by, lhs, T::of_any(rhs))
 }
@@ -150,10 +141,8 @@ fn relate_intervals<T: AnyElement>(
     requires one_element { element_of rhs.now ≡ T.PRIMITIVE }
     requires one_length { length (rows_by (map T.slot) lhs.now) ≡ length (any_rows rhs.now) }
     requires equality { IsEquality (relation_of by) }
-    ensures array_type { IfOk result (λ array. array.arrow_type ≡ plain boolean) }
-    ensures rows { IfOk result (λ array. boolean_rows array
-        ≡ row_by_row (related (relation_of by)) (rows_by (map T.slot) lhs.now) (any_rows rhs.now)) }
-    ensures err { IsOkUnless result Error.OutOfMemory }
+    ensures { AnswersTruths result
+        (row_by_row (related (relation_of by)) (rows_by (map T.slot) lhs.now) (any_rows rhs.now)) }
 {
     match by {
         Relation::Eq => primitive::eq(alloc, lhs, T::of_any(rhs)),
@@ -170,10 +159,7 @@ fn same_primitive(
 ) -> Result<BooleanArray, Error>
     requires one_element { element_of lhs.now ≡ element_of rhs.now }
     requires one_length { length (any_rows lhs.now) ≡ length (any_rows rhs.now) }
-    ensures array_type { IfOk result (λ array. array.arrow_type ≡ plain boolean) }
-    ensures rows { IfOk result (λ array. boolean_rows array
-        ≡ row_by_row is_same (any_rows lhs.now) (any_rows rhs.now)) }
-    ensures err { IsOkUnless result Error.OutOfMemory }
+    ensures { AnswersTruths result (row_by_row is_same (any_rows lhs.now) (any_rows rhs.now)) }
 {
     match lhs {
         AnyPrimitive::Int8(left) => same_elements(alloc, left, rhs),
@@ -199,10 +185,7 @@ fn same_elements<T: AnyElement>(
 ) -> Result<BooleanArray, Error>
     requires one_element { element_of rhs.now ≡ T.PRIMITIVE }
     requires one_length { length (rows_by (map T.slot) lhs.now) ≡ length (any_rows rhs.now) }
-    ensures array_type { IfOk result (λ array. array.arrow_type ≡ plain boolean) }
-    ensures rows { IfOk result (λ array. boolean_rows array
-        ≡ row_by_row is_same (rows_by (map T.slot) lhs.now) (any_rows rhs.now)) }
-    ensures err { IsOkUnless result Error.OutOfMemory }
+    ensures { AnswersTruths result (row_by_row is_same (rows_by (map T.slot) lhs.now) (any_rows rhs.now)) }
 {
     primitive::eq_and_validity(alloc, lhs, T::of_any(rhs))
 }

@@ -1,17 +1,16 @@
 //! Rows of an array without dictionaries and a value, a scalar that is no null.
 
-ghost use Rattle.std.specs.Prelude.{◌≡◌, ◌≢◌, false, map, None, Some, IfOk, IsOkUnless};
-ghost use Rattle.arrow_types.specs.declared.error.Error.{Error};
-ghost use Rattle.arrow_types.specs.ArrowType.{boolean, plain};
+ghost use Rattle.std.specs.Prelude.{◌≡◌, ◌≢◌, false, map, None, Some};
+ghost use Rattle.arrow_types.specs.ArrowType.{boolean};
 ghost use Rattle.arrow_types.specs.Relation.{is_null, related};
 ghost use Rattle.arrow_flat.specs.AnyPrimitive.{any_rows, element_of};
 ghost use Rattle.arrow_flat.specs.AnyPrimitiveScalar.{any_scalar_slot, element_of as scalar_element};
 ghost use Rattle.arrow_flat.specs.AnyScalar.{meaning_of};
-ghost use Rattle.arrow_flat.specs.Parts.{boolean_rows};
 ghost use Rattle.arrow_flat.specs.Scalars.{slot_by};
 ghost use Rattle.arrow_arrays.specs.Any.{any_array_rows, kind_of, primitive_kind};
 ghost use Rattle.arrow_relate.specs.Related.{relation_of};
 ghost use Rattle.arrow_compare.specs.Kinds.{IsEquality, KindHasRelation, scalar_kind};
+ghost use Rattle.arrow_logic.specs.Truths.{AnswersTruths};
 
 use arrow_arrays::array::AnyArray;
 use arrow_flat::array::{AnyElement, AnyPrimitive, BooleanArray};
@@ -32,10 +31,8 @@ pub(super) fn relate_flat(
     requires one_kind { kind_of lhs.now ≡ scalar_kind rhs.now }
     requires has_relation { KindHasRelation (relation_of by) (scalar_kind rhs.now) }
     requires valid { is_null (meaning_of rhs.now).1 ≡ false }
-    ensures array_type { IfOk result (λ array. array.arrow_type ≡ plain boolean) }
-    ensures rows { IfOk result (λ array. boolean_rows array
-        ≡ map (λ s. related (relation_of by) s (meaning_of rhs.now).1) (any_array_rows lhs.now)) }
-    ensures err { IsOkUnless result Error.OutOfMemory }
+    ensures { AnswersTruths result
+        (map (λ s. related (relation_of by) s (meaning_of rhs.now).1) (any_array_rows lhs.now)) }
 {
     match (lhs, rhs) {
         (AnyArray::Boolean(array), AnyScalar::Boolean(scalar)) => {
@@ -81,10 +78,8 @@ fn relate_primitive(
     requires one_element { element_of lhs.now ≡ scalar_element rhs.now }
     requires has_relation { KindHasRelation (relation_of by) (primitive_kind (scalar_element rhs.now)) }
     requires valid { is_null (any_scalar_slot rhs.now) ≡ false }
-    ensures array_type { IfOk result (λ array. array.arrow_type ≡ plain boolean) }
-    ensures rows { IfOk result (λ array. boolean_rows array
-        ≡ map (λ s. related (relation_of by) s (any_scalar_slot rhs.now)) (any_rows lhs.now)) }
-    ensures err { IsOkUnless result Error.OutOfMemory }
+    ensures { AnswersTruths result
+        (map (λ s. related (relation_of by) s (any_scalar_slot rhs.now)) (any_rows lhs.now)) }
 {
     match rhs {
         AnyPrimitiveScalar::Int8(rhs) => relate_number(alloc, by, lhs, rhs),
@@ -111,10 +106,8 @@ fn relate_number<T: AnyElement + NativeOrd>(
 ) -> Result<BooleanArray, Error>
     requires one_element { element_of lhs.now ≡ T.PRIMITIVE }
     requires valid { is_null (slot_by T.slot rhs.now.value) ≡ false }
-    ensures array_type { IfOk result (λ array. array.arrow_type ≡ plain boolean) }
-    ensures rows { IfOk result (λ array. boolean_rows array
-        ≡ map (λ s. related (relation_of by) s (slot_by T.slot rhs.now.value)) (any_rows lhs.now)) }
-    ensures err { IsOkUnless result Error.OutOfMemory }
+    ensures { AnswersTruths result
+        (map (λ s. related (relation_of by) s (slot_by T.slot rhs.now.value)) (any_rows lhs.now)) }
 {
     primitive::relate_scalar(alloc, by, T::of_any(lhs), known(rhs.value()))
 }
@@ -129,10 +122,8 @@ fn relate_interval<T: AnyElement>(
     requires one_element { element_of lhs.now ≡ T.PRIMITIVE }
     requires equality { IsEquality (relation_of by) }
     requires valid { is_null (slot_by T.slot rhs.now.value) ≡ false }
-    ensures array_type { IfOk result (λ array. array.arrow_type ≡ plain boolean) }
-    ensures rows { IfOk result (λ array. boolean_rows array
-        ≡ map (λ s. related (relation_of by) s (slot_by T.slot rhs.now.value)) (any_rows lhs.now)) }
-    ensures err { IsOkUnless result Error.OutOfMemory }
+    ensures { AnswersTruths result
+        (map (λ s. related (relation_of by) s (slot_by T.slot rhs.now.value)) (any_rows lhs.now)) }
 {
     match by {
         Relation::Eq => primitive::eq_scalar(alloc, T::of_any(lhs), known(rhs.value())),

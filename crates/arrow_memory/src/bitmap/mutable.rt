@@ -9,7 +9,7 @@ ghost use Rattle.arrow_memory.specs.Sliced.{sliced};
 ghost use Rattle.arrow_memory.specs.Words.{low_bits};
 
 use crate::bitmap::Bitmap;
-use crate::words::{WORD_BITS, append_equal, append_within, append_word, low_word};
+use crate::words::{WORD_BITS, append_equal, append_within, append_word, equal_bits, low_word};
 use arrow_types::error::Error;
 use std::alloc::Global;
 use std::marker::Model;
@@ -99,6 +99,9 @@ impl MutableBitmap {
         ensures others { IfErr result IsGrowthError }
         ensures err { OnErr result (self.new ≡ self.old) }
     {
+        if additional <= WORD_BITS {
+            return self.push_word(equal_bits(additional, bit), additional);
+        }
         let total = reserve(&mut self.words, self.len, additional)?;
         append_equal(&mut self.words, self.len, additional, bit);
         self.len = total;
@@ -124,6 +127,9 @@ impl MutableBitmap {
         ensures others { IfErr result IsGrowthError }
         ensures err { OnErr result (self.new ≡ self.old) }
     {
+        if len <= WORD_BITS {
+            return self.push_word(bitmap.bits_from(start, len), len);
+        }
         let total = reserve(&mut self.words, self.len, len)?;
         bitmap.append_to(&mut self.words, self.len, start, len);
         self.len = total;

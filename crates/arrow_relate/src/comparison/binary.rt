@@ -1,15 +1,14 @@
 //! Relations of rows of bytes: by the first that differs, unsigned; a beginning comes before what goes on.
 
-ghost use Rattle.std.specs.Prelude.{◌≡◌, map, IfOk, IsOkUnless};
-ghost use Rattle.arrow_types.specs.declared.error.Error.{Error};
-ghost use Rattle.arrow_types.specs.ArrowType.{boolean, plain};
+ghost use Rattle.std.specs.Prelude.{map};
 ghost use Rattle.arrow_types.specs.Relation.{related};
 ghost use Rattle.arrow_types.specs.Relation as relation;
 ghost use Rattle.arrow_relate.specs.Related.{relation_of};
 ghost use Rattle.arrow_types.specs.Slot.{Bytes};
 ghost use Rattle.arrow_flat.specs.ByteRows.{byte_slots};
-ghost use Rattle.arrow_flat.specs.Parts.{boolean_rows, rows_by};
+ghost use Rattle.arrow_flat.specs.Parts.{rows_by};
 ghost use Rattle.arrow_relate.specs.Same.{is_same, differs};
+ghost use Rattle.arrow_logic.specs.Truths.{AnswersTruths};
 
 use crate::fixed::{Equal, Greater, GreaterOrEqual, Less, LessOrEqual, NotEqual};
 use crate::relation::Relation;
@@ -35,10 +34,8 @@ pub fn eq_scalar<O: Offset>(
     lhs: &BinaryArray<O>,
     rhs: &[u8],
 ) -> Result<BooleanArray, Error>
-    ensures array_type { IfOk result (λ array. array.arrow_type ≡ plain boolean) }
-    ensures rows { IfOk result (λ array. boolean_rows array
-        ≡ map (λ s. related relation.eq s (Bytes rhs.now)) (rows_by (byte_slots Bytes) lhs.now)) }
-    ensures err { IsOkUnless result Error.OutOfMemory }
+    ensures { AnswersTruths result
+        (map (λ s. related relation.eq s (Bytes rhs.now)) (rows_by (byte_slots Bytes) lhs.now)) }
 {
     relate_scalar_by::<Equal, _, _>(alloc, lhs, rhs)
 }
@@ -54,10 +51,8 @@ pub fn eq_scalar_and_validity<O: Offset>(
     lhs: &BinaryArray<O>,
     rhs: &[u8],
 ) -> Result<BooleanArray, Error>
-    ensures array_type { IfOk result (λ array. array.arrow_type ≡ plain boolean) }
-    ensures rows { IfOk result (λ array. boolean_rows array
-        ≡ map (λ s. is_same s (Bytes rhs.now)) (rows_by (byte_slots Bytes) lhs.now)) }
-    ensures err { IsOkUnless result Error.OutOfMemory }
+    ensures { AnswersTruths result
+        (map (λ s. is_same s (Bytes rhs.now)) (rows_by (byte_slots Bytes) lhs.now)) }
 {
     same_scalar_by::<Equal, _, _>(alloc, lhs, rhs)
 }
@@ -73,10 +68,8 @@ pub fn neq_scalar<O: Offset>(
     lhs: &BinaryArray<O>,
     rhs: &[u8],
 ) -> Result<BooleanArray, Error>
-    ensures array_type { IfOk result (λ array. array.arrow_type ≡ plain boolean) }
-    ensures rows { IfOk result (λ array. boolean_rows array
-        ≡ map (λ s. related relation.neq s (Bytes rhs.now)) (rows_by (byte_slots Bytes) lhs.now)) }
-    ensures err { IsOkUnless result Error.OutOfMemory }
+    ensures { AnswersTruths result
+        (map (λ s. related relation.neq s (Bytes rhs.now)) (rows_by (byte_slots Bytes) lhs.now)) }
 {
     relate_scalar_by::<NotEqual, _, _>(alloc, lhs, rhs)
 }
@@ -92,10 +85,8 @@ pub fn neq_scalar_and_validity<O: Offset>(
     lhs: &BinaryArray<O>,
     rhs: &[u8],
 ) -> Result<BooleanArray, Error>
-    ensures array_type { IfOk result (λ array. array.arrow_type ≡ plain boolean) }
-    ensures rows { IfOk result (λ array. boolean_rows array
-        ≡ map (λ s. differs s (Bytes rhs.now)) (rows_by (byte_slots Bytes) lhs.now)) }
-    ensures err { IsOkUnless result Error.OutOfMemory }
+    ensures { AnswersTruths result
+        (map (λ s. differs s (Bytes rhs.now)) (rows_by (byte_slots Bytes) lhs.now)) }
 {
     same_scalar_by::<NotEqual, _, _>(alloc, lhs, rhs)
 }
@@ -111,10 +102,8 @@ pub fn lt_scalar<O: Offset>(
     lhs: &BinaryArray<O>,
     rhs: &[u8],
 ) -> Result<BooleanArray, Error>
-    ensures array_type { IfOk result (λ array. array.arrow_type ≡ plain boolean) }
-    ensures rows { IfOk result (λ array. boolean_rows array
-        ≡ map (λ s. related relation.lt s (Bytes rhs.now)) (rows_by (byte_slots Bytes) lhs.now)) }
-    ensures err { IsOkUnless result Error.OutOfMemory }
+    ensures { AnswersTruths result
+        (map (λ s. related relation.lt s (Bytes rhs.now)) (rows_by (byte_slots Bytes) lhs.now)) }
 {
     relate_scalar_by::<Less, _, _>(alloc, lhs, rhs)
 }
@@ -130,10 +119,8 @@ pub fn lt_eq_scalar<O: Offset>(
     lhs: &BinaryArray<O>,
     rhs: &[u8],
 ) -> Result<BooleanArray, Error>
-    ensures array_type { IfOk result (λ array. array.arrow_type ≡ plain boolean) }
-    ensures rows { IfOk result (λ array. boolean_rows array
-        ≡ map (λ s. related relation.lt_eq s (Bytes rhs.now)) (rows_by (byte_slots Bytes) lhs.now)) }
-    ensures err { IsOkUnless result Error.OutOfMemory }
+    ensures { AnswersTruths result
+        (map (λ s. related relation.lt_eq s (Bytes rhs.now)) (rows_by (byte_slots Bytes) lhs.now)) }
 {
     relate_scalar_by::<LessOrEqual, _, _>(alloc, lhs, rhs)
 }
@@ -149,10 +136,8 @@ pub fn gt_scalar<O: Offset>(
     lhs: &BinaryArray<O>,
     rhs: &[u8],
 ) -> Result<BooleanArray, Error>
-    ensures array_type { IfOk result (λ array. array.arrow_type ≡ plain boolean) }
-    ensures rows { IfOk result (λ array. boolean_rows array
-        ≡ map (λ s. related relation.gt s (Bytes rhs.now)) (rows_by (byte_slots Bytes) lhs.now)) }
-    ensures err { IsOkUnless result Error.OutOfMemory }
+    ensures { AnswersTruths result
+        (map (λ s. related relation.gt s (Bytes rhs.now)) (rows_by (byte_slots Bytes) lhs.now)) }
 {
     relate_scalar_by::<Greater, _, _>(alloc, lhs, rhs)
 }
@@ -168,10 +153,8 @@ pub fn gt_eq_scalar<O: Offset>(
     lhs: &BinaryArray<O>,
     rhs: &[u8],
 ) -> Result<BooleanArray, Error>
-    ensures array_type { IfOk result (λ array. array.arrow_type ≡ plain boolean) }
-    ensures rows { IfOk result (λ array. boolean_rows array
-        ≡ map (λ s. related relation.gt_eq s (Bytes rhs.now)) (rows_by (byte_slots Bytes) lhs.now)) }
-    ensures err { IsOkUnless result Error.OutOfMemory }
+    ensures { AnswersTruths result
+        (map (λ s. related relation.gt_eq s (Bytes rhs.now)) (rows_by (byte_slots Bytes) lhs.now)) }
 {
     relate_scalar_by::<GreaterOrEqual, _, _>(alloc, lhs, rhs)
 }
@@ -186,10 +169,8 @@ pub fn relate_scalar<O: Offset>(
     lhs: &BinaryArray<O>,
     rhs: &[u8],
 ) -> Result<BooleanArray, Error>
-    ensures array_type { IfOk result (λ array. array.arrow_type ≡ plain boolean) }
-    ensures rows { IfOk result (λ array. boolean_rows array
-        ≡ map (λ s. related (relation_of by) s (Bytes rhs.now)) (rows_by (byte_slots Bytes) lhs.now)) }
-    ensures err { IsOkUnless result Error.OutOfMemory }
+    ensures { AnswersTruths result
+        (map (λ s. related (relation_of by) s (Bytes rhs.now)) (rows_by (byte_slots Bytes) lhs.now)) }
 {
     by_relation!(by, relate_scalar_by::<_, _, _>(alloc, lhs, rhs))
 }

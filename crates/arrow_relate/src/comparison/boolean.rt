@@ -12,6 +12,7 @@ ghost use Rattle.arrow_flat.specs.RowByRow.{row_by_row};
 ghost use Rattle.arrow_relate.specs.Same.{is_same, differs};
 ghost use Rattle.arrow_memory.specs.Words.{word_of};
 ghost use Rattle.arrow_relate.specs.Chunked.{AnswersByWords, Chunked, TakesWords, answers_word};
+ghost use Rattle.arrow_logic.specs.Truths.{AnswersTruths};
 
 use crate::fixed::{Equal, FixedRelation, Greater, GreaterOrEqual, Less, LessOrEqual, NotEqual};
 use crate::relation::Relation;
@@ -36,10 +37,8 @@ use std::alloc::Global;
 /// Source: arrow2's `comparison::boolean::eq`.
 pub fn eq(alloc: Global, lhs: &BooleanArray, rhs: &BooleanArray) -> Result<BooleanArray, Error>
     requires { length (boolean_rows lhs.now) ≡ length (boolean_rows rhs.now) }
-    ensures array_type { IfOk result (λ array. array.arrow_type ≡ plain boolean) }
-    ensures rows { IfOk result (λ array. boolean_rows array
-        ≡ row_by_row (related relation.eq) (boolean_rows lhs.now) (boolean_rows rhs.now)) }
-    ensures err { IsOkUnless result Error.OutOfMemory }
+    ensures { AnswersTruths result
+        (row_by_row (related relation.eq) (boolean_rows lhs.now) (boolean_rows rhs.now)) }
 {
     relate_by::<Equal, _>(alloc, lhs, rhs)
 }
@@ -59,10 +58,7 @@ pub fn eq_and_validity(
     rhs: &BooleanArray,
 ) -> Result<BooleanArray, Error>
     requires { length (boolean_rows lhs.now) ≡ length (boolean_rows rhs.now) }
-    ensures array_type { IfOk result (λ array. array.arrow_type ≡ plain boolean) }
-    ensures rows { IfOk result (λ array. boolean_rows array
-        ≡ row_by_row is_same (boolean_rows lhs.now) (boolean_rows rhs.now)) }
-    ensures err { IsOkUnless result Error.OutOfMemory }
+    ensures { AnswersTruths result (row_by_row is_same (boolean_rows lhs.now) (boolean_rows rhs.now)) }
 {
     same_by::<Equal, _>(alloc, lhs, rhs)
 }
@@ -74,10 +70,7 @@ pub fn eq_and_validity(
 ///
 /// Source: arrow2's `comparison::boolean::eq_scalar`.
 pub fn eq_scalar(alloc: Global, lhs: &BooleanArray, rhs: bool) -> Result<BooleanArray, Error>
-    ensures array_type { IfOk result (λ array. array.arrow_type ≡ plain boolean) }
-    ensures rows { IfOk result (λ array. boolean_rows array
-        ≡ map (λ s. related relation.eq s (Boolean rhs)) (boolean_rows lhs.now)) }
-    ensures err { IsOkUnless result Error.OutOfMemory }
+    ensures { AnswersTruths result (map (λ s. related relation.eq s (Boolean rhs)) (boolean_rows lhs.now)) }
 {
     relate_scalar_by::<Equal, _, _>(alloc, lhs, rhs)
 }
@@ -93,10 +86,7 @@ pub fn eq_scalar_and_validity(
     lhs: &BooleanArray,
     rhs: bool,
 ) -> Result<BooleanArray, Error>
-    ensures array_type { IfOk result (λ array. array.arrow_type ≡ plain boolean) }
-    ensures rows { IfOk result (λ array. boolean_rows array
-        ≡ map (λ s. is_same s (Boolean rhs)) (boolean_rows lhs.now)) }
-    ensures err { IsOkUnless result Error.OutOfMemory }
+    ensures { AnswersTruths result (map (λ s. is_same s (Boolean rhs)) (boolean_rows lhs.now)) }
 {
     same_scalar_by::<Equal, _, _>(alloc, lhs, rhs)
 }
@@ -112,10 +102,8 @@ pub fn eq_scalar_and_validity(
 /// Source: arrow2's `comparison::boolean::neq`.
 pub fn neq(alloc: Global, lhs: &BooleanArray, rhs: &BooleanArray) -> Result<BooleanArray, Error>
     requires { length (boolean_rows lhs.now) ≡ length (boolean_rows rhs.now) }
-    ensures array_type { IfOk result (λ array. array.arrow_type ≡ plain boolean) }
-    ensures rows { IfOk result (λ array. boolean_rows array
-        ≡ row_by_row (related relation.neq) (boolean_rows lhs.now) (boolean_rows rhs.now)) }
-    ensures err { IsOkUnless result Error.OutOfMemory }
+    ensures { AnswersTruths result
+        (row_by_row (related relation.neq) (boolean_rows lhs.now) (boolean_rows rhs.now)) }
 {
     relate_by::<NotEqual, _>(alloc, lhs, rhs)
 }
@@ -135,10 +123,7 @@ pub fn neq_and_validity(
     rhs: &BooleanArray,
 ) -> Result<BooleanArray, Error>
     requires { length (boolean_rows lhs.now) ≡ length (boolean_rows rhs.now) }
-    ensures array_type { IfOk result (λ array. array.arrow_type ≡ plain boolean) }
-    ensures rows { IfOk result (λ array. boolean_rows array
-        ≡ row_by_row differs (boolean_rows lhs.now) (boolean_rows rhs.now)) }
-    ensures err { IsOkUnless result Error.OutOfMemory }
+    ensures { AnswersTruths result (row_by_row differs (boolean_rows lhs.now) (boolean_rows rhs.now)) }
 {
     same_by::<NotEqual, _>(alloc, lhs, rhs)
 }
@@ -150,10 +135,7 @@ pub fn neq_and_validity(
 ///
 /// Source: arrow2's `comparison::boolean::neq_scalar`.
 pub fn neq_scalar(alloc: Global, lhs: &BooleanArray, rhs: bool) -> Result<BooleanArray, Error>
-    ensures array_type { IfOk result (λ array. array.arrow_type ≡ plain boolean) }
-    ensures rows { IfOk result (λ array. boolean_rows array
-        ≡ map (λ s. related relation.neq s (Boolean rhs)) (boolean_rows lhs.now)) }
-    ensures err { IsOkUnless result Error.OutOfMemory }
+    ensures { AnswersTruths result (map (λ s. related relation.neq s (Boolean rhs)) (boolean_rows lhs.now)) }
 {
     relate_scalar_by::<NotEqual, _, _>(alloc, lhs, rhs)
 }
@@ -169,10 +151,7 @@ pub fn neq_scalar_and_validity(
     lhs: &BooleanArray,
     rhs: bool,
 ) -> Result<BooleanArray, Error>
-    ensures array_type { IfOk result (λ array. array.arrow_type ≡ plain boolean) }
-    ensures rows { IfOk result (λ array. boolean_rows array
-        ≡ map (λ s. differs s (Boolean rhs)) (boolean_rows lhs.now)) }
-    ensures err { IsOkUnless result Error.OutOfMemory }
+    ensures { AnswersTruths result (map (λ s. differs s (Boolean rhs)) (boolean_rows lhs.now)) }
 {
     same_scalar_by::<NotEqual, _, _>(alloc, lhs, rhs)
 }
@@ -188,10 +167,8 @@ pub fn neq_scalar_and_validity(
 /// Source: arrow2's `comparison::boolean::lt`.
 pub fn lt(alloc: Global, lhs: &BooleanArray, rhs: &BooleanArray) -> Result<BooleanArray, Error>
     requires { length (boolean_rows lhs.now) ≡ length (boolean_rows rhs.now) }
-    ensures array_type { IfOk result (λ array. array.arrow_type ≡ plain boolean) }
-    ensures rows { IfOk result (λ array. boolean_rows array
-        ≡ row_by_row (related relation.lt) (boolean_rows lhs.now) (boolean_rows rhs.now)) }
-    ensures err { IsOkUnless result Error.OutOfMemory }
+    ensures { AnswersTruths result
+        (row_by_row (related relation.lt) (boolean_rows lhs.now) (boolean_rows rhs.now)) }
 {
     relate_by::<Less, _>(alloc, lhs, rhs)
 }
@@ -203,10 +180,7 @@ pub fn lt(alloc: Global, lhs: &BooleanArray, rhs: &BooleanArray) -> Result<Boole
 ///
 /// Source: arrow2's `comparison::boolean::lt_scalar`.
 pub fn lt_scalar(alloc: Global, lhs: &BooleanArray, rhs: bool) -> Result<BooleanArray, Error>
-    ensures array_type { IfOk result (λ array. array.arrow_type ≡ plain boolean) }
-    ensures rows { IfOk result (λ array. boolean_rows array
-        ≡ map (λ s. related relation.lt s (Boolean rhs)) (boolean_rows lhs.now)) }
-    ensures err { IsOkUnless result Error.OutOfMemory }
+    ensures { AnswersTruths result (map (λ s. related relation.lt s (Boolean rhs)) (boolean_rows lhs.now)) }
 {
     relate_scalar_by::<Less, _, _>(alloc, lhs, rhs)
 }
@@ -222,10 +196,8 @@ pub fn lt_scalar(alloc: Global, lhs: &BooleanArray, rhs: bool) -> Result<Boolean
 /// Source: arrow2's `comparison::boolean::lt_eq`.
 pub fn lt_eq(alloc: Global, lhs: &BooleanArray, rhs: &BooleanArray) -> Result<BooleanArray, Error>
     requires { length (boolean_rows lhs.now) ≡ length (boolean_rows rhs.now) }
-    ensures array_type { IfOk result (λ array. array.arrow_type ≡ plain boolean) }
-    ensures rows { IfOk result (λ array. boolean_rows array
-        ≡ row_by_row (related relation.lt_eq) (boolean_rows lhs.now) (boolean_rows rhs.now)) }
-    ensures err { IsOkUnless result Error.OutOfMemory }
+    ensures { AnswersTruths result
+        (row_by_row (related relation.lt_eq) (boolean_rows lhs.now) (boolean_rows rhs.now)) }
 {
     relate_by::<LessOrEqual, _>(alloc, lhs, rhs)
 }
@@ -237,10 +209,8 @@ pub fn lt_eq(alloc: Global, lhs: &BooleanArray, rhs: &BooleanArray) -> Result<Bo
 ///
 /// Source: arrow2's `comparison::boolean::lt_eq_scalar`.
 pub fn lt_eq_scalar(alloc: Global, lhs: &BooleanArray, rhs: bool) -> Result<BooleanArray, Error>
-    ensures array_type { IfOk result (λ array. array.arrow_type ≡ plain boolean) }
-    ensures rows { IfOk result (λ array. boolean_rows array
-        ≡ map (λ s. related relation.lt_eq s (Boolean rhs)) (boolean_rows lhs.now)) }
-    ensures err { IsOkUnless result Error.OutOfMemory }
+    ensures { AnswersTruths result
+        (map (λ s. related relation.lt_eq s (Boolean rhs)) (boolean_rows lhs.now)) }
 {
     relate_scalar_by::<LessOrEqual, _, _>(alloc, lhs, rhs)
 }
@@ -256,10 +226,8 @@ pub fn lt_eq_scalar(alloc: Global, lhs: &BooleanArray, rhs: bool) -> Result<Bool
 /// Source: arrow2's `comparison::boolean::gt`.
 pub fn gt(alloc: Global, lhs: &BooleanArray, rhs: &BooleanArray) -> Result<BooleanArray, Error>
     requires { length (boolean_rows lhs.now) ≡ length (boolean_rows rhs.now) }
-    ensures array_type { IfOk result (λ array. array.arrow_type ≡ plain boolean) }
-    ensures rows { IfOk result (λ array. boolean_rows array
-        ≡ row_by_row (related relation.gt) (boolean_rows lhs.now) (boolean_rows rhs.now)) }
-    ensures err { IsOkUnless result Error.OutOfMemory }
+    ensures { AnswersTruths result
+        (row_by_row (related relation.gt) (boolean_rows lhs.now) (boolean_rows rhs.now)) }
 {
     relate_by::<Greater, _>(alloc, lhs, rhs)
 }
@@ -271,10 +239,7 @@ pub fn gt(alloc: Global, lhs: &BooleanArray, rhs: &BooleanArray) -> Result<Boole
 ///
 /// Source: arrow2's `comparison::boolean::gt_scalar`.
 pub fn gt_scalar(alloc: Global, lhs: &BooleanArray, rhs: bool) -> Result<BooleanArray, Error>
-    ensures array_type { IfOk result (λ array. array.arrow_type ≡ plain boolean) }
-    ensures rows { IfOk result (λ array. boolean_rows array
-        ≡ map (λ s. related relation.gt s (Boolean rhs)) (boolean_rows lhs.now)) }
-    ensures err { IsOkUnless result Error.OutOfMemory }
+    ensures { AnswersTruths result (map (λ s. related relation.gt s (Boolean rhs)) (boolean_rows lhs.now)) }
 {
     relate_scalar_by::<Greater, _, _>(alloc, lhs, rhs)
 }
@@ -290,10 +255,8 @@ pub fn gt_scalar(alloc: Global, lhs: &BooleanArray, rhs: bool) -> Result<Boolean
 /// Source: arrow2's `comparison::boolean::gt_eq`.
 pub fn gt_eq(alloc: Global, lhs: &BooleanArray, rhs: &BooleanArray) -> Result<BooleanArray, Error>
     requires { length (boolean_rows lhs.now) ≡ length (boolean_rows rhs.now) }
-    ensures array_type { IfOk result (λ array. array.arrow_type ≡ plain boolean) }
-    ensures rows { IfOk result (λ array. boolean_rows array
-        ≡ row_by_row (related relation.gt_eq) (boolean_rows lhs.now) (boolean_rows rhs.now)) }
-    ensures err { IsOkUnless result Error.OutOfMemory }
+    ensures { AnswersTruths result
+        (row_by_row (related relation.gt_eq) (boolean_rows lhs.now) (boolean_rows rhs.now)) }
 {
     relate_by::<GreaterOrEqual, _>(alloc, lhs, rhs)
 }
@@ -305,10 +268,8 @@ pub fn gt_eq(alloc: Global, lhs: &BooleanArray, rhs: &BooleanArray) -> Result<Bo
 ///
 /// Source: arrow2's `comparison::boolean::gt_eq_scalar`.
 pub fn gt_eq_scalar(alloc: Global, lhs: &BooleanArray, rhs: bool) -> Result<BooleanArray, Error>
-    ensures array_type { IfOk result (λ array. array.arrow_type ≡ plain boolean) }
-    ensures rows { IfOk result (λ array. boolean_rows array
-        ≡ map (λ s. related relation.gt_eq s (Boolean rhs)) (boolean_rows lhs.now)) }
-    ensures err { IsOkUnless result Error.OutOfMemory }
+    ensures { AnswersTruths result
+        (map (λ s. related relation.gt_eq s (Boolean rhs)) (boolean_rows lhs.now)) }
 {
     relate_scalar_by::<GreaterOrEqual, _, _>(alloc, lhs, rhs)
 }
@@ -327,10 +288,8 @@ pub fn relate(
     rhs: &BooleanArray,
 ) -> Result<BooleanArray, Error>
     requires { length (boolean_rows lhs.now) ≡ length (boolean_rows rhs.now) }
-    ensures array_type { IfOk result (λ array. array.arrow_type ≡ plain boolean) }
-    ensures rows { IfOk result (λ array. boolean_rows array
-        ≡ row_by_row (related (relation_of by)) (boolean_rows lhs.now) (boolean_rows rhs.now)) }
-    ensures err { IsOkUnless result Error.OutOfMemory }
+    ensures { AnswersTruths result
+        (row_by_row (related (relation_of by)) (boolean_rows lhs.now) (boolean_rows rhs.now)) }
 {
     by_relation!(by, relate_by::<_, _>(alloc, lhs, rhs))
 }
@@ -345,10 +304,8 @@ pub fn relate_scalar(
     lhs: &BooleanArray,
     rhs: bool,
 ) -> Result<BooleanArray, Error>
-    ensures array_type { IfOk result (λ array. array.arrow_type ≡ plain boolean) }
-    ensures rows { IfOk result (λ array. boolean_rows array
-        ≡ map (λ s. related (relation_of by) s (Boolean rhs)) (boolean_rows lhs.now)) }
-    ensures err { IsOkUnless result Error.OutOfMemory }
+    ensures { AnswersTruths result
+        (map (λ s. related (relation_of by) s (Boolean rhs)) (boolean_rows lhs.now)) }
 {
     by_relation!(by, relate_scalar_by::<_, _, _>(alloc, lhs, rhs))
 }

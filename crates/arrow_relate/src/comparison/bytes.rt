@@ -1,18 +1,18 @@
 //! Relations of rows of bytes, of texts and of any bytes alike.
 
-ghost use Rattle.std.specs.Prelude.{◌≡◌, ◌+◌, ◌<◌, ◌≤◌, ℕ, List, Some, length, map, refl, slice_get, slice_index, IfOk, IsOkUnless};
+ghost use Rattle.std.specs.Prelude.{◌≡◌, ◌+◌, ◌<◌, ◌≤◌, ℕ, List, Some, length, map, refl, slice_get, slice_index};
 ghost use Rattle.std.specs.Ordering.{is_eq};
 ghost use Rattle.std.specs.Slice.Scan.{IsFirstPlace, differ};
 ghost use Rattle.arrow_types.specs.declared.error.Error.{Error};
-ghost use Rattle.arrow_types.specs.ArrowType.{boolean, plain};
 ghost use Rattle.arrow_types.specs.Relation.{Relation as RowRelation, byte_order, holds, related};
 ghost use Rattle.arrow_types.specs.Relation as relation;
 ghost use Rattle.arrow_types.specs.Slot.{Boolean};
 ghost use Rattle.arrow_flat.specs.ByteRows.{byte_slots, row_bytes};
-ghost use Rattle.arrow_flat.specs.Parts.{boolean_rows, rows_by};
+ghost use Rattle.arrow_flat.specs.Parts.{rows_by};
 ghost use Rattle.arrow_flat.specs.RowByRow.{row_by_row};
 ghost use Rattle.arrow_relate.specs.Related.{relation_of};
 ghost use Rattle.arrow_relate.specs.Same.{differs, is_same};
+ghost use Rattle.arrow_logic.specs.Truths.{AnswersTruths};
 
 use crate::fixed::{Equal, FixedRelation, Greater, GreaterOrEqual, Less, LessOrEqual, NotEqual};
 use crate::relation::Relation;
@@ -44,11 +44,9 @@ pub fn eq<O: Offset, K: ComparedBytes>(
     rhs: &FlatArray<ByteRows<O, K>>,
 ) -> Result<BooleanArray, Error>
     requires { length (rows_by (byte_slots K.slot) lhs.now) ≡ length (rows_by (byte_slots K.slot) rhs.now) }
-    ensures array_type { IfOk result (λ array. array.arrow_type ≡ plain boolean) }
-    ensures rows { IfOk result (λ array. boolean_rows array
-        ≡ row_by_row (related relation.eq) (rows_by (byte_slots K.slot) lhs.now)
+    ensures { AnswersTruths result
+        (row_by_row (related relation.eq) (rows_by (byte_slots K.slot) lhs.now)
         (rows_by (byte_slots K.slot) rhs.now)) }
-    ensures err { IsOkUnless result Error.OutOfMemory }
 {
     relate_by::<Equal, _>(alloc, lhs, rhs)
 }
@@ -68,10 +66,8 @@ pub fn eq_and_validity<O: Offset, K: ComparedBytes>(
     rhs: &FlatArray<ByteRows<O, K>>,
 ) -> Result<BooleanArray, Error>
     requires { length (rows_by (byte_slots K.slot) lhs.now) ≡ length (rows_by (byte_slots K.slot) rhs.now) }
-    ensures array_type { IfOk result (λ array. array.arrow_type ≡ plain boolean) }
-    ensures rows { IfOk result (λ array. boolean_rows array
-        ≡ row_by_row is_same (rows_by (byte_slots K.slot) lhs.now) (rows_by (byte_slots K.slot) rhs.now)) }
-    ensures err { IsOkUnless result Error.OutOfMemory }
+    ensures { AnswersTruths result
+        (row_by_row is_same (rows_by (byte_slots K.slot) lhs.now) (rows_by (byte_slots K.slot) rhs.now)) }
 {
     same_by::<Equal, _>(alloc, lhs, rhs)
 }
@@ -91,11 +87,9 @@ pub fn neq<O: Offset, K: ComparedBytes>(
     rhs: &FlatArray<ByteRows<O, K>>,
 ) -> Result<BooleanArray, Error>
     requires { length (rows_by (byte_slots K.slot) lhs.now) ≡ length (rows_by (byte_slots K.slot) rhs.now) }
-    ensures array_type { IfOk result (λ array. array.arrow_type ≡ plain boolean) }
-    ensures rows { IfOk result (λ array. boolean_rows array
-        ≡ row_by_row (related relation.neq) (rows_by (byte_slots K.slot) lhs.now)
+    ensures { AnswersTruths result
+        (row_by_row (related relation.neq) (rows_by (byte_slots K.slot) lhs.now)
         (rows_by (byte_slots K.slot) rhs.now)) }
-    ensures err { IsOkUnless result Error.OutOfMemory }
 {
     relate_by::<NotEqual, _>(alloc, lhs, rhs)
 }
@@ -115,10 +109,8 @@ pub fn neq_and_validity<O: Offset, K: ComparedBytes>(
     rhs: &FlatArray<ByteRows<O, K>>,
 ) -> Result<BooleanArray, Error>
     requires { length (rows_by (byte_slots K.slot) lhs.now) ≡ length (rows_by (byte_slots K.slot) rhs.now) }
-    ensures array_type { IfOk result (λ array. array.arrow_type ≡ plain boolean) }
-    ensures rows { IfOk result (λ array. boolean_rows array
-        ≡ row_by_row differs (rows_by (byte_slots K.slot) lhs.now) (rows_by (byte_slots K.slot) rhs.now)) }
-    ensures err { IsOkUnless result Error.OutOfMemory }
+    ensures { AnswersTruths result
+        (row_by_row differs (rows_by (byte_slots K.slot) lhs.now) (rows_by (byte_slots K.slot) rhs.now)) }
 {
     same_by::<NotEqual, _>(alloc, lhs, rhs)
 }
@@ -138,11 +130,9 @@ pub fn lt<O: Offset, K: ComparedBytes>(
     rhs: &FlatArray<ByteRows<O, K>>,
 ) -> Result<BooleanArray, Error>
     requires { length (rows_by (byte_slots K.slot) lhs.now) ≡ length (rows_by (byte_slots K.slot) rhs.now) }
-    ensures array_type { IfOk result (λ array. array.arrow_type ≡ plain boolean) }
-    ensures rows { IfOk result (λ array. boolean_rows array
-        ≡ row_by_row (related relation.lt) (rows_by (byte_slots K.slot) lhs.now)
+    ensures { AnswersTruths result
+        (row_by_row (related relation.lt) (rows_by (byte_slots K.slot) lhs.now)
         (rows_by (byte_slots K.slot) rhs.now)) }
-    ensures err { IsOkUnless result Error.OutOfMemory }
 {
     relate_by::<Less, _>(alloc, lhs, rhs)
 }
@@ -162,11 +152,9 @@ pub fn lt_eq<O: Offset, K: ComparedBytes>(
     rhs: &FlatArray<ByteRows<O, K>>,
 ) -> Result<BooleanArray, Error>
     requires { length (rows_by (byte_slots K.slot) lhs.now) ≡ length (rows_by (byte_slots K.slot) rhs.now) }
-    ensures array_type { IfOk result (λ array. array.arrow_type ≡ plain boolean) }
-    ensures rows { IfOk result (λ array. boolean_rows array
-        ≡ row_by_row (related relation.lt_eq) (rows_by (byte_slots K.slot) lhs.now)
+    ensures { AnswersTruths result
+        (row_by_row (related relation.lt_eq) (rows_by (byte_slots K.slot) lhs.now)
         (rows_by (byte_slots K.slot) rhs.now)) }
-    ensures err { IsOkUnless result Error.OutOfMemory }
 {
     relate_by::<LessOrEqual, _>(alloc, lhs, rhs)
 }
@@ -186,11 +174,9 @@ pub fn gt<O: Offset, K: ComparedBytes>(
     rhs: &FlatArray<ByteRows<O, K>>,
 ) -> Result<BooleanArray, Error>
     requires { length (rows_by (byte_slots K.slot) lhs.now) ≡ length (rows_by (byte_slots K.slot) rhs.now) }
-    ensures array_type { IfOk result (λ array. array.arrow_type ≡ plain boolean) }
-    ensures rows { IfOk result (λ array. boolean_rows array
-        ≡ row_by_row (related relation.gt) (rows_by (byte_slots K.slot) lhs.now)
+    ensures { AnswersTruths result
+        (row_by_row (related relation.gt) (rows_by (byte_slots K.slot) lhs.now)
         (rows_by (byte_slots K.slot) rhs.now)) }
-    ensures err { IsOkUnless result Error.OutOfMemory }
 {
     relate_by::<Greater, _>(alloc, lhs, rhs)
 }
@@ -210,11 +196,9 @@ pub fn gt_eq<O: Offset, K: ComparedBytes>(
     rhs: &FlatArray<ByteRows<O, K>>,
 ) -> Result<BooleanArray, Error>
     requires { length (rows_by (byte_slots K.slot) lhs.now) ≡ length (rows_by (byte_slots K.slot) rhs.now) }
-    ensures array_type { IfOk result (λ array. array.arrow_type ≡ plain boolean) }
-    ensures rows { IfOk result (λ array. boolean_rows array
-        ≡ row_by_row (related relation.gt_eq) (rows_by (byte_slots K.slot) lhs.now)
+    ensures { AnswersTruths result
+        (row_by_row (related relation.gt_eq) (rows_by (byte_slots K.slot) lhs.now)
         (rows_by (byte_slots K.slot) rhs.now)) }
-    ensures err { IsOkUnless result Error.OutOfMemory }
 {
     relate_by::<GreaterOrEqual, _>(alloc, lhs, rhs)
 }
@@ -233,11 +217,9 @@ pub fn relate<O: Offset, K: ComparedBytes>(
     rhs: &FlatArray<ByteRows<O, K>>,
 ) -> Result<BooleanArray, Error>
     requires { length (rows_by (byte_slots K.slot) lhs.now) ≡ length (rows_by (byte_slots K.slot) rhs.now) }
-    ensures array_type { IfOk result (λ array. array.arrow_type ≡ plain boolean) }
-    ensures rows { IfOk result (λ array. boolean_rows array
-        ≡ row_by_row (related (relation_of by)) (rows_by (byte_slots K.slot) lhs.now)
+    ensures { AnswersTruths result
+        (row_by_row (related (relation_of by)) (rows_by (byte_slots K.slot) lhs.now)
         (rows_by (byte_slots K.slot) rhs.now)) }
-    ensures err { IsOkUnless result Error.OutOfMemory }
 {
     by_relation!(by, relate_by::<_, _>(alloc, lhs, rhs))
 }

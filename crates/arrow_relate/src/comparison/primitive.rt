@@ -11,6 +11,7 @@ ghost use Rattle.arrow_flat.specs.Parts.{boolean_rows, rows_by};
 ghost use Rattle.arrow_flat.specs.RowByRow.{row_by_row};
 ghost use Rattle.arrow_relate.specs.Chunked.{AnswersChunks, TakesChunks};
 ghost use Rattle.arrow_relate.specs.Same.{is_same, differs};
+ghost use Rattle.arrow_logic.specs.Truths.{AnswersTruths};
 
 use crate::comparison::chunked::bits_of_chunks;
 use crate::fixed::{Equal, Greater, GreaterOrEqual, Less, LessOrEqual, NotEqual, Test};
@@ -42,10 +43,8 @@ pub fn eq<T: NativeType>(
     rhs: &PrimitiveArray<T>,
 ) -> Result<BooleanArray, Error>
     requires { length (rows_by (map T.slot) lhs.now) ≡ length (rows_by (map T.slot) rhs.now) }
-    ensures array_type { IfOk result (λ array. array.arrow_type ≡ plain boolean) }
-    ensures rows { IfOk result (λ array. boolean_rows array
-        ≡ row_by_row (related relation.eq) (rows_by (map T.slot) lhs.now) (rows_by (map T.slot) rhs.now)) }
-    ensures err { IsOkUnless result Error.OutOfMemory }
+    ensures { AnswersTruths result
+        (row_by_row (related relation.eq) (rows_by (map T.slot) lhs.now) (rows_by (map T.slot) rhs.now)) }
 {
     relate_by::<Equal, _>(alloc, lhs, rhs)
 }
@@ -65,10 +64,8 @@ pub fn eq_and_validity<T: NativeType>(
     rhs: &PrimitiveArray<T>,
 ) -> Result<BooleanArray, Error>
     requires { length (rows_by (map T.slot) lhs.now) ≡ length (rows_by (map T.slot) rhs.now) }
-    ensures array_type { IfOk result (λ array. array.arrow_type ≡ plain boolean) }
-    ensures rows { IfOk result (λ array. boolean_rows array
-        ≡ row_by_row is_same (rows_by (map T.slot) lhs.now) (rows_by (map T.slot) rhs.now)) }
-    ensures err { IsOkUnless result Error.OutOfMemory }
+    ensures { AnswersTruths result
+        (row_by_row is_same (rows_by (map T.slot) lhs.now) (rows_by (map T.slot) rhs.now)) }
 {
     same_by::<Equal, _>(alloc, lhs, rhs)
 }
@@ -84,10 +81,8 @@ pub fn eq_scalar<T: NativeType>(
     lhs: &PrimitiveArray<T>,
     rhs: T,
 ) -> Result<BooleanArray, Error>
-    ensures array_type { IfOk result (λ array. array.arrow_type ≡ plain boolean) }
-    ensures rows { IfOk result (λ array. boolean_rows array
-        ≡ map (λ s. related relation.eq s (T.slot rhs)) (rows_by (map T.slot) lhs.now)) }
-    ensures err { IsOkUnless result Error.OutOfMemory }
+    ensures { AnswersTruths result
+        (map (λ s. related relation.eq s (T.slot rhs)) (rows_by (map T.slot) lhs.now)) }
 {
     relate_scalar_by::<Equal, _, _>(alloc, lhs, rhs)
 }
@@ -103,10 +98,7 @@ pub fn eq_scalar_and_validity<T: NativeType>(
     lhs: &PrimitiveArray<T>,
     rhs: T,
 ) -> Result<BooleanArray, Error>
-    ensures array_type { IfOk result (λ array. array.arrow_type ≡ plain boolean) }
-    ensures rows { IfOk result (λ array. boolean_rows array
-        ≡ map (λ s. is_same s (T.slot rhs)) (rows_by (map T.slot) lhs.now)) }
-    ensures err { IsOkUnless result Error.OutOfMemory }
+    ensures { AnswersTruths result (map (λ s. is_same s (T.slot rhs)) (rows_by (map T.slot) lhs.now)) }
 {
     same_scalar_by::<Equal, _, _>(alloc, lhs, rhs)
 }
@@ -126,10 +118,8 @@ pub fn neq<T: NativeType>(
     rhs: &PrimitiveArray<T>,
 ) -> Result<BooleanArray, Error>
     requires { length (rows_by (map T.slot) lhs.now) ≡ length (rows_by (map T.slot) rhs.now) }
-    ensures array_type { IfOk result (λ array. array.arrow_type ≡ plain boolean) }
-    ensures rows { IfOk result (λ array. boolean_rows array
-        ≡ row_by_row (related relation.neq) (rows_by (map T.slot) lhs.now) (rows_by (map T.slot) rhs.now)) }
-    ensures err { IsOkUnless result Error.OutOfMemory }
+    ensures { AnswersTruths result
+        (row_by_row (related relation.neq) (rows_by (map T.slot) lhs.now) (rows_by (map T.slot) rhs.now)) }
 {
     relate_by::<NotEqual, _>(alloc, lhs, rhs)
 }
@@ -149,10 +139,8 @@ pub fn neq_and_validity<T: NativeType>(
     rhs: &PrimitiveArray<T>,
 ) -> Result<BooleanArray, Error>
     requires { length (rows_by (map T.slot) lhs.now) ≡ length (rows_by (map T.slot) rhs.now) }
-    ensures array_type { IfOk result (λ array. array.arrow_type ≡ plain boolean) }
-    ensures rows { IfOk result (λ array. boolean_rows array
-        ≡ row_by_row differs (rows_by (map T.slot) lhs.now) (rows_by (map T.slot) rhs.now)) }
-    ensures err { IsOkUnless result Error.OutOfMemory }
+    ensures { AnswersTruths result
+        (row_by_row differs (rows_by (map T.slot) lhs.now) (rows_by (map T.slot) rhs.now)) }
 {
     same_by::<NotEqual, _>(alloc, lhs, rhs)
 }
@@ -168,10 +156,8 @@ pub fn neq_scalar<T: NativeType>(
     lhs: &PrimitiveArray<T>,
     rhs: T,
 ) -> Result<BooleanArray, Error>
-    ensures array_type { IfOk result (λ array. array.arrow_type ≡ plain boolean) }
-    ensures rows { IfOk result (λ array. boolean_rows array
-        ≡ map (λ s. related relation.neq s (T.slot rhs)) (rows_by (map T.slot) lhs.now)) }
-    ensures err { IsOkUnless result Error.OutOfMemory }
+    ensures { AnswersTruths result
+        (map (λ s. related relation.neq s (T.slot rhs)) (rows_by (map T.slot) lhs.now)) }
 {
     relate_scalar_by::<NotEqual, _, _>(alloc, lhs, rhs)
 }
@@ -187,10 +173,7 @@ pub fn neq_scalar_and_validity<T: NativeType>(
     lhs: &PrimitiveArray<T>,
     rhs: T,
 ) -> Result<BooleanArray, Error>
-    ensures array_type { IfOk result (λ array. array.arrow_type ≡ plain boolean) }
-    ensures rows { IfOk result (λ array. boolean_rows array
-        ≡ map (λ s. differs s (T.slot rhs)) (rows_by (map T.slot) lhs.now)) }
-    ensures err { IsOkUnless result Error.OutOfMemory }
+    ensures { AnswersTruths result (map (λ s. differs s (T.slot rhs)) (rows_by (map T.slot) lhs.now)) }
 {
     same_scalar_by::<NotEqual, _, _>(alloc, lhs, rhs)
 }
@@ -210,10 +193,8 @@ pub fn lt<T: NativeOrd>(
     rhs: &PrimitiveArray<T>,
 ) -> Result<BooleanArray, Error>
     requires { length (rows_by (map T.slot) lhs.now) ≡ length (rows_by (map T.slot) rhs.now) }
-    ensures array_type { IfOk result (λ array. array.arrow_type ≡ plain boolean) }
-    ensures rows { IfOk result (λ array. boolean_rows array
-        ≡ row_by_row (related relation.lt) (rows_by (map T.slot) lhs.now) (rows_by (map T.slot) rhs.now)) }
-    ensures err { IsOkUnless result Error.OutOfMemory }
+    ensures { AnswersTruths result
+        (row_by_row (related relation.lt) (rows_by (map T.slot) lhs.now) (rows_by (map T.slot) rhs.now)) }
 {
     relate_by::<Less, _>(alloc, lhs, rhs)
 }
@@ -229,10 +210,8 @@ pub fn lt_scalar<T: NativeOrd>(
     lhs: &PrimitiveArray<T>,
     rhs: T,
 ) -> Result<BooleanArray, Error>
-    ensures array_type { IfOk result (λ array. array.arrow_type ≡ plain boolean) }
-    ensures rows { IfOk result (λ array. boolean_rows array
-        ≡ map (λ s. related relation.lt s (T.slot rhs)) (rows_by (map T.slot) lhs.now)) }
-    ensures err { IsOkUnless result Error.OutOfMemory }
+    ensures { AnswersTruths result
+        (map (λ s. related relation.lt s (T.slot rhs)) (rows_by (map T.slot) lhs.now)) }
 {
     relate_scalar_by::<Less, _, _>(alloc, lhs, rhs)
 }
@@ -252,11 +231,8 @@ pub fn lt_eq<T: NativeOrd>(
     rhs: &PrimitiveArray<T>,
 ) -> Result<BooleanArray, Error>
     requires { length (rows_by (map T.slot) lhs.now) ≡ length (rows_by (map T.slot) rhs.now) }
-    ensures array_type { IfOk result (λ array. array.arrow_type ≡ plain boolean) }
-    ensures rows { IfOk result (λ array. boolean_rows array
-        ≡ row_by_row (related relation.lt_eq) (rows_by (map T.slot) lhs.now)
-        (rows_by (map T.slot) rhs.now)) }
-    ensures err { IsOkUnless result Error.OutOfMemory }
+    ensures { AnswersTruths result
+        (row_by_row (related relation.lt_eq) (rows_by (map T.slot) lhs.now) (rows_by (map T.slot) rhs.now)) }
 {
     relate_by::<LessOrEqual, _>(alloc, lhs, rhs)
 }
@@ -272,10 +248,8 @@ pub fn lt_eq_scalar<T: NativeOrd>(
     lhs: &PrimitiveArray<T>,
     rhs: T,
 ) -> Result<BooleanArray, Error>
-    ensures array_type { IfOk result (λ array. array.arrow_type ≡ plain boolean) }
-    ensures rows { IfOk result (λ array. boolean_rows array
-        ≡ map (λ s. related relation.lt_eq s (T.slot rhs)) (rows_by (map T.slot) lhs.now)) }
-    ensures err { IsOkUnless result Error.OutOfMemory }
+    ensures { AnswersTruths result
+        (map (λ s. related relation.lt_eq s (T.slot rhs)) (rows_by (map T.slot) lhs.now)) }
 {
     relate_scalar_by::<LessOrEqual, _, _>(alloc, lhs, rhs)
 }
@@ -295,10 +269,8 @@ pub fn gt<T: NativeOrd>(
     rhs: &PrimitiveArray<T>,
 ) -> Result<BooleanArray, Error>
     requires { length (rows_by (map T.slot) lhs.now) ≡ length (rows_by (map T.slot) rhs.now) }
-    ensures array_type { IfOk result (λ array. array.arrow_type ≡ plain boolean) }
-    ensures rows { IfOk result (λ array. boolean_rows array
-        ≡ row_by_row (related relation.gt) (rows_by (map T.slot) lhs.now) (rows_by (map T.slot) rhs.now)) }
-    ensures err { IsOkUnless result Error.OutOfMemory }
+    ensures { AnswersTruths result
+        (row_by_row (related relation.gt) (rows_by (map T.slot) lhs.now) (rows_by (map T.slot) rhs.now)) }
 {
     relate_by::<Greater, _>(alloc, lhs, rhs)
 }
@@ -314,10 +286,8 @@ pub fn gt_scalar<T: NativeOrd>(
     lhs: &PrimitiveArray<T>,
     rhs: T,
 ) -> Result<BooleanArray, Error>
-    ensures array_type { IfOk result (λ array. array.arrow_type ≡ plain boolean) }
-    ensures rows { IfOk result (λ array. boolean_rows array
-        ≡ map (λ s. related relation.gt s (T.slot rhs)) (rows_by (map T.slot) lhs.now)) }
-    ensures err { IsOkUnless result Error.OutOfMemory }
+    ensures { AnswersTruths result
+        (map (λ s. related relation.gt s (T.slot rhs)) (rows_by (map T.slot) lhs.now)) }
 {
     relate_scalar_by::<Greater, _, _>(alloc, lhs, rhs)
 }
@@ -337,11 +307,8 @@ pub fn gt_eq<T: NativeOrd>(
     rhs: &PrimitiveArray<T>,
 ) -> Result<BooleanArray, Error>
     requires { length (rows_by (map T.slot) lhs.now) ≡ length (rows_by (map T.slot) rhs.now) }
-    ensures array_type { IfOk result (λ array. array.arrow_type ≡ plain boolean) }
-    ensures rows { IfOk result (λ array. boolean_rows array
-        ≡ row_by_row (related relation.gt_eq) (rows_by (map T.slot) lhs.now)
-        (rows_by (map T.slot) rhs.now)) }
-    ensures err { IsOkUnless result Error.OutOfMemory }
+    ensures { AnswersTruths result
+        (row_by_row (related relation.gt_eq) (rows_by (map T.slot) lhs.now) (rows_by (map T.slot) rhs.now)) }
 {
     relate_by::<GreaterOrEqual, _>(alloc, lhs, rhs)
 }
@@ -357,10 +324,8 @@ pub fn gt_eq_scalar<T: NativeOrd>(
     lhs: &PrimitiveArray<T>,
     rhs: T,
 ) -> Result<BooleanArray, Error>
-    ensures array_type { IfOk result (λ array. array.arrow_type ≡ plain boolean) }
-    ensures rows { IfOk result (λ array. boolean_rows array
-        ≡ map (λ s. related relation.gt_eq s (T.slot rhs)) (rows_by (map T.slot) lhs.now)) }
-    ensures err { IsOkUnless result Error.OutOfMemory }
+    ensures { AnswersTruths result
+        (map (λ s. related relation.gt_eq s (T.slot rhs)) (rows_by (map T.slot) lhs.now)) }
 {
     relate_scalar_by::<GreaterOrEqual, _, _>(alloc, lhs, rhs)
 }
@@ -379,11 +344,9 @@ pub fn relate<T: NativeOrd>(
     rhs: &PrimitiveArray<T>,
 ) -> Result<BooleanArray, Error>
     requires { length (rows_by (map T.slot) lhs.now) ≡ length (rows_by (map T.slot) rhs.now) }
-    ensures array_type { IfOk result (λ array. array.arrow_type ≡ plain boolean) }
-    ensures rows { IfOk result (λ array. boolean_rows array
-        ≡ row_by_row (related (relation_of by)) (rows_by (map T.slot) lhs.now)
+    ensures { AnswersTruths result
+        (row_by_row (related (relation_of by)) (rows_by (map T.slot) lhs.now)
         (rows_by (map T.slot) rhs.now)) }
-    ensures err { IsOkUnless result Error.OutOfMemory }
 {
     by_relation!(by, relate_by::<_, _>(alloc, lhs, rhs))
 }
@@ -398,10 +361,8 @@ pub fn relate_scalar<T: NativeOrd>(
     lhs: &PrimitiveArray<T>,
     rhs: T,
 ) -> Result<BooleanArray, Error>
-    ensures array_type { IfOk result (λ array. array.arrow_type ≡ plain boolean) }
-    ensures rows { IfOk result (λ array. boolean_rows array
-        ≡ map (λ s. related (relation_of by) s (T.slot rhs)) (rows_by (map T.slot) lhs.now)) }
-    ensures err { IsOkUnless result Error.OutOfMemory }
+    ensures { AnswersTruths result
+        (map (λ s. related (relation_of by) s (T.slot rhs)) (rows_by (map T.slot) lhs.now)) }
 {
     by_relation!(by, relate_scalar_by::<_, _, _>(alloc, lhs, rhs))
 }

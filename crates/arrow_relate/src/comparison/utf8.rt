@@ -1,15 +1,14 @@
 //! Relations of texts, by their bytes: by the first that differs, unsigned; a beginning comes before what goes on.
 
-ghost use Rattle.std.specs.Prelude.{◌≡◌, map, IfOk, IsOkUnless};
-ghost use Rattle.arrow_types.specs.declared.error.Error.{Error};
-ghost use Rattle.arrow_types.specs.ArrowType.{boolean, plain};
+ghost use Rattle.std.specs.Prelude.{map};
 ghost use Rattle.arrow_types.specs.Relation.{related};
 ghost use Rattle.arrow_types.specs.Relation as relation;
 ghost use Rattle.arrow_relate.specs.Related.{relation_of};
 ghost use Rattle.arrow_types.specs.Slot.{Text};
 ghost use Rattle.arrow_flat.specs.ByteRows.{byte_slots};
-ghost use Rattle.arrow_flat.specs.Parts.{boolean_rows, rows_by};
+ghost use Rattle.arrow_flat.specs.Parts.{rows_by};
 ghost use Rattle.arrow_relate.specs.Same.{is_same, differs};
+ghost use Rattle.arrow_logic.specs.Truths.{AnswersTruths};
 
 use crate::fixed::{Equal, Greater, GreaterOrEqual, Less, LessOrEqual, NotEqual};
 use crate::relation::Relation;
@@ -35,10 +34,8 @@ pub fn eq_scalar<O: Offset>(
     lhs: &Utf8Array<O>,
     rhs: &str,
 ) -> Result<BooleanArray, Error>
-    ensures array_type { IfOk result (λ array. array.arrow_type ≡ plain boolean) }
-    ensures rows { IfOk result (λ array. boolean_rows array
-        ≡ map (λ s. related relation.eq s (Text rhs.now)) (rows_by (byte_slots Text) lhs.now)) }
-    ensures err { IsOkUnless result Error.OutOfMemory }
+    ensures { AnswersTruths result
+        (map (λ s. related relation.eq s (Text rhs.now)) (rows_by (byte_slots Text) lhs.now)) }
 {
     relate_scalar_by::<Equal, _, _>(alloc, lhs, rhs.as_bytes())
 }
@@ -54,10 +51,7 @@ pub fn eq_scalar_and_validity<O: Offset>(
     lhs: &Utf8Array<O>,
     rhs: &str,
 ) -> Result<BooleanArray, Error>
-    ensures array_type { IfOk result (λ array. array.arrow_type ≡ plain boolean) }
-    ensures rows { IfOk result (λ array. boolean_rows array
-        ≡ map (λ s. is_same s (Text rhs.now)) (rows_by (byte_slots Text) lhs.now)) }
-    ensures err { IsOkUnless result Error.OutOfMemory }
+    ensures { AnswersTruths result (map (λ s. is_same s (Text rhs.now)) (rows_by (byte_slots Text) lhs.now)) }
 {
     same_scalar_by::<Equal, _, _>(alloc, lhs, rhs.as_bytes())
 }
@@ -73,10 +67,8 @@ pub fn neq_scalar<O: Offset>(
     lhs: &Utf8Array<O>,
     rhs: &str,
 ) -> Result<BooleanArray, Error>
-    ensures array_type { IfOk result (λ array. array.arrow_type ≡ plain boolean) }
-    ensures rows { IfOk result (λ array. boolean_rows array
-        ≡ map (λ s. related relation.neq s (Text rhs.now)) (rows_by (byte_slots Text) lhs.now)) }
-    ensures err { IsOkUnless result Error.OutOfMemory }
+    ensures { AnswersTruths result
+        (map (λ s. related relation.neq s (Text rhs.now)) (rows_by (byte_slots Text) lhs.now)) }
 {
     relate_scalar_by::<NotEqual, _, _>(alloc, lhs, rhs.as_bytes())
 }
@@ -92,10 +84,7 @@ pub fn neq_scalar_and_validity<O: Offset>(
     lhs: &Utf8Array<O>,
     rhs: &str,
 ) -> Result<BooleanArray, Error>
-    ensures array_type { IfOk result (λ array. array.arrow_type ≡ plain boolean) }
-    ensures rows { IfOk result (λ array. boolean_rows array
-        ≡ map (λ s. differs s (Text rhs.now)) (rows_by (byte_slots Text) lhs.now)) }
-    ensures err { IsOkUnless result Error.OutOfMemory }
+    ensures { AnswersTruths result (map (λ s. differs s (Text rhs.now)) (rows_by (byte_slots Text) lhs.now)) }
 {
     same_scalar_by::<NotEqual, _, _>(alloc, lhs, rhs.as_bytes())
 }
@@ -111,10 +100,8 @@ pub fn lt_scalar<O: Offset>(
     lhs: &Utf8Array<O>,
     rhs: &str,
 ) -> Result<BooleanArray, Error>
-    ensures array_type { IfOk result (λ array. array.arrow_type ≡ plain boolean) }
-    ensures rows { IfOk result (λ array. boolean_rows array
-        ≡ map (λ s. related relation.lt s (Text rhs.now)) (rows_by (byte_slots Text) lhs.now)) }
-    ensures err { IsOkUnless result Error.OutOfMemory }
+    ensures { AnswersTruths result
+        (map (λ s. related relation.lt s (Text rhs.now)) (rows_by (byte_slots Text) lhs.now)) }
 {
     relate_scalar_by::<Less, _, _>(alloc, lhs, rhs.as_bytes())
 }
@@ -130,10 +117,8 @@ pub fn lt_eq_scalar<O: Offset>(
     lhs: &Utf8Array<O>,
     rhs: &str,
 ) -> Result<BooleanArray, Error>
-    ensures array_type { IfOk result (λ array. array.arrow_type ≡ plain boolean) }
-    ensures rows { IfOk result (λ array. boolean_rows array
-        ≡ map (λ s. related relation.lt_eq s (Text rhs.now)) (rows_by (byte_slots Text) lhs.now)) }
-    ensures err { IsOkUnless result Error.OutOfMemory }
+    ensures { AnswersTruths result
+        (map (λ s. related relation.lt_eq s (Text rhs.now)) (rows_by (byte_slots Text) lhs.now)) }
 {
     relate_scalar_by::<LessOrEqual, _, _>(alloc, lhs, rhs.as_bytes())
 }
@@ -149,10 +134,8 @@ pub fn gt_scalar<O: Offset>(
     lhs: &Utf8Array<O>,
     rhs: &str,
 ) -> Result<BooleanArray, Error>
-    ensures array_type { IfOk result (λ array. array.arrow_type ≡ plain boolean) }
-    ensures rows { IfOk result (λ array. boolean_rows array
-        ≡ map (λ s. related relation.gt s (Text rhs.now)) (rows_by (byte_slots Text) lhs.now)) }
-    ensures err { IsOkUnless result Error.OutOfMemory }
+    ensures { AnswersTruths result
+        (map (λ s. related relation.gt s (Text rhs.now)) (rows_by (byte_slots Text) lhs.now)) }
 {
     relate_scalar_by::<Greater, _, _>(alloc, lhs, rhs.as_bytes())
 }
@@ -168,10 +151,8 @@ pub fn gt_eq_scalar<O: Offset>(
     lhs: &Utf8Array<O>,
     rhs: &str,
 ) -> Result<BooleanArray, Error>
-    ensures array_type { IfOk result (λ array. array.arrow_type ≡ plain boolean) }
-    ensures rows { IfOk result (λ array. boolean_rows array
-        ≡ map (λ s. related relation.gt_eq s (Text rhs.now)) (rows_by (byte_slots Text) lhs.now)) }
-    ensures err { IsOkUnless result Error.OutOfMemory }
+    ensures { AnswersTruths result
+        (map (λ s. related relation.gt_eq s (Text rhs.now)) (rows_by (byte_slots Text) lhs.now)) }
 {
     relate_scalar_by::<GreaterOrEqual, _, _>(alloc, lhs, rhs.as_bytes())
 }
@@ -186,10 +167,8 @@ pub fn relate_scalar<O: Offset>(
     lhs: &Utf8Array<O>,
     rhs: &str,
 ) -> Result<BooleanArray, Error>
-    ensures array_type { IfOk result (λ array. array.arrow_type ≡ plain boolean) }
-    ensures rows { IfOk result (λ array. boolean_rows array
-        ≡ map (λ s. related (relation_of by) s (Text rhs.now)) (rows_by (byte_slots Text) lhs.now)) }
-    ensures err { IsOkUnless result Error.OutOfMemory }
+    ensures { AnswersTruths result
+        (map (λ s. related (relation_of by) s (Text rhs.now)) (rows_by (byte_slots Text) lhs.now)) }
 {
     by_relation!(by, relate_scalar_by::<_, _, _>(alloc, lhs, rhs.as_bytes()))
 }

@@ -14,7 +14,8 @@ ghost use Rattle.arrow_arrays.specs.KeyedParts.{key_in};
 ghost use Rattle.arrow_select.specs.Taken.{AreIndices, ends_from, span_length, span_of, taken_bytes, taken_span};
 
 use crate::spans::copy_spans;
-use crate::take::indices::{index_at, is_valid, take_validity};
+use crate::take::indices::{index_at, take_validity};
+use crate::validity::is_valid;
 use arrow_flat::array::{ByteKind, ByteRows, FlatArray, PrimitiveArray};
 use arrow_flat_growable::growable::GrowableKind;
 use arrow_memory::bitmap::Bitmap;

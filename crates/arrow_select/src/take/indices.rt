@@ -12,23 +12,12 @@ ghost use Rattle.arrow_memory.specs.Words.{low_bits};
 ghost use Rattle.arrow_arrays.specs.KeyedParts.{IsKeyIn, key_in};
 ghost use Rattle.arrow_select.specs.Taken.{AreIndices, IsIndex, MarksTaken, named_bit, picked, valid_index};
 
-use crate::validity::valid_word;
+use crate::validity::{is_valid, valid_word};
 use arrow_flat::array::PrimitiveArray;
 use arrow_memory::bitmap::{Bitmap, MutableBitmap, WORD_BITS};
 use arrow_types::error::Error;
 use arrow_types::types::{Index, NativeType};
 use std::alloc::Global;
-
-// Whether row `row` is valid.
-pub(super) fn is_valid(validity: Option<&Bitmap>, row: usize) -> bool
-    requires { IfSome (option_copied validity) (λ bits. row < length bits) }
-    ensures { result ≡ valid_at (option_copied validity.entry) row }
-{
-    match validity {
-        None => true,
-        Some(bits) => bits.get_bit(row),
-    }
-}
 
 // The place that index `row` names, if it is not null. What is stored beneath a null does not count: it is read before
 // the test, so that the test is a choice of values and no branch.

@@ -1,7 +1,9 @@
 use Rattle.std.proofs.Common.{◌≡◌, ◌+◌, ◌++◌, length, replicate, ap, sym, ◌∙◌, subst, arith}
 use Rattle.std.specs.Int.{div_ceil}
+use Rattle.std.specs.Prelude.{OnOk}
 use Rattle.std.proofs.lemmas.List.{length-replicate}
 use Rattle.arrow_memory.specs.Words.{bits_in, IsPadded, AppendsBits}
+use Rattle.arrow_memory.proofs.BitLemmas.{bits_of_word}
 use Rattle.arrow_memory.proofs.MutableLemmas.{done}
 use Rattle.arrow_memory.proofs.bitmap.mutable.MutableBitmap.extend_constant.Goals as goal
 
@@ -18,3 +20,7 @@ invariant_of-self-2 c = (stored c).0
 
 pub returns-clause-ok : goal.returns-clause-ok
 returns-clause-ok c = (stored c).1 ∙ ap (λ bits. bits ++ (replicate c.args.additional c.args.bit)) c.self.view_is
+
+pub returns-then-additional-le-WORD_BITS-clause-ok : goal.returns-then-additional-le-WORD_BITS-clause-ok
+returns-then-additional-le-WORD_BITS-clause-ok c =
+    subst (λ bits. OnOk c.push_word.result (c.push_word.new.self ≡ c.args.self.now ++ bits)) (bits_of_word (replicate c.args.additional c.args.bit) c.equal_bits.result c.args.additional c.equal_bits.ensures (length-replicate c.args.additional c.args.bit)) c.push_word.ensures.ok

@@ -1,7 +1,9 @@
 use Rattle.std.proofs.Common.{◌≡◌, ◌+◌, ◌++◌, length, ap, sym, ◌∙◌, subst, arith}
 use Rattle.std.specs.Int.{div_ceil}
+use Rattle.std.specs.Prelude.{OnOk}
 use Rattle.arrow_memory.specs.Sliced.{sliced}
 use Rattle.arrow_memory.specs.Words.{bits_in, IsPadded, AppendsBits}
+use Rattle.arrow_memory.proofs.BitLemmas.{bits_of_word}
 use Rattle.arrow_memory.proofs.MutableLemmas.{done}
 use Rattle.arrow_memory.proofs.SlicedLemmas.{length-sliced}
 use Rattle.arrow_memory.proofs.bitmap.mutable.MutableBitmap.extend_from_bitmap.Goals as goal
@@ -19,3 +21,7 @@ invariant_of-self-2 c = (stored c).0
 
 pub returns-clause-ok : goal.returns-clause-ok
 returns-clause-ok c = (stored c).1 ∙ ap (λ bits. bits ++ (sliced c.args.bitmap.now c.args.start c.args.len)) c.self.view_is
+
+pub returns-then-len-le-WORD_BITS-clause-ok : goal.returns-then-len-le-WORD_BITS-clause-ok
+returns-then-len-le-WORD_BITS-clause-ok c =
+    subst (λ bits. OnOk c.push_word.result (c.push_word.new.self ≡ c.args.self.now ++ bits)) (bits_of_word (sliced c.args.bitmap.now c.args.start c.args.len) c.bits_from.result c.args.len c.bits_from.ensures (length-sliced c.args.bitmap.now c.args.start c.args.len c.requires)) c.push_word.ensures.ok
