@@ -189,6 +189,6 @@ const LINES: [Line; 17] = [
 ];
 
 #[test]
-fn uses(rt: HostRuntime) {
+fn callers(rt: HostRuntime) {
     check_lines(&rt, &ANSWERS, &LINES, &PLAIN);
 }
