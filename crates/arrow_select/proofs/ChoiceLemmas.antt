@@ -114,7 +114,7 @@ run_taken ps old new truth row count is taken =
     }
 
 -- a row of a run
-read_run : (xs : List Slot) (row n j : ℕ) (x : Slot) → row ≤ j → j < row + n → row + n ≤ length xs → sliced xs row n ≡ replicate n x → slice_get xs j ≡ Some x
+pub read_run : (xs : List Slot) (row n j : ℕ) (x : Slot) → row ≤ j → j < row + n → row + n ≤ length xs → sliced xs row n ≡ replicate n x → slice_get xs j ≡ Some x
 read_run xs row n j x low high within run =
     let at : row + (j - row) ≡ j = omega (arith, low) in
     let inside : j - row < n = omega (arith, low, high) in

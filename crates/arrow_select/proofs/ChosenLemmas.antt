@@ -197,7 +197,7 @@ validity_none p left right none no_left no_right = record {
 
 -- ---- rows
 
-get_or-chosen : (ps ls rs : List Slot) (t : ArrowType) (i : ℕ) (d : Slot) → length ls ≡ length ps → length rs ≡ length ps → i < length ps → get_or (chosen ps ls rs t) i d ≡ choice t (get_or ps i Null) (get_or ls i Null) (get_or rs i Null)
+pub get_or-chosen : (ps ls rs : List Slot) (t : ArrowType) (i : ℕ) (d : Slot) → length ls ≡ length ps → length rs ≡ length ps → i < length ps → get_or (chosen ps ls rs t) i d ≡ choice t (get_or ps i Null) (get_or ls i Null) (get_or rs i Null)
 get_or-chosen [] ls rs t i d left right within = absurd (omega (arith, within))
 get_or-chosen (p ∷ ps) [] rs t i d left right within = absurd (omega (arith, left))
 get_or-chosen (p ∷ ps) (l ∷ ls) [] t i d left right within = absurd (omega (arith, right))

@@ -4,10 +4,17 @@ pub mod BatchLemmas
 pub mod BatchRanges
 pub mod ChoiceLemmas
 pub mod ChosenBytes
+pub mod ChosenFields
+pub mod ChosenItems
 pub mod ChosenLemmas
+pub mod ChosenLists
+pub mod ChosenRows
+pub mod ChosenRuns
 pub mod ChunkLemmas
 pub mod EdgeLemmas
+pub mod EndLemmas
 pub mod ExtendLemmas
+pub mod FieldColumns
 pub mod FilterLemmas
 pub mod GrownRanges
 pub mod IndexLemmas

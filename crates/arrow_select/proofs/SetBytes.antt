@@ -23,13 +23,14 @@ use Rattle.arrow_flat.proofs.PieceLemmas.{length-pieces, piece_at}
 use Rattle.arrow_flat_growable.specs.ByteLaws.{fits_rows, slots_fit}
 use Rattle.arrow_flat_growable.specs.Bytes.{IsBytesType}
 use Rattle.arrow_flat_growable.specs.GrownRows.{total, valid_values}
-use Rattle.arrow_flat_growable.proofs.GrownRowLemmas.{last_more, part_cut}
+use Rattle.arrow_flat_growable.proofs.GrownRowLemmas.{part_cut}
 use Rattle.arrow_select.specs.Laws.{places_from}
 use Rattle.arrow_select.specs.Selected.{at_set}
 use Rattle.arrow_select.specs.Taken.{ends_from, row_length}
+use Rattle.arrow_select.proofs.EndLemmas.{ends_append, ends_last, last_ends}
 use Rattle.arrow_select.proofs.FilterLemmas.{set_fits, set_rows}
 use Rattle.arrow_select.proofs.SetLemmas.{at_set-short}
-use Rattle.arrow_select.proofs.TakenBytes.{concat_length, ends_last, pieces_of_rows}
+use Rattle.arrow_select.proofs.TakenBytes.{concat_length, pieces_of_rows}
 
 -- ---- the rows that are left, a run at a time
 
@@ -55,19 +56,6 @@ run_first unset count i old left is =
     ap (places_from i) is ∙ (unset_places unset i (replicate count true ++ left) ∙ set_places count (i + unset) left)
 
 -- ---- where they end
-
-ends_append : (place : ℕ) (xs ys : List ℕ) → ends_from place (xs ++ ys) ≡ ends_from place xs ++ ends_from (place + sum xs) ys
-ends_append place [] ys =
-    let at : place ≡ place + sum [] = omega arith in
-    ap (λ p. ends_from p ys) at
-ends_append place (n ∷ xs) ys =
-    let at : place + n + sum xs ≡ place + sum (n ∷ xs) = omega (arith, sum_by-cons (λ x. x) n xs) in
-    ap (λ es. (place + n) ∷ es) (ends_append (place + n) xs ys ∙ ap (λ p. ends_from (place + n) xs ++ ends_from p ys) at)
-
-last_ends : (os lengths : List ℕ) → 0 < length os → last_of (os ++ ends_from (last_of os) lengths) ≡ last_of os + sum lengths
-last_ends [] lengths some = absurd (omega (arith, some))
-last_ends (n ∷ os) lengths some =
-    last_more n os (ends_from (last_of (n ∷ os)) lengths) ∙ ends_last (last_of (n ∷ os)) lengths
 
 -- the ends so far, with those of the rows that are left, are those of all
 abbrev pub EndsUpTo : List ℕ → List ℕ → List ℕ → List ℕ → Type 0
@@ -156,7 +144,7 @@ set_by_place g xs (b ∷ mask) i reads long =
     ap (at_set (b ∷ mask)) here ∙ by b
 
 -- the bytes of a row
-abbrev pub row_in : List ℕ → List ℕ → ℕ → List ℕ
+abbrev pub row_in : {A : Type 0} → List ℕ → List A → ℕ → List A
 row_in os bytes n = sliced bytes (slice_index os n) (row_length os n)
 
 pub set_bytes : (os bytes : List ℕ) (mask : List Bool) (i : ℕ) → valid_values mask os bytes i ≡ concat (map (row_in os bytes) (places_from i mask))

@@ -77,6 +77,15 @@ module _ (valid values : ℕ) (truth : Option Bool) (place others n : ℕ) (belo
 
 -- ---- the words of a predicate
 
+-- a row of a predicate that is not null, and one that is
+pub only_valid : (v b c : Bool) → (if v then Boolean b else Null) ≡ Boolean c → (v ≡ true) × (b ≡ c)
+only_valid true b c is = (refl, cc)
+only_valid false b c is = absurd (cc)
+
+pub only_null : (v b : Bool) → (if v then Boolean b else Null) ≡ Null → v ≡ false
+only_null true b is = absurd (cc)
+only_null false b is = refl
+
 -- a bit of a validity that has one for each row
 pub valid_within : (v : Option (List Bool)) (n i : ℕ) → FitsRows v n → i < n → IfSome v (λ bits. i < length bits)
 valid_within None n i fits below = tt

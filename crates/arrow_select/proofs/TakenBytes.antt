@@ -1,11 +1,10 @@
 -- Texts and bytes by index: where the rows end, their bytes, and when there are too many.
-use Rattle.std.proofs.Common.{arith, ◌≡◌, ◌+◌, ◌-◌, ℕ, zero, suc, ◌<◌, ◌≤◌, ◌^◌, Bool, true, false, not, ◌&&◌, Option, Some, None, List, [], ◌∷◌, ◌++◌, length, map, take, drop, get_or, slice_index, if◌then◌else◌, refl, ap, sym, subst, ◌∙◌, append_assoc}
+use Rattle.std.proofs.Common.{arith, ◌≡◌, ◌+◌, ◌-◌, ℕ, zero, suc, ◌<◌, ◌≤◌, ◌^◌, Bool, true, false, not, ◌&&◌, Option, Some, None, List, [], ◌∷◌, length, map, take, get_or, slice_index, if◌then◌else◌, refl, ap, sym, subst, ◌∙◌}
 use Rattle.std.specs.Prelude.{option_map, slice_get, sum, sum_by}
 use Rattle.std.specs.List.{All, concat}
-use Rattle.std.proofs.lemmas.List.{length-append, length-map}
+use Rattle.std.proofs.lemmas.List.{length-map}
 use Rattle.std.proofs.lemmas.List.Elements.{All-map}
 use Rattle.std.proofs.lemmas.Simd.{map-map}
-use Rattle.std.proofs.Math.Seq.{drop-append_seam, take-append_seam}
 use Rattle.std.proofs.lemmas.List.Sums.{sum-map, sum_by-cons}
 use Rattle.std.proofs.lemmas.Option.{slice_get-map}
 use Rattle.arrow_types.specs.declared.datatypes.physical_type.PhysicalType.{PhysicalType}
@@ -18,10 +17,10 @@ use Rattle.arrow_types.specs.Rows.{gather, mask, masked, valid_at}
 use Rattle.arrow_types.specs.Slot.{Slot, Null}
 use Rattle.arrow_memory.specs.Offsets.{IsOffsets, last_of, with_row}
 use Rattle.arrow_memory.specs.Sliced.{sliced}
-use Rattle.arrow_memory.proofs.OffsetLemmas.{at_most_last, last_behind, offsets_rise}
+use Rattle.arrow_memory.proofs.OffsetLemmas.{at_most_last, offsets_rise}
 use Rattle.arrow_memory.proofs.SlicedLemmas.{length-sliced}
 use Rattle.arrow_flat.specs.Parts.{FitsRows}
-use Rattle.arrow_flat.specs.Pieces.{pieces, pieces_from}
+use Rattle.arrow_flat.specs.Pieces.{pieces}
 use Rattle.arrow_flat.proofs.PieceLemmas.{holds_at, length-pieces, piece_at}
 use Rattle.arrow_arrays.specs.KeyedParts.{AreKeys, IsKey, key_in}
 use Rattle.arrow_flat_growable.specs.ByteLaws.{fits_rows, fits_stored, null_of, slots_fit, slots_pass}
@@ -29,19 +28,8 @@ use Rattle.arrow_flat_growable.specs.Bytes.{IsBytesType, SparesBytes}
 use Rattle.arrow_flat_growable.specs.GrownRows.{total}
 use Rattle.arrow_select.specs.Spans.{IsSpanWithin, span_bytes, spanned}
 use Rattle.arrow_select.specs.Taken.{MarksTaken, ends_from, is_taken_valid, place_in, span_length, span_of, taken_bytes, taken_span}
+use Rattle.arrow_select.proofs.EndLemmas.{as_concatenated, concatenated_length, ends_last, ends_next, length-ends, rows_between}
 use Rattle.arrow_select.proofs.IndexLemmas.{Stores, each_index, fits_taken, gives_next, map-agree, mask-map, named_valid, rows_taken}
-
--- where rows end
-
-pub ends_next : (place : ℕ) (lengths : List ℕ) (n : ℕ) → place ∷ ends_from place (lengths ++ n ∷ []) ≡ with_row (place ∷ ends_from place lengths) n
-ends_next place [] n = refl
-ends_next place (m ∷ lengths) n =
-    ap (λ os. place ∷ os) (ends_next (place + m) lengths n) ∙ ap (λ last. place ∷ (place + m) ∷ (ends_from (place + m) lengths ++ (last + n) ∷ [])) (sym (last_behind place (place + m) (ends_from (place + m) lengths)))
-
-pub ends_last : (place : ℕ) (lengths : List ℕ) → last_of (place ∷ ends_from place lengths) ≡ place + sum lengths
-ends_last place [] = omega arith
-ends_last place (m ∷ lengths) =
-    last_behind place (place + m) (ends_from (place + m) lengths) ∙ (ends_last (place + m) lengths ∙ omega (arith, sum_by-cons (λ x. x) m lengths))
 
 -- where the rows so far end, and one more
 pub offsets_next : (f : Slot → ℕ) (rows : List Slot) (i n : ℕ) (old new : List ℕ) → i < length rows → n ≡ f (get_or rows i Null) → old ≡ 0 ∷ ends_from 0 (map f (take i rows)) → new ≡ with_row old n → new ≡ 0 ∷ ends_from 0 (map f (take (i + 1) rows))
@@ -66,22 +54,12 @@ rows_fit slot v w os ps bytes same here fits =
     rw (same, here) (subst (FitsRows v) (length-map (pieces os bytes) slot ∙ length-pieces os bytes) fits)
 
 -- the rows that end there lie in their bytes
-pieces_of : (place : ℕ) (rows : List (List ℕ)) (before : List ℕ) → length before ≡ place → pieces_from place (ends_from place (map length rows)) (before ++ concat rows) ≡ rows
-pieces_of place [] before at = refl
-pieces_of place (row ∷ rows) before at =
-    let len : place + length row - place ≡ length row = omega arith in
-    let first : sliced (before ++ (row ++ concat rows)) place (place + length row - place) ≡ row = (λ i. take (len i) (drop (sym at i) (before ++ (row ++ concat rows)))) ∙ (ap (take (length row)) (drop-append_seam before (row ++ concat rows)) ∙ take-append_seam row (concat rows)) in
-    let rest = pieces_of (place + length row) rows (before ++ row) (length-append before row ∙ ap (λ n. n + length row) at) in
-    let moved = ap (pieces_from (place + length row) (ends_from (place + length row) (map length rows))) (sym (append_assoc before row (concat rows))) in
-    λ i. first i ∷ (moved ∙ rest) i
-
 pub pieces_of_rows : (rows : List (List ℕ)) → pieces (0 ∷ ends_from 0 (map length rows)) (concat rows) ≡ rows
-pieces_of_rows rows = pieces_of 0 rows [] refl
+pieces_of_rows rows =
+    ap (pieces (0 ∷ ends_from 0 (map length rows))) (as_concatenated rows) ∙ rows_between rows
 
 pub concat_length : (rows : List (List ℕ)) → sum (map length rows) ≡ length (concat rows)
-concat_length [] = refl
-concat_length (row ∷ rows) =
-    sum_by-cons (λ x. x) (length row) (map length rows) ∙ (ap (λ n. length row + n) (concat_length rows) ∙ sym (length-append row (concat rows)))
+concat_length rows = concatenated_length rows ∙ ap length (sym (as_concatenated rows))
 
 -- the span of an index, by whether it and the row that it names are valid
 span_by : (v : Option (List Bool)) (os : List ℕ) (count : ℕ) (s : Slot) → IsKey count s → (if not (is_null s) && valid_at v (place_in s) then (slice_index os (place_in s), slice_index os (place_in s + 1)) else (0, 0)) ≡ span_of v os (key_in s)
@@ -90,11 +68,6 @@ span_by v os count = each_index count _ refl (λ n within. refl)
 pub span_if : (v : Option (List Bool)) (os : List ℕ) (count : ℕ) (s : Slot) (here there : Bool) → IsKey count s → here ≡ not (is_null s) → there ≡ valid_at v (place_in s) → (if here && there then (slice_index os (place_in s), slice_index os (place_in s + 1)) else (0, 0)) ≡ span_of v os (key_in s)
 span_if v os count s here there key valid named =
     (λ i. if valid i && named i then (slice_index os (place_in s), slice_index os (place_in s + 1)) else (0, 0)) ∙ span_by v os count s key
-
--- as many ends as rows
-pub length-ends : (place : ℕ) (lengths : List ℕ) → length (ends_from place lengths) ≡ length lengths
-length-ends place [] = refl
-length-ends place (n ∷ lengths) = ap suc (length-ends (place + n) lengths)
 
 -- the bytes of the rows that indices name are those of their spans
 pub spanned_by_index : (v : Option (List Bool)) (os bytes : List ℕ) (indices : List Slot) → spanned bytes (map (taken_span v os) indices) ≡ concat (map (taken_bytes v os bytes) indices)

@@ -1,5 +1,5 @@
 -- Structs by index: each column by index, under the validity by index.
-use Rattle.std.proofs.Common.{arith, ◌≡◌, ◌+◌, ℕ, zero, suc, ◌<◌, ◌^◌, pos, Bool, true, false, Option, Some, None, List, [], ◌∷◌, ◌++◌, length, map, take, get_or, replicate, if◌then◌else◌, refl, ap, sym, subst, ◌∙◌}
+use Rattle.std.proofs.Common.{arith, ◌≡◌, ◌+◌, ℕ, ◌<◌, ◌^◌, pos, Bool, true, false, Option, Some, None, List, [], ◌∷◌, ◌++◌, length, map, take, get_or, replicate, if◌then◌else◌, refl, ap, sym, subst, ◌∙◌}
 use Rattle.std.specs.Prelude.{slice_index_or, unwrap_or}
 use Rattle.std.specs.List.{All}
 use Rattle.std.proofs.lemmas.List.{get_or-map, length-map, map-append}
@@ -7,21 +7,19 @@ use Rattle.std.proofs.lemmas.List.Elements.{All-map}
 use Rattle.std.proofs.lemmas.Option.{get_or_from_slice_get, slice_get-get_or, slice_get_read, slice_get_within}
 use Rattle.std.proofs.lemmas.Simd.{map-map}
 use Rattle.arrow_types.proofs.RowsLemmas.{take_at_read}
-use Rattle.arrow_types.specs.ArrowType.{ArrowType, null, plain}
-use Rattle.arrow_types.specs.Fits.{Fits, part_in, slot_or}
+use Rattle.arrow_types.specs.ArrowType.{ArrowType}
+use Rattle.arrow_types.specs.Fits.{Fits, part_in}
 use Rattle.arrow_types.specs.Rows.{gather, gathered, masked, valid_at}
 use Rattle.arrow_types.specs.Slot.{Slot, Slots, Null, Number, Parts as fields, more_slots, no_slots, null_slot, to_slots}
 use Rattle.arrow_flat.specs.Parts.{FitsRows}
 use Rattle.arrow_arrays.specs.Any.{any_array_rows, any_array_type, layout_of}
 use Rattle.arrow_arrays.specs.KeyedParts.{AreKeys, IsKey}
-use Rattle.arrow_arrays.specs.Layout.{across, column_length, columns_of, rows, stacked, struct_items, to_layouts, type_of_layout}
+use Rattle.arrow_arrays.specs.Layout.{across, columns_of, rows, stacked, struct_items, to_layouts}
 use Rattle.arrow_arrays.specs.StructParts.{FitsColumns, HaveRows, IsStruct, StructParts, row_count, row_of, struct_rows}
 use Rattle.arrow_arrays.specs.declared.array.any.AnyArray.{AnyArray}
 use Rattle.arrow_arrays.proofs.StructLemmas.{columns_of-to_layouts, length-struct_rows, struct_row_null, struct_row_valid}
-use Rattle.arrow_arrays.proofs.ShapeLemmas.{shape_of}
-use Rattle.arrow_growable.specs.Form.{child_type, child_types}
-use Rattle.arrow_growable.proofs.ColumnLemmas.{column_fits, field_column, fits_fields, struct_child_types}
 use Rattle.arrow_select.specs.Taken.{MarksTaken, SomeDoNotFit, is_taken_valid, taken_rows, valid_index}
+use Rattle.arrow_select.proofs.FieldColumns.{column_long, column_of_fits, columns_fit, first_long, part_at, some_column}
 use Rattle.arrow_select.proofs.IndexLemmas.{Stores, each_index, fits_taken, length-gather, map-agree, named_valid, null_is_none, rows_taken}
 
 -- arrays that are made one by one of others
@@ -50,12 +48,6 @@ items-map h [] indices some = absurd (omega (arith, some))
 items-map h (c ∷ columns) indices some =
     ap (λ n. map fields (across n (map (λ d. map (h d) indices) (c ∷ columns)))) (length-map indices (h c)) ∙ (ap (map fields) (across-map h (c ∷ columns) indices) ∙ map-map fields (λ s. to_slots (map (λ d. h d s) (c ∷ columns))) indices)
 
--- what a row of a struct has in a column
-part_at : (ss : List Slot) (f : ℕ) → slot_or Null (to_slots ss) f ≡ get_or ss f Null
-part_at [] f = refl
-part_at (s ∷ ss) zero = refl
-part_at (s ∷ ss) (suc f) = part_at ss f
-
 -- an index whose row is valid, or a null one, is an index
 valid_key : (count : ℕ) (s : Slot) (b : Bool) → IsKey count s → IsKey count (if b then s else Null)
 valid_key count s true key = key
@@ -69,15 +61,6 @@ valid_keys v count indices keys =
 all_of : {A B : Type 0} (P : B → Type 0) (f : A → B) (xs : List A) → All P (map f xs) → All (λ x. P (f x)) xs
 all_of P f xs all =
     λ k d within. subst P (get_or-map f xs k d (f d) within) (all k (f d) (omega (arith, within, length-map xs f)))
-
-first_long : (columns : List (List Slot)) (n : ℕ) → 0 < length columns → All (λ c. length c ≡ n) columns → column_length columns ≡ n
-first_long [] n some all = absurd (omega (arith, some))
-first_long (c ∷ columns) n some all = all 0 c (omega arith)
-
--- one of them
-some_member : (columns : List AnyArray) → 0 < length columns → AnyArray
-some_member [] some = absurd (omega (arith, some))
-some_member (c ∷ columns) some = c
 
 -- structs, each of whose fields is taken by the indices whose row is valid
 module _ (p : StructParts) (columns : List AnyArray) (held : IsStruct p) (children : map layout_of columns ≡ p.children) (none : null_slot p.arrow_type ≡ Null) (indices : List Slot) (keys : AreKeys (length (struct_rows p)) indices) where
@@ -95,13 +78,7 @@ module _ (p : StructParts) (columns : List AnyArray) (held : IsStruct p) (childr
   long = length-struct_rows p held
 
   some : 0 < length columns
-  some = omega (arith, held.some, length-map columns layout_of, ap length children)
-
-  column_long : (k : ℕ) (d : AnyArray) → k < length columns → length (any_array_rows (get_or columns k d)) ≡ count
-  column_long k d within =
-      let among : k < length p.children = omega (arith, within, length-map columns layout_of, ap length children) in
-      let here : get_or p.children k (layout_of d) ≡ layout_of (get_or columns k d) = ap (λ ls. get_or ls k (layout_of d)) (sym children) ∙ get_or-map layout_of columns k d (layout_of d) within in
-      ap (λ l. length (rows l)) (sym here) ∙ held.fits.0 k (layout_of d) among
+  some = some_column p columns held children
 
   -- the same array without a validity
   abbrev bare : StructParts
@@ -126,7 +103,7 @@ module _ (p : StructParts) (columns : List AnyArray) (held : IsStruct p) (childr
   -- what a column has at a place
   read_column : (n : ℕ) → n < count → (k : ℕ) (d : AnyArray) → k < length columns → gathered (any_array_rows (get_or columns k d)) (any_array_type (get_or columns k d)) (Number (pos n)) ≡ slice_index_or (any_array_rows (get_or columns k d)) n Null
   read_column n within k d among =
-      ap (λ o. unwrap_or o (null_slot (any_array_type (get_or columns k d)))) (slice_get-get_or (any_array_rows (get_or columns k d)) n Null (omega (arith, within, column_long k d among)))
+      ap (λ o. unwrap_or o (null_slot (any_array_type (get_or columns k d)))) (slice_get-get_or (any_array_rows (get_or columns k d)) n Null (omega (arith, within, column_long p columns held children k d among)))
 
   row_stored : (n : ℕ) → n < count → valid_at v n ≡ true → row_of n p.children ≡ stored (Number (pos n))
   row_stored n within valid =
@@ -166,40 +143,24 @@ module _ (p : StructParts) (columns : List AnyArray) (held : IsStruct p) (childr
   column_taken u f d has is =
       map-map (part_in f u) (gathered (struct_rows p) p.arrow_type) indices ∙ (map-agree (IsKey (length (struct_rows p))) _ _ (part_taken u f d has is) indices keys ∙ sym (map-map (gathered (any_array_rows (get_or columns f d)) (any_array_type (get_or columns f d))) (valid_index v) indices))
 
-  -- the type of each column is that of its field
-  column_type : (f : ℕ) (d : AnyArray) → f < length columns → any_array_type (get_or columns f d) ≡ child_type p.arrow_type f
-  column_type f d has =
-      let kind = struct_child_types p.arrow_type (ap shape_of held.kind.1) in
-      let types : map any_array_type columns ≡ child_types p.arrow_type = sym (map-map type_of_layout layout_of columns) ∙ (ap (map type_of_layout) children ∙ (held.children ∙ sym kind)) in
-      sym (get_or-map any_array_type columns f d (plain null) has) ∙ ap (λ ts. slice_index_or ts f (plain null)) types
-
-  as_many : length (child_types p.arrow_type) ≡ length columns
-  as_many =
-      ap length (struct_child_types p.arrow_type (ap shape_of held.kind.1) ∙ sym held.children) ∙ (length-map p.children type_of_layout ∙ (ap length (sym children) ∙ length-map columns layout_of))
-
   -- they fit where each column does
   pub fields_fit : length indices < 2 ^ 64 → All (λ c. Fits (any_array_type c) (taken_rows (map (valid_index v) indices) c)) columns → Fits p.arrow_type (gather (struct_rows p) indices p.arrow_type)
   fields_fit counted each =
-      let d = some_member columns some in
-      fits_fields p.arrow_type (gather (struct_rows p) indices p.arrow_type) held.kind.1 (omega (arith, counted, length-map indices (gathered (struct_rows p) p.arrow_type))) (λ f has.
-      let here : f < length columns = omega (arith, has, as_many) in
-      let is = column_type f d here in
-      subst (Fits (child_type p.arrow_type f)) (sym (field_column p.arrow_type f (gather (struct_rows p) indices p.arrow_type) held.kind.1 ∙ column_taken (child_type p.arrow_type f) f d here is)) (subst (λ t. Fits t (taken_rows (map (valid_index v) indices) (get_or columns f d))) is (each f d here)))
+      columns_fit p columns held children (gather (struct_rows p) indices p.arrow_type) (omega (arith, counted, length-map indices (gathered (struct_rows p) p.arrow_type))) (λ f d has. subst (Fits (any_array_type (get_or columns f d))) (sym (column_taken (any_array_type (get_or columns f d)) f d has refl)) (each f d has))
 
   -- and each column does where they do
   pub fields_pass : SomeDoNotFit (map (valid_index v) indices) columns → Fits p.arrow_type (gather (struct_rows p) indices p.arrow_type) → ⊥
   fields_pass (k, c, read, over) fits =
       let has = slice_get_within columns k c read in
       let at = get_or_from_slice_get columns k c c read in
-      let is = column_type k c has in
-      let column = column_fits p.arrow_type k (gather (struct_rows p) indices p.arrow_type) (omega (arith, has, as_many)) fits in
-      let here = subst (Fits (child_type p.arrow_type k)) (field_column p.arrow_type k (gather (struct_rows p) indices p.arrow_type) held.kind.1 ∙ column_taken (child_type p.arrow_type k) k c has is) column in
-      over (subst (λ e. Fits (any_array_type e) (taken_rows (map (valid_index v) indices) e)) at (subst (λ t. Fits t (taken_rows (map (valid_index v) indices) (get_or columns k c))) (sym is) here))
+      let column = column_of_fits p columns held children (gather (struct_rows p) indices p.arrow_type) k c has fits in
+      let here = subst (Fits (any_array_type (get_or columns k c))) (column_taken (any_array_type (get_or columns k c)) k c has refl) column in
+      over (subst (λ e. Fits (any_array_type e) (taken_rows (map (valid_index v) indices) e)) at here)
 
   -- the indices whose row is valid name rows of each column
   pub columns_inside : All (λ c. AreKeys (length (any_array_rows c)) (map (valid_index v) indices)) columns
   columns_inside =
-      λ k d within. subst (λ n. AreKeys n (map (valid_index v) indices)) (long ∙ sym (column_long k d within)) (valid_keys v (length (struct_rows p)) indices keys)
+      λ k d within. subst (λ n. AreKeys n (map (valid_index v) indices)) (long ∙ sym (column_long p columns held children k d within)) (valid_keys v (length (struct_rows p)) indices keys)
 
   -- the columns by index are of one length
   pub taken_fits : (taken : List AnyArray) (validity : Option (List Bool)) → map any_array_rows taken ≡ map (taken_rows (map (valid_index v) indices)) columns → MarksTaken v indices validity → FitsColumns (map layout_of taken) validity

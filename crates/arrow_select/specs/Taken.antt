@@ -1,5 +1,5 @@
 -- Rows by index: the types that `can_take` lists, what `take` answers, and what private functions keep of rows by index.
-use Rattle.std.specs.Prelude.{◌≡◌, ℕ, ◌+◌, ◌*◌, ◌-◌, pos, Bool, false, not, Option, None, Some, List, [], ◌∷◌, Result, map, replicate, slice_get, slice_index, slice_index_or, unwrap_or, if◌then◌else◌}
+use Rattle.std.specs.Prelude.{◌≡◌, ℕ, ◌+◌, ◌*◌, ◌-◌, pos, Bool, false, not, Option, None, Some, List, [], ◌∷◌, ◌++◌, Result, map, replicate, slice_get, slice_index, slice_index_or, unwrap_or, if◌then◌else◌}
 use Rattle.std.specs.List.{All, range_with_len}
 use Rattle.arrow_types.specs.declared.error.Error.{Error}
 use Rattle.arrow_types.specs.ArrowType.{ArrowType, ArrowFields, PlainType, plain, list, struct, union, dictionary, extension, field, no_fields, more_fields, float16, float32, float64, decimal256}
@@ -118,6 +118,11 @@ taken_bytes validity offsets bytes index = span_bytes bytes (taken_span validity
 abbrev pub ends_from : ℕ → List ℕ → List ℕ
 ends_from place [] = []
 ends_from place (n ∷ lengths) = (place + n) ∷ ends_from (place + n) lengths
+
+-- the members of rows, one row behind the other
+abbrev pub concatenated : {A : Type 0} → List (List A) → List A
+concatenated [] = []
+concatenated (row ∷ rows) = row ++ concatenated rows
 
 -- how long a row is
 abbrev pub row_length : List ℕ → ℕ → ℕ

@@ -19,8 +19,10 @@ ghost use Rattle.arrow_select.specs.Refusals.{IsIfThenElseRefusal};
 
 mod boolean;
 mod bytes;
+mod list;
 mod primitive;
 mod runs;
+mod structure;
 mod words;
 
 use crate::concatenate::is_of_type;
@@ -31,9 +33,11 @@ use arrow_growable::growable::{AnyGrowable, Growable, make_growable};
 use arrow_types::error::{ArgumentFault, Error};
 use boolean::chosen_booleans;
 use bytes::chosen_byte_rows;
+use list::chosen_lists;
 use primitive::chosen_primitives;
 use runs::Runs;
 use std::alloc::Global;
+use structure::chosen_structs;
 
 /// The rows of the left array where the predicate is true, those of the right one where it is false, and the type's
 /// null slot where it is null, in an array of their data type.
@@ -83,7 +87,8 @@ pub fn if_then_else(
 }
 
 // The rows that the predicate chooses of two arrays of one data type: of numbers, intervals and booleans by words, of texts
-// and bytes row by row, and of others by runs.
+// and bytes by words and rows, of structs field by field, of lists by runs of their items, and of others by runs.
+#[cycle(choose)]
 fn chosen_rows(
     alloc: Global,
     predicate: &BooleanArray,
@@ -124,11 +129,42 @@ fn chosen_rows(
         (AnyArray::LargeBinary(left), AnyArray::LargeBinary(right)) => {
             Ok(AnyArray::LargeBinary(chosen_byte_rows(alloc, predicate, left, right)?))
         }
-        _ => {
-            let growable = make_growable(alloc, &[lhs, rhs], false, predicate.len())?;
-            chosen_by_runs(growable, predicate, lhs, rhs)
+        (AnyArray::Struct(left), AnyArray::Struct(right)) => {
+            Ok(AnyArray::Struct(chosen_structs(alloc, predicate, left, right)?))
         }
+        (AnyArray::List(left), AnyArray::List(right)) => {
+            match chosen_lists(alloc, predicate, left, right) {
+                Ok(all) => Ok(AnyArray::List(all)),
+                Err(Error::OutOfMemory) => Err(Error::OutOfMemory),
+                // Whether a row that is chosen is crowded, only a growable over whole lists says.
+                Err(_) => chosen_by_growable(alloc, predicate, lhs, rhs),
+            }
+        }
+        _ => chosen_by_growable(alloc, predicate, lhs, rhs),
     }
+}
+
+// The same by runs of rows, for a type of any kind.
+fn chosen_by_growable(
+    alloc: Global,
+    predicate: &BooleanArray,
+    lhs: &AnyArray,
+    rhs: &AnyArray,
+) -> Result<AnyArray, Error>
+    requires one_type { any_array_type lhs.now ≡ any_array_type rhs.now }
+    requires lengths { AreOneLength (boolean_rows predicate.now) (any_array_rows lhs.now)
+        (any_array_rows rhs.now) }
+    ensures array_type { IfOk result (λ all. any_array_type all ≡ any_array_type lhs.now) }
+    ensures rows { IfOk result (λ all. any_array_rows all
+        ≡ chosen (boolean_rows predicate.now) (any_array_rows lhs.now) (any_array_rows rhs.now)
+        (any_array_type lhs.now)) }
+    ensures fits { IfOk result (λ all. Fits (any_array_type all) (any_array_rows all)) }
+    ensures overflow { result ≡ Err Error.Overflow
+        → CannotChoose (boolean_rows predicate.now) (layout_of lhs.now) (layout_of rhs.now) }
+    ensures others { IfErr result IsGrowthError }
+{
+    let growable = make_growable(alloc, &[lhs, rhs], false, predicate.len())?;
+    chosen_by_runs(growable, predicate, lhs, rhs)
 }
 
 // The same by a growable over both arrays that has no row yet.

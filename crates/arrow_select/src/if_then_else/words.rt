@@ -89,7 +89,7 @@ fn push_chosen<T: NativeType>(values: &mut Vec<T>, word: u64, left: &[T], right:
 
 // One of two values.
 #[inline(always)]
-fn either<T: NativeType>(bit: bool, left: T, right: T) -> T
+pub(super) fn either<T: Copy>(bit: bool, left: T, right: T) -> T
     ensures { result ≡ (if bit then left else right) }
 {
     if bit { left } else { right }

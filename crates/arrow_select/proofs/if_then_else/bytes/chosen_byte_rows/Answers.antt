@@ -1,20 +1,22 @@
-use Rattle.std.proofs.Common.{arith, ◌≡◌, ◌-◌, ◌<◌, ◌≤◌, ◌∷◌, ◌∙◌, Err, ap, length, map, refl, rules, subst, sym}
+use Rattle.std.proofs.Common.{arith, ◌≡◌, ◌<◌, ◌≤◌, ◌∷◌, ◌∙◌, Err, ap, length, map, refl, rules, subst, sym}
 use Rattle.std.specs.Prelude.{option_copied}
-use Rattle.std.specs.List.{All, concat}
+use Rattle.std.specs.List.{All}
 use Rattle.std.proofs.lemmas.List.{length-map}
 use Rattle.arrow_types.specs.Fits.{Fits}
 use Rattle.arrow_types.specs.Rows.{masked}
 use Rattle.arrow_types.specs.Slot.{Boolean}
 use Rattle.arrow_memory.specs.Offsets.{last_of}
-use Rattle.arrow_flat.specs.ByteRows.{byte_slots}
+use Rattle.arrow_flat.specs.ByteRows.{byte_slots, row_bytes}
 use Rattle.arrow_flat.proofs.PieceLemmas.{length-byte_slots}
 use Rattle.arrow_flat.specs.Parts.{FitsRows, rows_by}
+use Rattle.arrow_flat.specs.Pieces.{pieces}
 use Rattle.arrow_flat_growable.specs.GrownRows.{total}
 use Rattle.arrow_flat_growable.proofs.ResultLemmas.{passed_on}
-use Rattle.arrow_select.specs.Choice.{chosen_bytes, lent}
-use Rattle.arrow_select.specs.Taken.{ends_from}
-use Rattle.arrow_select.proofs.ChosenBytes.{made_allowed, made_fit, made_fits, made_passes, made_rows, rows_are, rows_end, rows_in, rows_long}
+use Rattle.arrow_select.specs.Choice.{all_chosen}
+use Rattle.arrow_select.specs.Taken.{concatenated, ends_from}
+use Rattle.arrow_select.proofs.ChosenBytes.{bytes_chosen, made_allowed, made_fit, made_passes, rows_in}
 use Rattle.arrow_select.proofs.ChosenLemmas.{chooses}
+use Rattle.arrow_select.proofs.ChosenRows.{made_fits, rows_are, rows_end, rows_long}
 use Rattle.arrow_select.proofs.if_then_else.bytes.chosen_byte_rows.Goals as goal
 
 pub chosen_parts-requires-clause-left : goal.chosen_parts-requires-clause-left
@@ -39,9 +41,9 @@ returns-in_err-offsets-clause-overflow g c overflows fits =
     let slot = g.K.ByteKind.slot in
     let validity = c.in_ok-validity.validity in
     let all = chooses slot p (rows_in l) (rows_in r) _ validity _ _ c.requires.lengths c.in_ok-validity.ensures.predicate c.validity.ensures.fits c.validity-2.ensures.fits c.validity.ensures.same c.validity-2.ensures.same refl c.in_ok-validity.ensures.ok in
-    let left : lent c.offsets.result.now c.as_slice.result.now ≡ l.values = (λ i. lent (c.offsets.ensures i) ((c.as_slice.ensures ∙ c.values.ensures.same) i)) in
-    let right : lent c.offsets-2.result.now c.as_slice-2.result.now ≡ r.values = (λ i. lent (c.offsets-2.ensures i) ((c.as_slice-2.ensures ∙ c.values-2.ensures.same) i)) in
-    let same : chosen_bytes (option_copied c.as_ref.result) c.values-3.result.now (lent c.offsets.result.now c.as_slice.result.now) (lent c.offsets-2.result.now c.as_slice-2.result.now) ≡ chosen_bytes validity p.values l.values r.values = (λ i. chosen_bytes (c.as_ref.ensures.value i) (c.values-3.ensures i) (left i) (right i)) in
+    let left : pieces c.offsets.result.now c.as_slice.result.now ≡ row_bytes l.values = (λ i. pieces (c.offsets.ensures i) ((c.as_slice.ensures ∙ c.values.ensures.same) i)) in
+    let right : pieces c.offsets-2.result.now c.as_slice-2.result.now ≡ row_bytes r.values = (λ i. pieces (c.offsets-2.ensures i) ((c.as_slice-2.ensures ∙ c.values-2.ensures.same) i)) in
+    let same : all_chosen (option_copied c.as_ref.result) c.values-3.result.now (pieces c.offsets.result.now c.as_slice.result.now) (pieces c.offsets-2.result.now c.as_slice-2.result.now) ≡ all_chosen validity p.values (row_bytes l.values) (row_bytes r.values) = (λ i. all_chosen (c.as_ref.ensures.value i) (c.values-3.ensures i) (left i) (right i)) in
     let over = c.in_err-offsets.ensures.overflow (ap Err (passed_on c.from_residual-in_err-offsets.result _ _ c.from_residual-in_err-offsets.ensures.1 overflows)) in
     made_passes p l r validity all slot g.met.K.GrowableKind.counts g.O.Offset.IS_LARGE l.arrow_type _ (g.met.K.GrowableKind.lies_as_bytes g.O.Offset.IS_LARGE) c.data_type-data_type.ensures.kind g.O.Index.greatest g.met.O.Offset.greatest_is (subst (λ rows. g.O.Index.greatest < total rows) same over) fits
 
@@ -53,12 +55,12 @@ new-requires-clause-length g c =
     let slot = g.K.ByteKind.slot in
     let validity = c.in_ok-validity.validity in
     let all = chooses slot p (rows_in l) (rows_in r) _ validity _ _ c.requires.lengths c.in_ok-validity.ensures.predicate c.validity.ensures.fits c.validity-2.ensures.fits c.validity.ensures.same c.validity-2.ensures.same refl c.in_ok-validity.ensures.ok in
-    let left : lent c.offsets.result.now c.as_slice.result.now ≡ l.values = (λ i. lent (c.offsets.ensures i) ((c.as_slice.ensures ∙ c.values.ensures.same) i)) in
-    let right : lent c.offsets-2.result.now c.as_slice-2.result.now ≡ r.values = (λ i. lent (c.offsets-2.ensures i) ((c.as_slice-2.ensures ∙ c.values-2.ensures.same) i)) in
-    let same : chosen_bytes (option_copied c.as_ref.result) c.values-3.result.now (lent c.offsets.result.now c.as_slice.result.now) (lent c.offsets-2.result.now c.as_slice-2.result.now) ≡ chosen_bytes validity p.values l.values r.values = (λ i. chosen_bytes (c.as_ref.ensures.value i) (c.values-3.ensures i) (left i) (right i)) in
-    let made = chosen_bytes validity p.values l.values r.values in
+    let left : pieces c.offsets.result.now c.as_slice.result.now ≡ row_bytes l.values = (λ i. pieces (c.offsets.ensures i) ((c.as_slice.ensures ∙ c.values.ensures.same) i)) in
+    let right : pieces c.offsets-2.result.now c.as_slice-2.result.now ≡ row_bytes r.values = (λ i. pieces (c.offsets-2.ensures i) ((c.as_slice-2.ensures ∙ c.values-2.ensures.same) i)) in
+    let same : all_chosen (option_copied c.as_ref.result) c.values-3.result.now (pieces c.offsets.result.now c.as_slice.result.now) (pieces c.offsets-2.result.now c.as_slice-2.result.now) ≡ all_chosen validity p.values (row_bytes l.values) (row_bytes r.values) = (λ i. all_chosen (c.as_ref.ensures.value i) (c.values-3.ensures i) (left i) (right i)) in
+    let made = all_chosen validity p.values (row_bytes l.values) (row_bytes r.values) in
     let ends : c.in_ok-offsets.offsets ≡ 0 ∷ ends_from 0 (map length made) = c.in_ok-offsets.ensures.offsets ∙ ap (λ rows. 0 ∷ ends_from 0 (map length rows)) same in
-    subst (FitsRows validity) (sym (rows_long made c.in_ok-offsets.offsets c.in_ok-bytes.bytes ends)) (made_fits p l r validity all)
+    subst (FitsRows validity) (sym (rows_long made c.in_ok-offsets.offsets c.in_ok-bytes.bytes ends)) (made_fits p (rows_in l) (rows_in r) validity all)
 
 pub new-requires-clause-offsets : goal.new-requires-clause-offsets
 new-requires-clause-offsets g c =
@@ -72,12 +74,12 @@ new-requires-clause-text g c =
     let slot = g.K.ByteKind.slot in
     let validity = c.in_ok-validity.validity in
     let all = chooses slot p (rows_in l) (rows_in r) _ validity _ _ c.requires.lengths c.in_ok-validity.ensures.predicate c.validity.ensures.fits c.validity-2.ensures.fits c.validity.ensures.same c.validity-2.ensures.same refl c.in_ok-validity.ensures.ok in
-    let left : lent c.offsets.result.now c.as_slice.result.now ≡ l.values = (λ i. lent (c.offsets.ensures i) ((c.as_slice.ensures ∙ c.values.ensures.same) i)) in
-    let right : lent c.offsets-2.result.now c.as_slice-2.result.now ≡ r.values = (λ i. lent (c.offsets-2.ensures i) ((c.as_slice-2.ensures ∙ c.values-2.ensures.same) i)) in
-    let same : chosen_bytes (option_copied c.as_ref.result) c.values-3.result.now (lent c.offsets.result.now c.as_slice.result.now) (lent c.offsets-2.result.now c.as_slice-2.result.now) ≡ chosen_bytes validity p.values l.values r.values = (λ i. chosen_bytes (c.as_ref.ensures.value i) (c.values-3.ensures i) (left i) (right i)) in
-    let made = chosen_bytes validity p.values l.values r.values in
+    let left : pieces c.offsets.result.now c.as_slice.result.now ≡ row_bytes l.values = (λ i. pieces (c.offsets.ensures i) ((c.as_slice.ensures ∙ c.values.ensures.same) i)) in
+    let right : pieces c.offsets-2.result.now c.as_slice-2.result.now ≡ row_bytes r.values = (λ i. pieces (c.offsets-2.ensures i) ((c.as_slice-2.ensures ∙ c.values-2.ensures.same) i)) in
+    let same : all_chosen (option_copied c.as_ref.result) c.values-3.result.now (pieces c.offsets.result.now c.as_slice.result.now) (pieces c.offsets-2.result.now c.as_slice-2.result.now) ≡ all_chosen validity p.values (row_bytes l.values) (row_bytes r.values) = (λ i. all_chosen (c.as_ref.ensures.value i) (c.values-3.ensures i) (left i) (right i)) in
+    let made = all_chosen validity p.values (row_bytes l.values) (row_bytes r.values) in
     let ends : c.in_ok-offsets.offsets ≡ 0 ∷ ends_from 0 (map length made) = c.in_ok-offsets.ensures.offsets ∙ ap (λ rows. 0 ∷ ends_from 0 (map length rows)) same in
-    let are : c.in_ok-bytes.bytes ≡ concat made = c.in_ok-bytes.ensures.ok ∙ (c.in_ok-offsets.ensures.bytes ∙ ap concat same) in
+    let are : c.in_ok-bytes.bytes ≡ concatenated made = c.in_ok-bytes.ensures.ok ∙ (c.in_ok-offsets.ensures.bytes ∙ ap concatenated same) in
     subst (All g.K.ByteKind.Allows) (sym (rows_are made c.in_ok-offsets.offsets c.in_ok-bytes.bytes ends are)) (made_allowed p l r validity all g.K.ByteKind.Allows g.met.K.GrowableKind.allows_empty c.values.ensures.allowed c.values-2.ensures.allowed)
 
 pub returns-clause-rows : goal.returns-clause-rows
@@ -88,13 +90,13 @@ returns-clause-rows g c =
     let slot = g.K.ByteKind.slot in
     let validity = c.in_ok-validity.validity in
     let all = chooses slot p (rows_in l) (rows_in r) _ validity _ _ c.requires.lengths c.in_ok-validity.ensures.predicate c.validity.ensures.fits c.validity-2.ensures.fits c.validity.ensures.same c.validity-2.ensures.same refl c.in_ok-validity.ensures.ok in
-    let left : lent c.offsets.result.now c.as_slice.result.now ≡ l.values = (λ i. lent (c.offsets.ensures i) ((c.as_slice.ensures ∙ c.values.ensures.same) i)) in
-    let right : lent c.offsets-2.result.now c.as_slice-2.result.now ≡ r.values = (λ i. lent (c.offsets-2.ensures i) ((c.as_slice-2.ensures ∙ c.values-2.ensures.same) i)) in
-    let same : chosen_bytes (option_copied c.as_ref.result) c.values-3.result.now (lent c.offsets.result.now c.as_slice.result.now) (lent c.offsets-2.result.now c.as_slice-2.result.now) ≡ chosen_bytes validity p.values l.values r.values = (λ i. chosen_bytes (c.as_ref.ensures.value i) (c.values-3.ensures i) (left i) (right i)) in
-    let made = chosen_bytes validity p.values l.values r.values in
+    let left : pieces c.offsets.result.now c.as_slice.result.now ≡ row_bytes l.values = (λ i. pieces (c.offsets.ensures i) ((c.as_slice.ensures ∙ c.values.ensures.same) i)) in
+    let right : pieces c.offsets-2.result.now c.as_slice-2.result.now ≡ row_bytes r.values = (λ i. pieces (c.offsets-2.ensures i) ((c.as_slice-2.ensures ∙ c.values-2.ensures.same) i)) in
+    let same : all_chosen (option_copied c.as_ref.result) c.values-3.result.now (pieces c.offsets.result.now c.as_slice.result.now) (pieces c.offsets-2.result.now c.as_slice-2.result.now) ≡ all_chosen validity p.values (row_bytes l.values) (row_bytes r.values) = (λ i. all_chosen (c.as_ref.ensures.value i) (c.values-3.ensures i) (left i) (right i)) in
+    let made = all_chosen validity p.values (row_bytes l.values) (row_bytes r.values) in
     let ends : c.in_ok-offsets.offsets ≡ 0 ∷ ends_from 0 (map length made) = c.in_ok-offsets.ensures.offsets ∙ ap (λ rows. 0 ∷ ends_from 0 (map length rows)) same in
-    let are : c.in_ok-bytes.bytes ≡ concat made = c.in_ok-bytes.ensures.ok ∙ (c.in_ok-offsets.ensures.bytes ∙ ap concat same) in
-    ap (rows_by (byte_slots slot)) c.new.ensures ∙ (ap (λ rows. masked validity (map slot rows)) (rows_are made c.in_ok-offsets.offsets c.in_ok-bytes.bytes ends are) ∙ made_rows p l r validity all slot g.met.K.GrowableKind.counts g.O.Offset.IS_LARGE l.arrow_type _ (g.met.K.GrowableKind.lies_as_bytes g.O.Offset.IS_LARGE) c.data_type-data_type.ensures.kind)
+    let are : c.in_ok-bytes.bytes ≡ concatenated made = c.in_ok-bytes.ensures.ok ∙ (c.in_ok-offsets.ensures.bytes ∙ ap concatenated same) in
+    ap (rows_by (byte_slots slot)) c.new.ensures ∙ (ap (λ rows. masked validity (map slot rows)) (rows_are made c.in_ok-offsets.offsets c.in_ok-bytes.bytes ends are) ∙ bytes_chosen p l r validity all slot g.met.K.GrowableKind.counts g.O.Offset.IS_LARGE l.arrow_type _ (g.met.K.GrowableKind.lies_as_bytes g.O.Offset.IS_LARGE) c.data_type-data_type.ensures.kind)
 
 pub returns-clause-fits : goal.returns-clause-fits
 returns-clause-fits g c =
@@ -104,9 +106,9 @@ returns-clause-fits g c =
     let slot = g.K.ByteKind.slot in
     let validity = c.in_ok-validity.validity in
     let all = chooses slot p (rows_in l) (rows_in r) _ validity _ _ c.requires.lengths c.in_ok-validity.ensures.predicate c.validity.ensures.fits c.validity-2.ensures.fits c.validity.ensures.same c.validity-2.ensures.same refl c.in_ok-validity.ensures.ok in
-    let left : lent c.offsets.result.now c.as_slice.result.now ≡ l.values = (λ i. lent (c.offsets.ensures i) ((c.as_slice.ensures ∙ c.values.ensures.same) i)) in
-    let right : lent c.offsets-2.result.now c.as_slice-2.result.now ≡ r.values = (λ i. lent (c.offsets-2.ensures i) ((c.as_slice-2.ensures ∙ c.values-2.ensures.same) i)) in
-    let same : chosen_bytes (option_copied c.as_ref.result) c.values-3.result.now (lent c.offsets.result.now c.as_slice.result.now) (lent c.offsets-2.result.now c.as_slice-2.result.now) ≡ chosen_bytes validity p.values l.values r.values = (λ i. chosen_bytes (c.as_ref.ensures.value i) (c.values-3.ensures i) (left i) (right i)) in
+    let left : pieces c.offsets.result.now c.as_slice.result.now ≡ row_bytes l.values = (λ i. pieces (c.offsets.ensures i) ((c.as_slice.ensures ∙ c.values.ensures.same) i)) in
+    let right : pieces c.offsets-2.result.now c.as_slice-2.result.now ≡ row_bytes r.values = (λ i. pieces (c.offsets-2.ensures i) ((c.as_slice-2.ensures ∙ c.values-2.ensures.same) i)) in
+    let same : all_chosen (option_copied c.as_ref.result) c.values-3.result.now (pieces c.offsets.result.now c.as_slice.result.now) (pieces c.offsets-2.result.now c.as_slice-2.result.now) ≡ all_chosen validity p.values (row_bytes l.values) (row_bytes r.values) = (λ i. all_chosen (c.as_ref.ensures.value i) (c.values-3.ensures i) (left i) (right i)) in
     let same_type : c.new.result.arrow_type ≡ l.arrow_type = search rules in
     let fit = made_fit p l r validity all slot g.met.K.GrowableKind.counts g.O.Offset.IS_LARGE l.arrow_type _ (g.met.K.GrowableKind.lies_as_bytes g.O.Offset.IS_LARGE) c.data_type-data_type.ensures.kind g.O.Index.greatest g.met.O.Offset.greatest_is (omega (arith, c.len-2.ensures.values, c.len-2.type_inv, length-map p.values Boolean)) (subst (λ rows. total rows ≤ g.O.Index.greatest) same c.in_ok-offsets.ensures.few) in
     subst (λ t. Fits t (rows_by (byte_slots slot) c.new.result)) (sym same_type) (subst (Fits l.arrow_type) (sym (returns-clause-rows g c)) fit)

@@ -1,51 +1,62 @@
-use Rattle.std.proofs.Common.{arith, ◌≡◌, ◌+◌, ◌<◌, ◌++◌, ◌∷◌, ◌∙◌, Err, [], ap, false, get_or, if◌then◌else◌, length, map, sym}
+use Rattle.std.proofs.Common.{arith, ◌≡◌, ◌-◌, ◌*◌, ◌<◌, ◌≤◌, ◌∙◌, Err, ap, length, min}
 use Rattle.std.specs.Prelude.{option_copied}
-use Rattle.std.specs.List.{range_with_len}
-use Rattle.std.proofs.lemmas.Option.{get_or_from_slice_get}
-use Rattle.arrow_memory.specs.Offsets.{last_of, with_row}
-use Rattle.arrow_flat.specs.ByteRows.{row_bytes}
+use Rattle.std.proofs.lemmas.Int.{ints}
 use Rattle.arrow_flat_growable.proofs.ResultLemmas.{passed_on}
-use Rattle.arrow_select.specs.Choice.{lent, row_chosen}
-use Rattle.arrow_select.specs.Taken.{ends_from}
-use Rattle.arrow_select.proofs.ChosenBytes.{all_few, bytes_more, offsets_more, passes}
+use Rattle.arrow_select.specs.Choice.{row_chosen}
+use Rattle.arrow_select.proofs.ChosenRuns.{all_bytes, all_ends, all_few, word_appended, word_passes}
+use Rattle.arrow_flat.specs.Pieces.{pieces}
 use Rattle.arrow_select.proofs.if_then_else.bytes.chosen_parts.Goals as goal
-use Rattle.arrow_select.proofs.if_then_else.bytes.chosen_parts.Goals.{else-get_bit, then-get_bit}
 
-pub returns-in_err-append_row-clause-overflow : goal.returns-in_err-append_row-clause-overflow
-returns-in_err-append_row-clause-overflow g c overflows =
+pub returns-in_err-append_word-clause-overflow : goal.returns-in_err-append_word-clause-overflow
+returns-in_err-append_word-clause-overflow g c overflows =
     let v = option_copied c.args.validity in
     let bits = c.args.bits.now in
-    let l = lent c.args.left.0.now c.args.left.1.now in
-    let r = lent c.args.right.0.now c.args.right.1.now in
-    let i = c.loop-row.row in
-    let side : lent c.if-get_bit.side.0.now c.if-get_bit.side.1.now ≡ (if get_or bits i false then l else r) = elim c.if-get_bit.branch [
-      | then-get_bit w ↦ ap (λ s. lent s.0.now s.1.now) w.side-is ∙ sym (ap (λ b. if b then l else r) (get_or_from_slice_get bits i c.get_bit.result false c.get_bit.ensures ∙ w.if-get_bit.true))
-      | else-get_bit w ↦ ap (λ s. lent s.0.now s.1.now) w.side-is ∙ sym (ap (λ b. if b then l else r) (get_or_from_slice_get bits i c.get_bit.result false c.get_bit.ensures ∙ w.if-get_bit.false))
-    ] in
-    let row : (if c.is_valid.result then get_or (row_bytes (lent c.if-get_bit.side.0.now c.if-get_bit.side.1.now)) i [] else []) ≡ row_chosen v bits l r i = (λ t. if c.is_valid.ensures t then get_or (row_bytes (side t)) i [] else []) in
-    let over = c.in_err-append_row.ensures.overflow (ap Err (passed_on c.from_residual-in_err-append_row.result _ _ c.from_residual-in_err-append_row.ensures.1 overflows)) in
-    passes (row_chosen v bits l r) i (length bits) g.O.Index.greatest c.loop-row.offsets (omega (arith, c.loop-row-test.true, c.len-len.ensures)) c.loop-row.invariant.offsets (omega (arith, over, ap length row))
+    let l = pieces c.args.left.0.now c.args.left.1.now in
+    let r = pieces c.args.right.0.now c.args.right.1.now in
+    let n = length bits in
+    let j = c.loop-j.j in
+    let within : 64 * j < n = omega (arith, c.loop-j-test.true, c.div_ceil-j-end.ensures, c.len-len.ensures) in
+    let is : c.min-count.result ≡ min 64 (n - 64 * j) = omega (arith, c.min-count.ensures, c.len-len.ensures) in
+    word_passes (row_chosen v bits l r) n j c.min-count.result within is g.O.Index.greatest c.loop-j.offsets c.loop-j.bytes.items c.loop-j.invariant.rows (c.in_err-append_word.ensures.overflow (ap Err (passed_on c.from_residual-in_err-append_word.result _ _ c.from_residual-in_err-append_word.ensures.1 overflows)))
 
-pub loop-row-preserved : goal.loop-row-preserved
-loop-row-preserved g c =
+pub loop-j-preserved : goal.loop-j-preserved
+loop-j-preserved g c =
     let v = option_copied c.args.validity in
     let bits = c.args.bits.now in
-    let l = lent c.args.left.0.now c.args.left.1.now in
-    let r = lent c.args.right.0.now c.args.right.1.now in
-    let i = c.loop-row.row in
-    let side : lent c.if-get_bit.side.0.now c.if-get_bit.side.1.now ≡ (if get_or bits i false then l else r) = elim c.if-get_bit.branch [
-      | then-get_bit w ↦ ap (λ s. lent s.0.now s.1.now) w.side-is ∙ sym (ap (λ b. if b then l else r) (get_or_from_slice_get bits i c.get_bit.result false c.get_bit.ensures ∙ w.if-get_bit.true))
-      | else-get_bit w ↦ ap (λ s. lent s.0.now s.1.now) w.side-is ∙ sym (ap (λ b. if b then l else r) (get_or_from_slice_get bits i c.get_bit.result false c.get_bit.ensures ∙ w.if-get_bit.false))
-    ] in
-    let row : (if c.is_valid.result then get_or (row_bytes (lent c.if-get_bit.side.0.now c.if-get_bit.side.1.now)) i [] else []) ≡ row_chosen v bits l r i = (λ t. if c.is_valid.ensures t then get_or (row_bytes (side t)) i [] else []) in
-    record {
-      offsets = offsets_more (row_chosen v bits l r) i c.loop-row.offsets _ c.loop-row.invariant.offsets (c.in_ok-append_row.ensures.offsets ∙ ap (λ bs. with_row c.loop-row.offsets (length bs)) row);
-      bytes = bytes_more (row_chosen v bits l r) i c.loop-row.bytes.items _ c.loop-row.invariant.bytes (c.in_ok-append_row.ensures.bytes ∙ ap (λ bs. c.loop-row.bytes.items ++ bs) row);
-      few = c.in_ok-append_row.ensures.few;
-    }
+    let l = pieces c.args.left.0.now c.args.left.1.now in
+    let r = pieces c.args.right.0.now c.args.right.1.now in
+    let n = length bits in
+    let j = c.loop-j.j in
+    let within : 64 * j < n = omega (arith, c.loop-j-test.true, c.div_ceil-j-end.ensures, c.len-len.ensures) in
+    let is : c.min-count.result ≡ min 64 (n - 64 * j) = omega (arith, c.min-count.ensures, c.len-len.ensures) in
+    record { rows = word_appended (row_chosen v bits l r) n j c.min-count.result within is c.loop-j.offsets c.append_word.new.offsets c.loop-j.bytes.items c.append_word.new.bytes.items c.loop-j.invariant.rows c.in_ok-append_word.ensures.ok }
+
+pub returns-clause-offsets : goal.returns-clause-offsets
+returns-clause-offsets g c =
+    let v = option_copied c.args.validity in
+    let bits = c.args.bits.now in
+    let l = pieces c.args.left.0.now c.args.left.1.now in
+    let r = pieces c.args.right.0.now c.args.right.1.now in
+    let n = length bits in
+    let whole : n ≤ 64 * c.loop-j.j = omega (arith, c.loop-j-test.false, c.loop-j.auto.j-end, c.div_ceil-j-end.ensures, c.len-len.ensures) in
+    c.in_ok-into_buffer.ensures.ok ∙ all_ends (row_chosen v bits l r) n c.loop-j.j whole c.loop-j.offsets c.loop-j.bytes.items c.loop-j.invariant.rows
+
+pub returns-clause-bytes : goal.returns-clause-bytes
+returns-clause-bytes g c =
+    let v = option_copied c.args.validity in
+    let bits = c.args.bits.now in
+    let l = pieces c.args.left.0.now c.args.left.1.now in
+    let r = pieces c.args.right.0.now c.args.right.1.now in
+    let n = length bits in
+    let whole : n ≤ 64 * c.loop-j.j = omega (arith, c.loop-j-test.false, c.loop-j.auto.j-end, c.div_ceil-j-end.ensures, c.len-len.ensures) in
+    all_bytes (row_chosen v bits l r) n c.loop-j.j whole c.loop-j.offsets c.loop-j.bytes.items c.loop-j.invariant.rows
 
 pub returns-clause-few : goal.returns-clause-few
 returns-clause-few g c =
-    let f = row_chosen (option_copied c.args.validity) c.args.bits.now (lent c.args.left.0.now c.args.left.1.now) (lent c.args.right.0.now c.args.right.1.now) in
-    let all : c.loop-row.row ≡ length c.args.bits.now = omega (arith, c.loop-row-test.false, c.loop-row.auto.row-end, c.len-len.ensures) in
-    all_few f (length c.args.bits.now) g.O.Index.greatest c.loop-row.offsets (c.loop-row.invariant.offsets ∙ ap (λ n. 0 ∷ ends_from 0 (map length (map f (range_with_len 0 n)))) all) c.loop-row.invariant.few
+    let v = option_copied c.args.validity in
+    let bits = c.args.bits.now in
+    let l = pieces c.args.left.0.now c.args.left.1.now in
+    let r = pieces c.args.right.0.now c.args.right.1.now in
+    let n = length bits in
+    let whole : n ≤ 64 * c.loop-j.j = omega (arith, c.loop-j-test.false, c.loop-j.auto.j-end, c.div_ceil-j-end.ensures, c.len-len.ensures) in
+    all_few (row_chosen v bits l r) n c.loop-j.j whole c.loop-j.offsets c.loop-j.bytes.items c.loop-j.invariant.rows g.O.Index.greatest (omega (arith, ints, c.to_usize.ensures.value, c.last.ensures, c.to_usize.ensures.at_most_greatest))

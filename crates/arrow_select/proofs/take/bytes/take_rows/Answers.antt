@@ -5,7 +5,8 @@ use Rattle.arrow_memory.specs.Offsets.{IsOffsets, last_of}
 use Rattle.arrow_flat.specs.Parts.{rows_by}
 use Rattle.arrow_select.specs.Spans.{IsSpanWithin, spanned}
 use Rattle.arrow_select.specs.Taken.{span_length}
-use Rattle.arrow_select.proofs.TakenBytes.{ends_last, spanned_by_index, spans_within}
+use Rattle.arrow_select.proofs.EndLemmas.{ends_last}
+use Rattle.arrow_select.proofs.TakenBytes.{spanned_by_index, spans_within}
 use Rattle.arrow_select.proofs.take.bytes.take_rows.Goals as goal
 
 pub copy_spans-requires : goal.copy_spans-requires
