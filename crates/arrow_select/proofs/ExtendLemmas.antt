@@ -1,6 +1,6 @@
 -- Rows of a bound array by ranges, which are those by the mask, and a growable that is extended by them, range after range.
-use Rattle.std.proofs.Common.{arith, ◌≡◌, ◌+◌, ◌<◌, ◌≤◌, ℕ, zero, suc, Bool, true, false, Option, Some, None, List, [], ◌∷◌, ◌++◌, length, map, replicate, take, drop, drop-cons, get_or, Result, Err, if◌then◌else◌, refl, ap, sym, subst, ◌∙◌, append_assoc}
-use Rattle.std.specs.Prelude.{count_by, flat_map}
+use Rattle.std.proofs.Common.{arith, ◌≡◌, ◌+◌, ◌<◌, ℕ, suc, Bool, true, false, Option, Some, None, List, [], ◌∷◌, ◌++◌, length, replicate, take, drop, drop-cons, get_or, Result, Err, refl, ap, sym, subst, ◌∙◌, append_assoc}
+use Rattle.std.specs.Prelude.{flat_map}
 use Rattle.std.proofs.lemmas.Grind.{flat_map-append}
 use Rattle.std.proofs.lemmas.List.{append-nil, length-append, replicate-append-replicate, take-append-drop}
 use Rattle.arrow_types.specs.declared.error.Error.{Error}

@@ -96,7 +96,7 @@ module _ (xs : List Slot) (t : ArrowType) (f : Slot → Slot) (none : null_slot 
       let read = slice_get-get_or bits n false (omega (arith, within, same)) ∙ ap Some is in
       sym (ap (λ o. unwrap_or o (null_slot t)) (slice_get-mask bits xs n false _ read (slice_get-get_or xs n Null within)))
 
-  row_taken : (v : Option (List Bool)) → FitsRows v (length xs) → Stores v xs f → (s : Slot) → IsKey (length xs) s → (if is_taken_valid v s then f s else Null) ≡ gathered (masked v xs) t s
+  pub row_taken : (v : Option (List Bool)) → FitsRows v (length xs) → Stores v xs f → (s : Slot) → IsKey (length xs) s → (if is_taken_valid v s then f s else Null) ≡ gathered (masked v xs) t s
   row_taken None fits stores =
       each_index (length xs) _ (sym none) (λ n within. sym (ap (λ o. unwrap_or o (null_slot t)) (stores n within refl)))
   row_taken (Some bits) fits stores =

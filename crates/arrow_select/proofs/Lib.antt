@@ -18,6 +18,7 @@ pub mod FieldColumns
 pub mod FilterLemmas
 pub mod GrownRanges
 pub mod IndexLemmas
+pub mod KeptFields
 pub mod KeptLemmas
 pub mod KeyLemmas
 pub mod LawLemmas
@@ -30,9 +31,11 @@ pub mod SetLemmas
 pub mod ShiftLemmas
 pub mod SideLemmas
 pub mod SpanLemmas
+pub mod SparseRows
 pub mod TakenBytes
 pub mod TakenFields
 pub mod TakenKeys
 pub mod TakenRows
 pub mod TakenRuns
 pub mod TakenTypes
+pub mod TakenVariants

@@ -53,7 +53,7 @@ valid_key : (count : ℕ) (s : Slot) (b : Bool) → IsKey count s → IsKey coun
 valid_key count s true key = key
 valid_key count s false key = tt
 
-valid_keys : (v : Option (List Bool)) (count : ℕ) (indices : List Slot) → AreKeys count indices → AreKeys count (map (valid_index v) indices)
+pub valid_keys : (v : Option (List Bool)) (count : ℕ) (indices : List Slot) → AreKeys count indices → AreKeys count (map (valid_index v) indices)
 valid_keys v count indices keys =
     All-map (IsKey count) (valid_index v) indices (λ k d within. valid_key count (get_or indices k d) (is_taken_valid v (get_or indices k d)) (keys k d within))
 

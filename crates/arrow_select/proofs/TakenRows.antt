@@ -1,5 +1,5 @@
 -- Bytes of a fixed size by index: the rows, one behind the other, and that they fit where their bytes can be counted.
-use Rattle.std.proofs.Common.{arith, ◌≡◌, ◌+◌, ◌-◌, ◌*◌, ◌/◌, ◌%◌, ℕ, suc, ◌<◌, ◌≤◌, ◌^◌, pos, true, Bool, Option, Some, None, List, [], ◌∷◌, ◌++◌, length, map, take, drop, get_or, replicate, refl, ap, sym, subst, ◌∙◌, append_assoc}
+use Rattle.std.proofs.Common.{arith, ◌≡◌, ◌+◌, ◌-◌, ◌*◌, ◌/◌, ◌%◌, ℕ, suc, ◌<◌, ◌≤◌, ◌^◌, Bool, Option, List, [], ◌∷◌, ◌++◌, length, map, take, drop, get_or, replicate, refl, ap, sym, subst, ◌∙◌, append_assoc}
 use Rattle.std.specs.Prelude.{IfSome, option_map}
 use Rattle.std.specs.List.{All, concat}
 use Rattle.std.proofs.lemmas.List.{append-nil, drop-replicate, length-append, length-map, length-replicate, length-take-le, map-append, take-replicate, take_all}
@@ -18,7 +18,7 @@ use Rattle.arrow_types.specs.Slot.{Slot, Null, Bytes}
 use Rattle.arrow_types.proofs.RowsLemmas.{take_at_read}
 use Rattle.arrow_memory.specs.Sliced.{sliced}
 use Rattle.arrow_memory.proofs.SlicedLemmas.{length-sliced}
-use Rattle.arrow_flat.specs.FixedRows.{AreFixedRows, FitsBytes, FixedParts, fixed_row_bytes, fixed_size_in, fixed_slots}
+use Rattle.arrow_flat.specs.FixedRows.{FitsBytes, FixedParts, fixed_row_bytes, fixed_size_in, fixed_slots}
 use Rattle.arrow_flat.specs.Parts.{FitsRows, Parts, rows_by}
 use Rattle.arrow_flat.specs.Pieces.{chunks}
 use Rattle.arrow_flat.proofs.FixedLemmas.{chunk_at, length-fixed_slots}
@@ -26,7 +26,7 @@ use Rattle.arrow_flat.proofs.PartsLemmas.{length-masked}
 use Rattle.arrow_arrays.specs.KeyedParts.{AreKeys, IsKey, key_in}
 use Rattle.arrow_arrays.proofs.FitNullLemmas.{bytes_fit, whole_product}
 use Rattle.arrow_flat_growable.specs.FlatLaws.{fits_counted, is_counted, null_of_counted}
-use Rattle.arrow_select.specs.Taken.{MarksTaken, fixed_row, taken_row}
+use Rattle.arrow_select.specs.Taken.{MarksTaken, taken_row}
 use Rattle.arrow_select.proofs.IndexLemmas.{Stores, each_index, fits_taken, length-gather, rows_taken}
 
 -- rows of so many bytes, one behind the other

@@ -13,4 +13,5 @@ pub mod Runs
 pub mod Selected
 pub mod Selection
 pub mod Spans
+pub mod SparseUnions
 pub mod Taken

@@ -1,11 +1,14 @@
 -- Rows of columns that a mask keeps, and values and bits at which a mask is set.
-use Rattle.std.specs.Prelude.{◌≡◌, ◌+◌, ◌<◌, ◌≤◌, ℕ, Bool, List, [], ◌∷◌, Some, length, slice_get, take, if◌then◌else◌}
+use Rattle.std.specs.Prelude.{◌≡◌, ◌+◌, ◌<◌, ◌≤◌, ℕ, Bool, List, Option, None, [], ◌∷◌, Some, length, map, slice_get, take, if◌then◌else◌}
 use Rattle.std.specs.Int.{bit_at}
 use Rattle.std.specs.List.{All}
 use Rattle.arrow_types.specs.Fits.{Fits}
-use Rattle.arrow_types.specs.Rows.{select}
-use Rattle.arrow_types.specs.Slot.{Slot}
+use Rattle.arrow_types.specs.Rows.{masked, select}
+use Rattle.arrow_types.specs.Slot.{Slot, Null, null_slot}
+use Rattle.arrow_memory.specs.Bits.{both_bits}
 use Rattle.arrow_memory.specs.Words.{low_bits}
+use Rattle.arrow_arrays.specs.declared.array.any.AnyArray.{AnyArray}
+use Rattle.arrow_arrays.specs.Any.{any_array_rows, any_array_type}
 use Rattle.arrow_arrays.specs.Layout.{Layout, rows, type_of_layout}
 
 -- those of one column
@@ -16,6 +19,29 @@ selected_rows mask column = select mask (rows column)
 abbrev pub FirstDoesNotFit : List Bool → List Layout → Type 0
 FirstDoesNotFit mask columns =
     (k : ℕ) × (column : Layout) × (slice_get columns k ≡ Some column) × All (λ c. Fits (type_of_layout c) (selected_rows mask c)) (take k columns) × (Fits (type_of_layout column) (selected_rows mask column) → ⊥)
+
+-- the bits of a validity that are set in another one too, which may be absent
+abbrev pub valid_in_both : Option (List Bool) → List Bool → List Bool
+valid_in_both None bits = bits
+valid_in_both (Some own) bits = both_bits own bits
+
+-- those of rows under a validity
+abbrev pub kept_rows_under : List Bool → Option (List Bool) → List Slot → List Slot
+kept_rows_under mask validity xs = select mask (masked validity xs)
+
+-- an array of the rows of another under a validity that a mask keeps; its type has a validity, so that a null slot is Null
+pub record KeptUnder (mask : List Bool) (validity : Option (List Bool)) (column kept : AnyArray) : Type 0 where
+  pub array_type : any_array_type kept ≡ any_array_type column
+  pub rows : any_array_rows kept ≡ kept_rows_under mask validity (any_array_rows column)
+  pub fits : Fits (any_array_type kept) (any_array_rows kept)
+  pub null : null_slot (any_array_type column) ≡ Null
+
+-- such arrays of columns
+pub record KeptColumns (mask : List Bool) (validity : Option (List Bool)) (columns kept : List AnyArray) : Type 0 where
+  pub types : map any_array_type kept ≡ map any_array_type columns
+  pub rows : map any_array_rows kept ≡ map (λ column. kept_rows_under mask validity (any_array_rows column)) columns
+  pub fits : All (λ column. Fits (any_array_type column) (kept_rows_under mask validity (any_array_rows column))) columns
+  pub nulls : All (λ column. null_slot (any_array_type column) ≡ Null) columns
 
 -- the members of a list at which a mask is set, in order
 abbrev pub at_set : {A : Type 0} → List Bool → List A → List A

@@ -14,12 +14,15 @@ ghost use Rattle.arrow_select.specs.Selected.{FirstDoesNotFit, selected_rows};
 mod any;
 mod boolean;
 mod bytes;
+mod columns;
 mod dict;
 mod prepared;
 mod primitive;
 mod ranged;
 mod ranges;
 mod selection;
+mod structure;
+mod union;
 mod words;
 
 use crate::filter::any::{count_set, kept, mask_of_predicate};

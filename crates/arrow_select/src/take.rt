@@ -70,6 +70,7 @@ pub fn take<O: Index>(
         AnyArray::Struct(values) => {
             Ok(AnyArray::Struct(structure::take(alloc, values, indices)?))
         }
+        AnyArray::Union(values) => Ok(AnyArray::Union(union::take(alloc, values, indices)?)),
         _ => take_one(alloc, values, indices),
     }
 }

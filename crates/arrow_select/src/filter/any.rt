@@ -1,6 +1,6 @@
 //! The rows of an array of any type that are kept.
 
-ghost use Rattle.std.specs.Prelude.{◌≡◌, [], ◌∷◌, Err, count_by, length, IfOk, IfErr, IsOkUnless, OnOk};
+ghost use Rattle.std.specs.Prelude.{◌≡◌, [], ◌∷◌, Err, count_by, length, IfOk, IfErr, IfSome, IsOkUnless, OnOk};
 ghost use Rattle.arrow_types.specs.declared.error.Error.{Error};
 ghost use Rattle.arrow_types.specs.Fits.{Fits};
 ghost use Rattle.arrow_types.specs.Rows.{mask_of, select};
@@ -10,6 +10,8 @@ ghost use Rattle.arrow_flat.specs.Parts.{boolean_rows};
 ghost use Rattle.arrow_growable.specs.AnyGrowable.{grown_of};
 ghost use Rattle.arrow_growable.specs.Growing.{HasAppended};
 ghost use Rattle.arrow_memory.specs.Grown.{IsGrowthError};
+ghost use Rattle.arrow_arrays.specs.UnionParts.{union_rows};
+ghost use Rattle.arrow_select.specs.Answers.{Gives};
 ghost use Rattle.arrow_select.specs.Selection.{mask_in};
 
 use crate::filter::boolean::filter_boolean;
@@ -18,7 +20,9 @@ use crate::filter::dict::filter_dictionary;
 use crate::filter::prepared::Filter;
 use crate::filter::primitive::filter_primitive;
 use crate::filter::selection::Selection;
-use arrow_arrays::array::AnyArray;
+use crate::filter::structure::filter_struct;
+use crate::filter::union::filter_sparse;
+use arrow_arrays::array::{AnyArray, UnionArray};
 use arrow_flat::array::BooleanArray;
 use arrow_growable::growable::{AnyGrowable, Growable, make_growable};
 use arrow_memory::bitmap::Bitmap;
@@ -91,11 +95,59 @@ pub(super) fn kept(
             let kept = filter_dictionary(alloc, values, selection, count)?;
             Ok(AnyArray::Dictionary(kept))
         }
-        _ => {
-            let growable = make_growable(alloc, &[array], false, count)?;
-            selected(growable, array, selection)
-        }
+        AnyArray::Struct(values) => match filter_struct(alloc, values, selection, count)? {
+            Some(kept) => Ok(AnyArray::Struct(kept)),
+            None => kept_by_growable(alloc, array, selection, count),
+        },
+        AnyArray::Union(values) => match kept_union(alloc, values, selection, count)? {
+            Some(kept) => Ok(AnyArray::Union(kept)),
+            None => kept_by_growable(alloc, array, selection, count),
+        },
+        _ => kept_by_growable(alloc, array, selection, count),
     }
+}
+
+// The rows that are kept of a union, if it is sparse and no field has children.
+fn kept_union(
+    alloc: Global,
+    array: &UnionArray,
+    selection: Selection<'_>,
+    count: usize,
+) -> Result<Option<UnionArray>, Error>
+    requires lengths { length (mask_in selection) ≡ length (union_rows array.now) }
+    requires count { count ≡ count_by (λ is_kept. is_kept) (mask_in selection) }
+    ensures ok { IfOk result (λ made. IfSome made (λ kept. Gives (λ a. a.arrow_type) union_rows kept
+        array.now.arrow_type (select (mask_in selection.entry) (union_rows array.now)))) }
+    ensures err { IsOkUnless result Error.OutOfMemory }
+{
+    // The type, the fields and the ids are those of a union, with an id a row.
+    let (_, _, _) = (array.data_type(), array.fields(), array.types());
+    let _ = array.len();
+    match array.offsets() {
+        None => filter_sparse(alloc, array, selection, count),
+        Some(_) => Ok(None),
+    }
+}
+
+// The same by a growable, for an array of any type.
+fn kept_by_growable(
+    alloc: Global,
+    array: &AnyArray,
+    selection: Selection<'_>,
+    count: usize,
+) -> Result<AnyArray, Error>
+    requires lengths { length (mask_in selection) ≡ length (any_array_rows array.now) }
+    ensures array_type { IfOk result (λ kept. any_array_type kept ≡ any_array_type array.now) }
+    ensures rows { IfOk result (λ kept. any_array_rows kept
+        ≡ select (mask_in selection.entry) (any_array_rows array.now)) }
+    ensures fits { IfOk result (λ kept. Fits (any_array_type kept) (any_array_rows kept)) }
+    ensures overflow { result ≡ Err Error.Overflow
+        → Fits (any_array_type array.now) (select (mask_in selection.entry) (any_array_rows array.now))
+        → ⊥ }
+    ensures others { IfErr result IsGrowthError }
+{
+    let growable = make_growable(alloc, &[array], false, count)?;
+    selected(growable, array, selection)
 }
 
 // The rows that are kept, by a growable over the array that has none yet.

@@ -1,4 +1,4 @@
-//! Arrays of any type but structs by index.
+//! Arrays of any type but structs and unions by index.
 
 ghost use Rattle.std.specs.Prelude.{◌≡◌, ◌≢◌, Err, length, map, IfOk, IfErr, IsOkUnless};
 ghost use Rattle.arrow_types.specs.declared.error.Error.{Error};
@@ -8,11 +8,11 @@ ghost use Rattle.arrow_memory.specs.Grown.{IsGrowthError};
 ghost use Rattle.arrow_flat.specs.AnyPrimitive.{any_type, any_rows};
 ghost use Rattle.arrow_flat.specs.NullParts.{null_rows};
 ghost use Rattle.arrow_flat.specs.Parts.{rows_by};
-ghost use Rattle.arrow_arrays.specs.Any.{any_array_type, any_array_rows, kind_of, struct_kind};
+ghost use Rattle.arrow_arrays.specs.Any.{any_array_type, any_array_rows, kind_of, struct_kind, union_kind};
 ghost use Rattle.arrow_select.specs.Taken.{AreIndices};
 
 use crate::take::{
-    binary, boolean, dict, fixed_size_binary, fixed_size_list, list, map, primitive, union, utf8,
+    binary, boolean, dict, fixed_size_binary, fixed_size_list, list, map, primitive, utf8,
 };
 use arrow_arrays::array::AnyArray;
 use arrow_flat::array::{AnyPrimitive, NullArray, PrimitiveArray};
@@ -20,7 +20,7 @@ use arrow_types::error::Error;
 use arrow_types::types::Index;
 use std::alloc::Global;
 
-// The rows that the indices name, of an array of any type but a struct.
+// The rows that the indices name, of an array of any type but a struct or a union.
 pub(super) fn take_one<I: Index>(
     alloc: Global,
     values: &AnyArray,
@@ -28,6 +28,7 @@ pub(super) fn take_one<I: Index>(
 ) -> Result<AnyArray, Error>
     requires inside { AreIndices (length (any_array_rows values.now)) (rows_by (map I.slot) indices.now) }
     requires no_struct { kind_of values.now ≢ struct_kind }
+    requires no_union { kind_of values.now ≢ union_kind }
     ensures array_type { IfOk result (λ taken. any_array_type taken ≡ any_array_type values.now) }
     ensures rows { IfOk result (λ taken. any_array_rows taken
         ≡ gather (any_array_rows values.now) (rows_by (map I.slot) indices.now)
@@ -66,8 +67,7 @@ pub(super) fn take_one<I: Index>(
             Ok(AnyArray::FixedSizeBinary(fixed_size_binary::take(alloc, values, indices)?))
         }
         AnyArray::Map(values) => Ok(AnyArray::Map(map::take(alloc, values, indices)?)),
-        AnyArray::Union(values) => Ok(AnyArray::Union(union::take(alloc, values, indices)?)),
-        AnyArray::Struct(_) => unreachable!(),
+        AnyArray::Struct(_) | AnyArray::Union(_) => unreachable!(),
     }
 }
 

@@ -2,7 +2,6 @@ use Rattle.std.proofs.Common.{◌≡◌, ◌∙◌, arith, ap, length, map, rule
 use Rattle.arrow_types.specs.Fits.{Fits}
 use Rattle.arrow_types.specs.Physical.{physical_type_of}
 use Rattle.arrow_types.specs.Rows.{select}
-use Rattle.arrow_types.specs.TypeOf.{type_of}
 use Rattle.arrow_types.proofs.SelectLemmas.{length-select}
 use Rattle.arrow_arrays.specs.Any.{layout_of}
 use Rattle.arrow_arrays.specs.AnyKeys.{key_rows}

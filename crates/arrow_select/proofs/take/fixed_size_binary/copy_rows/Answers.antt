@@ -1,10 +1,8 @@
-use Rattle.std.proofs.Common.{◌≡◌, ◌+◌, ◌*◌, ◌<◌, ◌≤◌, ◌∙◌, ◌++◌, arith, ap, drop, get_or, length, map, replicate, subst, sym, take}
-use Rattle.std.specs.Prelude.{IfSome}
+use Rattle.std.proofs.Common.{◌≡◌, ◌+◌, ◌*◌, ◌<◌, ◌∙◌, ◌++◌, arith, ap, drop, get_or, length, map, replicate, sym, take}
 use Rattle.std.specs.List.{concat}
 use Rattle.std.proofs.lemmas.List.{length-map}
 use Rattle.arrow_types.specs.Rows.{masked}
 use Rattle.arrow_types.specs.Slot.{Null}
-use Rattle.arrow_memory.specs.Sliced.{sliced}
 use Rattle.arrow_flat.specs.Parts.{rows_by}
 use Rattle.arrow_flat.proofs.PartsLemmas.{length-masked}
 use Rattle.arrow_arrays.specs.KeyedParts.{key_in}

@@ -1,7 +1,5 @@
 use Rattle.std.proofs.Common.{◌≡◌, ◌∙◌, ◌<◌, ◌^◌, Err, ap, arith, length, map, rules, subst, sym}
 use Rattle.std.specs.List.{concat}
-use Rattle.arrow_types.specs.Fits.{Fits}
-use Rattle.arrow_types.specs.Rows.{gather}
 use Rattle.arrow_types.specs.TypeOf.{type_of}
 use Rattle.arrow_flat.specs.FixedRows.{fixed_size_in, fixed_slots}
 use Rattle.arrow_flat.specs.Parts.{rows_by}

@@ -1,4 +1,4 @@
-use Rattle.std.proofs.Common.{◌≡◌, [], ◌∷◌, Err, ap, map, subst, sym}
+use Rattle.std.proofs.Common.{[], ◌∷◌, Err, ap, map, subst, sym}
 use Rattle.arrow_types.specs.Fits.{Fits}
 use Rattle.arrow_types.specs.Rows.{gather}
 use Rattle.arrow_flat.specs.Parts.{rows_by}

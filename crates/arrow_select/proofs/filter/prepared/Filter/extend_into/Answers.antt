@@ -1,8 +1,7 @@
-use Rattle.std.proofs.Common.{arith, ◌≡◌, false, Err, ap, take, drop, ◌∙◌, sym}
+use Rattle.std.proofs.Common.{arith, Err, ap, ◌∙◌}
 use Rattle.std.proofs.lemmas.List.{take_all}
-use Rattle.arrow_types.specs.declared.error.Error.TheVariants.{Failed, Overflow}
+use Rattle.arrow_types.specs.declared.error.Error.TheVariants.{Failed}
 use Rattle.arrow_arrays.proofs.FaultLemmas.{failed}
-use Rattle.arrow_flat_growable.specs.Grown.{HasFailed}
 use Rattle.arrow_select.specs.Extended.{RefusesRange, with_ranges}
 use Rattle.arrow_select.specs.Ranges.{IsRangesOf}
 use Rattle.arrow_select.proofs.ExtendLemmas.{extended_all, refuses_range, same_error}

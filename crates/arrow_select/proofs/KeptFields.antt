@@ -1,0 +1,185 @@
+-- Rows that a mask keeps of structs and of sparse unions: each field by itself, null where a row is not its own.
+use Rattle.std.proofs.Common.{arith, ◌≡◌, ◌+◌, ◌<◌, ◌≤◌, ◌^◌, ℕ, suc, ℤ, pos, Bool, true, false, Option, Some, None, List, [], ◌∷◌, ◌++◌, length, map, get_or, if◌then◌else◌, refl, ap, sym, subst, ◌∙◌, append_assoc}
+use Rattle.std.specs.Prelude.{option_map, unwrap_or}
+use Rattle.std.specs.List.{All}
+use Rattle.std.specs.Ordering.{int_eq}
+use Rattle.std.proofs.lemmas.List.{get_or-map, get_or_default, length-append, length-map, same_lists}
+use Rattle.std.proofs.lemmas.List.Elements.{All-cons, All-map, All-nil}
+use Rattle.std.proofs.lemmas.Option.{slice_get-get_or}
+use Rattle.std.proofs.lemmas.Simd.{map-map}
+use Rattle.std.proofs.Math.Seq.{get_or-append_seam}
+use Rattle.arrow_types.specs.ArrowType.{ArrowType}
+use Rattle.arrow_types.specs.Fits.{Fits}
+use Rattle.arrow_types.specs.Physical.{physical_type_of}
+use Rattle.arrow_types.proofs.SlotLemmas.{null_slot-no_union}
+use Rattle.arrow_types.specs.Rows.{gather, gathered, mask, masked, select}
+use Rattle.arrow_memory.specs.Bits.{both_bits}
+use Rattle.arrow_memory.specs.Gathered.{AnswersBits}
+use Rattle.arrow_types.specs.Slot.{Slot, Null, Number, id_at, null_slot}
+use Rattle.arrow_flat.specs.Parts.{FitsRows, IsValue}
+use Rattle.arrow_flat.proofs.PartsLemmas.{length-masked}
+use Rattle.arrow_arrays.specs.declared.array.any.AnyArray.{AnyArray}
+use Rattle.arrow_arrays.specs.Any.{Kind, any_array_rows, any_array_type, kind_in, layout_of, union_kind}
+use Rattle.arrow_arrays.specs.KeyedParts.{AreKeys, IsKey}
+use Rattle.arrow_arrays.specs.Layout.{columns_of, field_ids, rows, struct_items, to_layouts}
+use Rattle.arrow_arrays.specs.StructParts.{FitsColumns, IsStruct, StructParts, struct_rows}
+use Rattle.arrow_arrays.specs.UnionParts.{UnionParts, union_rows}
+use Rattle.arrow_arrays.proofs.StructLemmas.{length-struct_rows}
+use Rattle.arrow_growable.specs.Variants.{variant_type}
+use Rattle.arrow_select.specs.Laws.{places_from, true_places}
+use Rattle.arrow_select.specs.Selected.{KeptColumns, KeptUnder, at_set, kept_rows_under, valid_in_both}
+use Rattle.arrow_select.specs.SparseUnions.{HasPart, IsSparse, have_id, taken_id}
+use Rattle.arrow_select.specs.Taken.{MarksTaken, is_taken_valid, named_bit, taken_rows, valid_index}
+use Rattle.arrow_select.proofs.FieldColumns.{column_long}
+use Rattle.arrow_select.proofs.IndexLemmas.{Stores, length-gather, map-agree, row_taken}
+use Rattle.arrow_select.proofs.LawLemmas.{selected_is_gathered}
+use Rattle.arrow_select.proofs.TakenFields.{fields_fit, fields_taken, taken_fits}
+use Rattle.arrow_select.proofs.TakenVariants.{field_taken, long, part, part_long}
+
+-- the places at which a mask is true are those of rows
+places_below : (i n : ℕ) (mask : List Bool) → i + length mask ≤ n → AreKeys n (map (λ k. Number (pos k)) (places_from i mask))
+places_below i n [] within = All-nil (IsKey n)
+places_below i n (true ∷ mask) within =
+    let here : i < n = omega (arith, within) in
+    All-cons (IsKey n) (Number (pos i)) (map (λ k. Number (pos k)) (places_from (i + 1) mask)) here (places_below (i + 1) n mask (omega (arith, within)))
+places_below i n (false ∷ mask) within = places_below (i + 1) n mask (omega (arith, within))
+
+pub places_named : (mask : List Bool) (n : ℕ) → length mask ≡ n → AreKeys n (true_places mask)
+places_named mask n same = places_below 0 n mask (omega (arith, same))
+
+-- what is set of a list is what stands at these places
+set_behind : {A : Type 0} (before ys : List A) (mask : List Bool) (d : A) → length mask ≡ length ys → at_set mask ys ≡ map (λ n. get_or (before ++ ys) n d) (places_from (length before) mask)
+set_behind before [] [] d same = refl
+set_behind before (y ∷ ys) [] d same = absurd (omega (arith, same))
+set_behind before [] (b ∷ mask) d same = absurd (omega (arith, same))
+set_behind before (y ∷ ys) (b ∷ mask) d same =
+    let moved : (before ++ y ∷ []) ++ ys ≡ before ++ y ∷ ys = append_assoc before (y ∷ []) ys in
+    let count : length (before ++ y ∷ []) ≡ length before + 1 = length-append before (y ∷ []) in
+    let rest = set_behind (before ++ y ∷ []) ys mask d (omega (arith, same)) ∙ (λ i. map (λ n. get_or (moved i) n d) (places_from (count i) mask)) in
+    let first = sym (get_or-append_seam before y ys d) in
+    let by : (chosen : Bool) → at_set (chosen ∷ mask) (y ∷ ys) ≡ map (λ n. get_or (before ++ y ∷ ys) n d) (places_from (length before) (chosen ∷ mask)) = elim [ true ↦ (λ i. first i ∷ rest i) | false ↦ rest ] in
+    by b
+
+pub set_at_places : {A : Type 0} (ys : List A) (mask : List Bool) (d : A) → length mask ≡ length ys → at_set mask ys ≡ map (λ n. get_or ys n d) (places_from 0 mask)
+set_at_places ys mask d same = set_behind [] ys mask d same
+
+-- rows that are kept under a validity
+under : (xs : List Slot) (u : ArrowType) (b : Bool) (s : Slot) → null_slot u ≡ Null → gathered xs u (if b then s else Null) ≡ (if b then gathered xs u s else Null)
+under xs u true s none = refl
+under xs u false s none = none
+
+pub kept_under : (v : Option (List Bool)) (mask : List Bool) (xs : List Slot) (u : ArrowType) → null_slot u ≡ Null → length mask ≡ length xs → FitsRows v (length xs) → gather xs (map (valid_index v) (true_places mask)) u ≡ kept_rows_under mask v xs
+kept_under v mask xs u none same fits =
+    let stores : Stores v xs (gathered xs u) = λ n within valid. slice_get-get_or xs n Null within ∙ ap Some (sym (ap (λ o. unwrap_or o (null_slot u)) (slice_get-get_or xs n Null within))) in
+    let each : (s : Slot) → IsKey (length xs) s → gathered xs u (valid_index v s) ≡ gathered (masked v xs) u s = λ s key. under xs u (is_taken_valid v s) s none ∙ row_taken xs u (gathered xs u) none v fits stores s key in
+    map-map (gathered xs u) (valid_index v) (true_places mask) ∙ (map-agree (IsKey (length xs)) _ _ each (true_places mask) (places_named mask (length xs) same) ∙ sym (selected_is_gathered (masked v xs) mask u (same ∙ sym (length-masked v xs fits))))
+
+-- and the validity of those that are kept
+pub kept_marks : (v kept : Option (List Bool)) (mask : List Bool) → kept ≡ option_map (at_set mask) v → FitsRows v (length mask) → MarksTaken v (true_places mask) kept
+kept_marks None kept mask is fits =
+    subst (MarksTaken None (true_places mask)) (sym is) (refl, All-map IsValue (λ k. Number (pos k)) (places_from 0 mask) (λ k d within. refl))
+kept_marks (Some bits) kept mask is fits =
+    subst (MarksTaken (Some bits) (true_places mask)) (sym is) (set_at_places bits mask false (sym fits) ∙ sym (map-map (named_bit bits) (λ k. Number (pos k)) (places_from 0 mask)))
+
+-- rows under two validities
+mask_none : (bits : List Bool) → mask bits [] ≡ []
+mask_none [] = refl
+mask_none (b ∷ bits) = refl
+
+mask_both : (own bits : List Bool) (xs : List Slot) → mask (both_bits own bits) xs ≡ mask bits (mask own xs)
+mask_both [] bits xs = sym (mask_none bits)
+mask_both (o ∷ own) [] xs = refl
+mask_both (o ∷ own) (b ∷ bits) [] = refl
+mask_both (true ∷ own) (b ∷ bits) (x ∷ xs) = ap (λ ys. (if b then x else Null) ∷ ys) (mask_both own bits xs)
+mask_both (false ∷ own) (true ∷ bits) (x ∷ xs) = ap (λ ys. Null ∷ ys) (mask_both own bits xs)
+mask_both (false ∷ own) (false ∷ bits) (x ∷ xs) = ap (λ ys. Null ∷ ys) (mask_both own bits xs)
+
+pub rows_under : (own : Option (List Bool)) (bits : List Bool) (xs : List Slot) → mask (valid_in_both own bits) xs ≡ mask bits (masked own xs)
+rows_under None bits xs = refl
+rows_under (Some own) bits xs = mask_both own bits xs
+
+long_both : (own bits : List Bool) → length own ≡ length bits → length (both_bits own bits) ≡ length bits
+long_both [] [] same = refl
+long_both [] (b ∷ bits) same = absurd (omega (arith, same))
+long_both (o ∷ own) [] same = refl
+long_both (o ∷ own) (b ∷ bits) same = ap suc (long_both own bits (omega (arith, same)))
+
+pub bits_under : (own : Option (List Bool)) (bits : List Bool) → FitsRows own (length bits) → length (valid_in_both own bits) ≡ length bits
+bits_under None bits fits = refl
+bits_under (Some own) bits fits = long_both own bits fits
+
+-- which rows have an id, by a bit each
+pub bits_of_id : (answered : ℕ → Bool → Type 0) (types : List ℤ) (id : ℤ) (bits : List Bool) → AnswersBits answered (length types) bits → ((row : ℕ) (bit : Bool) → row < length types → answered row bit → bit ≡ int_eq id (get_or types row id)) → bits ≡ have_id id types
+bits_of_id answered types id bits answers each =
+    same_lists _ _ (answers.count ∙ sym (length-map types (int_eq id))) (λ i d within.
+    let inside : i < length types = omega (arith, within, answers.count) in
+    get_or_default bits i d false within ∙ (each i (get_or bits i false) inside (answers.each i inside) ∙ sym (get_or-map (int_eq id) types i id d inside)))
+
+-- a type that is no union has a validity
+pub no_union : {k : Kind} (t : ArrowType) → kind_in (physical_type_of t) ≡ k → (k ≡ union_kind → ⊥) → null_slot t ≡ Null
+no_union t kind other = null_slot-no_union t (λ is. other (sym kind ∙ ap kind_in is))
+
+-- structs, each of whose fields is kept under their validity
+module _ (p : StructParts) (columns : List AnyArray) (held : IsStruct p) (children : map layout_of columns ≡ p.children) (none : null_slot p.arrow_type ≡ Null) (mask : List Bool) (same : length mask ≡ length (struct_rows p)) (kept : List AnyArray) (are : KeptColumns mask p.validity columns kept) where
+  abbrev indices : List Slot
+  indices = true_places mask
+
+  keys : AreKeys (length (struct_rows p)) indices
+  keys = places_named mask (length (struct_rows p)) same
+
+  of_column : (k : ℕ) (d : AnyArray) → k < length columns → taken_rows (map (valid_index p.validity) indices) (get_or columns k d) ≡ kept_rows_under mask p.validity (any_array_rows (get_or columns k d))
+  of_column k d within =
+      let count = column_long p columns held children k d within in
+      kept_under p.validity mask (any_array_rows (get_or columns k d)) (any_array_type (get_or columns k d)) (are.nulls k d within) (omega (arith, same, count, length-struct_rows p held)) (subst (FitsRows p.validity) (sym count) held.fits.1)
+
+  rows_same : map any_array_rows kept ≡ map (taken_rows (map (valid_index p.validity) indices)) columns
+  rows_same =
+      are.rows ∙ map-agree (λ c. taken_rows (map (valid_index p.validity) indices) c ≡ kept_rows_under mask p.validity (any_array_rows c)) (λ c. kept_rows_under mask p.validity (any_array_rows c)) (taken_rows (map (valid_index p.validity) indices)) (λ c is. sym is) columns of_column
+
+  module _ (validity : Option (List Bool)) (is : validity ≡ option_map (at_set mask) p.validity) where
+    marks : MarksTaken p.validity indices validity
+    marks =
+        kept_marks p.validity validity mask is (subst (FitsRows p.validity) (sym (same ∙ length-struct_rows p held)) held.fits.1)
+
+    pub struct_kept : masked validity (struct_items (columns_of (to_layouts (map layout_of kept)))) ≡ select mask (struct_rows p)
+    struct_kept =
+        fields_taken p columns held children none indices keys kept validity rows_same marks ∙ sym (selected_is_gathered (struct_rows p) mask p.arrow_type same)
+
+    pub struct_kept_columns : FitsColumns (map layout_of kept) validity
+    struct_kept_columns = taken_fits p columns held children none indices keys kept validity rows_same marks
+
+  pub struct_kept_fits : length (select mask (struct_rows p)) < 2 ^ 64 → Fits p.arrow_type (select mask (struct_rows p))
+  struct_kept_fits few =
+      let counted : length indices < 2 ^ 64 = omega (arith, few, ap length (selected_is_gathered (struct_rows p) mask p.arrow_type same), length-gather (struct_rows p) indices p.arrow_type) in
+      let each : All (λ c. Fits (any_array_type c) (taken_rows (map (valid_index p.validity) indices) c)) columns = λ k d within. subst (Fits (any_array_type (get_or columns k d))) (sym (of_column k d within)) (are.fits k d within) in
+      subst (Fits p.arrow_type) (sym (selected_is_gathered (struct_rows p) mask p.arrow_type same)) (fields_fit p columns held children none indices keys counted each)
+
+-- sparse unions, each of whose fields is kept where a row is its own
+module _ (p : UnionParts) (held : IsSparse p) (mask : List Bool) (same : length mask ≡ length p.types) where
+  abbrev named : List Slot
+  named = true_places mask
+
+  pub names_rows : AreKeys (length p.types) named
+  names_rows = places_named mask (length p.types) same
+
+  abbrev made : List Slot
+  made = gather (union_rows p) named p.arrow_type
+
+  pub made_is : made ≡ select mask (union_rows p)
+  made_is =
+      sym (selected_is_gathered (union_rows p) mask p.arrow_type (same ∙ sym (long p held named names_rows)))
+
+  pub ids_kept : at_set mask p.types ≡ map (taken_id p) named
+  ids_kept =
+      set_at_places p.types mask (id_at (field_ids p.arrow_type) 0) same ∙ sym (map-map (taken_id p) (λ k. Number (pos k)) (places_from 0 mask))
+
+  pub field_kept : (f : ℕ) → f < length (map rows p.children) → (column array : AnyArray) → any_array_type column ≡ variant_type p.arrow_type f → any_array_rows column ≡ part p held named names_rows f → KeptUnder mask (Some (have_id (id_at (field_ids p.arrow_type) f) p.types)) column array → HasPart p.arrow_type made f array
+  field_kept f within column array type are kept =
+      let own = have_id (id_at (field_ids p.arrow_type) f) p.types in
+      let count : length (any_array_rows column) ≡ length p.types = ap length are ∙ part_long p held named names_rows f within in
+      let by_index = kept_under (Some own) mask (any_array_rows column) (any_array_type column) kept.null (same ∙ sym count) (length-map p.types (int_eq (id_at (field_ids p.arrow_type) f)) ∙ sym count) in
+      record {
+        array_type = kept.array_type ∙ type;
+        rows = kept.rows ∙ (sym by_index ∙ ((λ i. gather (are i) (map (valid_index (Some own)) named) (type i)) ∙ field_taken p held named names_rows f within));
+        fits = kept.fits;
+      }

@@ -1,0 +1,10 @@
+use Rattle.std.proofs.Common.{take}
+use Rattle.std.specs.Prelude.{option_copied}
+use Rattle.arrow_select.specs.Selected.{KeptColumns}
+use Rattle.arrow_select.specs.Selection.{mask_in}
+use Rattle.arrow_select.proofs.filter.structure.kept_columns.Given as goal
+
+-- the columns so far are kept
+abbrev pub invariant-loop-column : goal.invariant-loop-column
+invariant-loop-column l =
+    KeptColumns (mask_in l.selection) (option_copied l.validity) (take l.column-index l.columns) l.all.items

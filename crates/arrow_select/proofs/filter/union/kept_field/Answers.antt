@@ -1,0 +1,82 @@
+use Rattle.std.proofs.Common.{◌≡◌, ◌<◌, ◌∙◌, Some, arith, ap, length, map, of_z, rules, subst, sym, to_z, w8}
+use Rattle.std.specs.Ordering.{int_eq}
+use Rattle.std.specs.Prelude.{IfSome}
+use Rattle.std.proofs.lemmas.Int.{ints, to_z-of_z}
+use Rattle.std.proofs.lemmas.List.{length-map}
+use Rattle.arrow_types.specs.Slot.{id_at}
+use Rattle.arrow_memory.specs.Sliced.{sliced}
+use Rattle.arrow_arrays.specs.Any.{any_array_rows, layout_of}
+use Rattle.arrow_arrays.specs.Layout.{field_ids, rows}
+use Rattle.arrow_arrays.specs.SliceOf.{slice_of}
+use Rattle.arrow_select.specs.Laws.{true_places}
+use Rattle.arrow_select.specs.Selected.{KeptUnder}
+use Rattle.arrow_select.specs.Selection.{mask_in}
+use Rattle.arrow_select.specs.SparseUnions.{HasPart, have_id}
+use Rattle.arrow_select.proofs.KeptFields.{field_kept, made_is, names_rows}
+use Rattle.arrow_select.proofs.TakenVariants.{part_long, q_rows, q_type, spans_rows}
+use Rattle.arrow_select.proofs.filter.union.kept_field.Goals as goal
+
+pub sliced-part-requires : goal.sliced-part-requires
+sliced-part-requires c =
+    let p = c.args.array.now in
+    let mask = mask_in c.args.selection in
+    let sparse = c.requires.sparse in
+    let keys = names_rows p sparse mask c.requires.lengths in
+    let fields = c.fields.result.now in
+    let among : c.args.f < length fields = omega (arith, c.requires.field, length-map fields layout_of, ap length c.fields.ensures.same) in
+    let spans = spans_rows p sparse (true_places mask) keys fields c.fields.ensures.same c.args.f among c.index-fields-f.result c.index-fields-f.is in
+    search rules
+
+pub kept_under-requires-clause-lengths : goal.kept_under-requires-clause-lengths
+kept_under-requires-clause-lengths c =
+    let p = c.args.array.now in
+    let mask = mask_in c.args.selection in
+    let sparse = c.requires.sparse in
+    let keys = names_rows p sparse mask c.requires.lengths in
+    let fields = c.fields.result.now in
+    let among : c.args.f < length fields = omega (arith, c.requires.field, length-map fields layout_of, ap length c.fields.ensures.same) in
+    let part = c.sliced-part.result in
+    let cut : layout_of part ≡ slice_of (layout_of c.index-fields-f.result) p.start (length p.types) = search rules in
+    let cut_rows : any_array_rows part ≡ sliced (any_array_rows c.index-fields-f.result) p.start (length p.types) = search rules in
+    let within : c.args.f < length (map rows p.children) = omega (arith, c.requires.field, length-map p.children rows) in
+    let are = q_rows p sparse (true_places mask) keys fields c.fields.ensures.same c.args.f among c.index-fields-f.result c.index-fields-f.is part cut cut_rows in
+    let count : length (any_array_rows part) ≡ length p.types = ap length are ∙ part_long p sparse (true_places mask) keys c.args.f within in
+    c.requires.lengths ∙ sym count
+
+pub kept_under-requires-clause-fits : goal.kept_under-requires-clause-fits
+kept_under-requires-clause-fits c =
+    let p = c.args.array.now in
+    let mask = mask_in c.args.selection in
+    let sparse = c.requires.sparse in
+    let keys = names_rows p sparse mask c.requires.lengths in
+    let fields = c.fields.result.now in
+    let among : c.args.f < length fields = omega (arith, c.requires.field, length-map fields layout_of, ap length c.fields.ensures.same) in
+    let part = c.sliced-part.result in
+    let cut : layout_of part ≡ slice_of (layout_of c.index-fields-f.result) p.start (length p.types) = search rules in
+    let cut_rows : any_array_rows part ≡ sliced (any_array_rows c.index-fields-f.result) p.start (length p.types) = search rules in
+    let within : c.args.f < length (map rows p.children) = omega (arith, c.requires.field, length-map p.children rows) in
+    let are = q_rows p sparse (true_places mask) keys fields c.fields.ensures.same c.args.f among c.index-fields-f.result c.index-fields-f.is part cut cut_rows in
+    let count : length (any_array_rows part) ≡ length p.types = ap length are ∙ part_long p sparse (true_places mask) keys c.args.f within in
+    let types : c.as_slice.result.now ≡ p.types = search rules in
+    ap length c.in_ok-own.ensures.ok ∙ (length-map c.as_slice.result.now (int_eq _) ∙ (ap length types ∙ sym count))
+
+pub returns-clause-part : goal.returns-clause-part
+returns-clause-part c =
+    let p = c.args.array.now in
+    let mask = mask_in c.args.selection in
+    let sparse = c.requires.sparse in
+    let keys = names_rows p sparse mask c.requires.lengths in
+    let fields = c.fields.result.now in
+    let among : c.args.f < length fields = omega (arith, c.requires.field, length-map fields layout_of, ap length c.fields.ensures.same) in
+    let part = c.sliced-part.result in
+    let cut : layout_of part ≡ slice_of (layout_of c.index-fields-f.result) p.start (length p.types) = search rules in
+    let cut_rows : any_array_rows part ≡ sliced (any_array_rows c.index-fields-f.result) p.start (length p.types) = search rules in
+    let within : c.args.f < length (map rows p.children) = omega (arith, c.requires.field, length-map p.children rows) in
+    let are = q_rows p sparse (true_places mask) keys fields c.fields.ensures.same c.args.f among c.index-fields-f.result c.index-fields-f.is part cut cut_rows in
+    let count : length (any_array_rows part) ≡ length p.types = ap length are ∙ part_long p sparse (true_places mask) keys c.args.f within in
+    let types : c.as_slice.result.now ≡ p.types = search rules in
+    let id : to_z w8 (of_z w8 c.id_of_field-id.result) ≡ id_at (field_ids p.arrow_type) c.args.f = to_z-of_z w8 c.id_of_field-id.result (omega (arith, ints, c.id_of_field-id.type_inv)) ∙ (c.id_of_field-id.ensures ∙ ap (λ u. id_at (field_ids u) c.args.f) c.data_type.ensures.same) in
+    let own : c.in_ok-own.own ≡ have_id (id_at (field_ids p.arrow_type) c.args.f) p.types = c.in_ok-own.ensures.ok ∙ (λ i. have_id (id i) (types i)) in
+    let type = q_type p sparse (true_places mask) keys fields c.fields.ensures.same c.args.f among c.index-fields-f.result c.index-fields-f.is part cut cut_rows in
+    let kept = subst (λ o. IfSome o (KeptUnder mask (Some c.in_ok-own.own) part)) c.in-Some.is c.in_ok-kept.ensures.ok in
+    subst (λ xs. HasPart p.arrow_type xs c.args.f c.in-Some.kept) (made_is p sparse mask c.requires.lengths) (field_kept p sparse mask c.requires.lengths c.args.f within part c.in-Some.kept type are (subst (λ bits. KeptUnder mask (Some bits) part c.in-Some.kept) own kept))

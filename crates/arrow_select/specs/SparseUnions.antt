@@ -1,0 +1,58 @@
+-- Sparse unions: what is known of their parts, the type ids of rows by index, and what each field has of rows ("Sparse Union").
+use Rattle.std.specs.Prelude.{◌≡◌, ℕ, ◌<◌, ℤ, Bool, Option, None, Some, List, length, map, slice_index_or}
+use Rattle.std.specs.List.{All}
+use Rattle.std.specs.Ordering.{int_eq}
+use Rattle.arrow_types.specs.declared.datatypes.UnionMode.TheVariants.{Sparse}
+use Rattle.arrow_types.specs.declared.datatypes.physical_type.PhysicalType.TheVariants as physical
+use Rattle.arrow_types.specs.ArrowType.{ArrowType}
+use Rattle.arrow_types.specs.Fits.{Fits}
+use Rattle.arrow_types.specs.Slot.{Slot, id_at}
+use Rattle.arrow_flat.specs.Faults.{IsCarriedAs}
+use Rattle.arrow_arrays.specs.declared.array.any.AnyArray.{AnyArray}
+use Rattle.arrow_arrays.specs.Any.{any_array_rows, any_array_type}
+use Rattle.arrow_arrays.specs.KeyedParts.{key_in}
+use Rattle.arrow_arrays.specs.Layout.{field_ids, type_of_layout}
+use Rattle.arrow_arrays.specs.TypeParts.{field_types, mode_in}
+use Rattle.arrow_arrays.specs.UnionParts.{IsKnown, SpansRows, UnionParts}
+use Rattle.arrow_growable.specs.Variants.{field_part, variant_type}
+
+-- what is known of the parts of a sparse union
+pub record IsSparse (p : UnionParts) : Type 0 where
+  pub kind : IsCarriedAs physical.Union p.arrow_type
+  pub mode : mode_in p.arrow_type ≡ Sparse
+  pub child_rows : p.child_rows ≡ None
+  pub fields : map type_of_layout p.children ≡ field_types p.arrow_type
+  pub some : 0 < length p.children
+  pub spans : SpansRows p.child_rows p.start (length p.types) p.children
+  pub known : All (IsKnown (field_ids p.arrow_type) (length p.children)) p.types
+
+-- the type id at a place, and another one where there is no place
+abbrev pub id_or : ℤ → List ℤ → Option ℕ → ℤ
+id_or first types None = first
+id_or first types (Some n) = slice_index_or types n first
+
+-- the type id of the row that an index names, and that of the first field where it is null
+abbrev pub taken_id : UnionParts → Slot → ℤ
+taken_id p index = id_or (id_at (field_ids p.arrow_type) 0) p.types (key_in index)
+
+-- of which rows a type id is this one
+abbrev pub have_id : ℤ → List ℤ → List Bool
+have_id id types = map (int_eq id) types
+
+-- an array of what a field has of rows of a union, which fits
+pub record HasPart (t : ArrowType) (xs : List Slot) (f : ℕ) (array : AnyArray) : Type 0 where
+  pub array_type : any_array_type array ≡ variant_type t f
+  pub rows : any_array_rows array ≡ field_part t f xs
+  pub fits : Fits (any_array_type array) (any_array_rows array)
+
+-- of each of the first fields
+abbrev pub HaveParts : ArrowType → List Slot → List AnyArray → Type 0
+HaveParts t xs arrays =
+    (f : ℕ) (d : AnyArray) → f < length arrays → HasPart t xs f (slice_index_or arrays f d)
+
+-- what a field, or some field, has of rows of a union does not fit
+abbrev pub PartDoesNotFit : ArrowType → List Slot → ℕ → Type 0
+PartDoesNotFit t xs f = Fits (variant_type t f) (field_part t f xs) → ⊥
+
+abbrev pub SomePartDoesNotFit : ArrowType → List Slot → Type 0
+SomePartDoesNotFit t xs = (f : ℕ) × (f < length (field_types t)) × PartDoesNotFit t xs f
