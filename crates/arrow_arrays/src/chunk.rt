@@ -41,6 +41,19 @@ impl Model for Chunk {
 }
 
 impl Chunk {
+    /// The columns of a batch, where they are known to be of one length: nothing is tested.
+    ///
+    /// # Requires
+    /// The arrays are all of one length.
+    ///
+    /// Source: arrow2's `Chunk::new`.
+    pub fn new(arrays: Vec<AnyArray>) -> Chunk
+        requires { AreColumns (map layout_of arrays.items) }
+        ensures { result ≡ map layout_of arrays.items }
+    {
+        Chunk { arrays }
+    }
+
     /// The columns of a batch. It takes no memory.
     ///
     /// # Errors
@@ -56,7 +69,7 @@ impl Chunk {
         if !are_columns(&arrays) {
             return Err(Error::InvalidArgumentError(ArgumentFault::Lengths));
         }
-        Ok(Chunk { arrays })
+        Ok(Chunk::new(arrays))
     }
 
     /// The columns.

@@ -1,9 +1,10 @@
-pub mod GrownRowLemmas
 pub mod EmptyNullLemmas
+pub mod EndLemmas
 pub mod FitsLemmas
 pub mod FixedRowsLemmas
 pub mod FlatLemmas
 pub mod GrownKeyLemmas
+pub mod GrownRowLemmas
 pub mod MaskLemmas
 pub mod MovedLemmas
 pub mod NullLemmas

@@ -1,5 +1,6 @@
 pub mod ByteLaws
 pub mod Bytes
+pub mod Ends
 pub mod Examples
 pub mod Flat
 pub mod FlatLaws

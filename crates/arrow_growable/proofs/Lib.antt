@@ -4,6 +4,7 @@ pub mod CountLemmas
 pub mod CrowdLemmas
 pub mod DictionaryLemmas
 pub mod EvenLemmas
+pub mod FieldColumns
 pub mod FieldLemmas
 pub mod FinishLemmas
 pub mod FixedSizeLemmas
@@ -18,7 +19,6 @@ pub mod NestedLemmas
 pub mod SourceLemmas
 pub mod SpreadLemmas
 pub mod StepLemmas
-pub mod UnjoinedLemmas
 pub mod UnionBoundLemmas
 pub mod UnionChildLemmas
 pub mod UnionFinishLemmas
@@ -29,5 +29,6 @@ pub mod UnionOthersLemmas
 pub mod UnionRunLemmas
 pub mod UnionStructLemmas
 pub mod UnionTypeLemmas
+pub mod UnjoinedLemmas
 pub mod VariantColumns
 pub mod VariantLemmas

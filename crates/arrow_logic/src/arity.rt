@@ -429,8 +429,5 @@ fn make<O: NativeType>(
     ensures err { IsOkUnless result Error.OutOfMemory }
 {
     let values = Buffer::from_vec(alloc, values)?;
-    let Ok(made) = PrimitiveArray::try_new(data_type, values, validity) else {
-        unreachable!();
-    };
-    Ok(made)
+    Ok(PrimitiveArray::new(data_type, values, validity))
 }

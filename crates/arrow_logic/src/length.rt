@@ -93,10 +93,7 @@ fn lengths_of<O: Offset>(
     let lengths = stored_lengths(alloc, texts)?;
     let lengths = Buffer::from_vec(alloc, lengths)?;
     let validity = shared(texts.validity())?;
-    let Ok(lengths) = PrimitiveArray::try_new(data_type, lengths, validity) else {
-        unreachable!();
-    };
-    Ok(lengths)
+    Ok(PrimitiveArray::new(data_type, lengths, validity))
 }
 
 // How many bytes each row has, and 0 for each null: by one pass over the offsets, 64 rows at a time.

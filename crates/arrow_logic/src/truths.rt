@@ -16,8 +16,5 @@ pub fn truths(values: Bitmap, validity: Option<Bitmap>) -> BooleanArray
     requires { FitsRows validity (length values) }
     ensures { result ≡ record { arrow_type = plain boolean; values = values; validity = validity } }
 {
-    let Ok(array) = BooleanArray::try_new(DataType::Boolean, values, validity) else {
-        unreachable!();
-    };
-    array
+    BooleanArray::new(DataType::Boolean, values, validity)
 }

@@ -28,13 +28,13 @@ use Rattle.arrow_arrays.proofs.StructLemmas.{length-struct_rows}
 use Rattle.arrow_growable.specs.Variants.{variant_type}
 use Rattle.arrow_select.specs.Laws.{places_from, true_places}
 use Rattle.arrow_select.specs.Selected.{KeptColumns, KeptUnder, at_set, kept_rows_under, valid_in_both}
-use Rattle.arrow_select.specs.SparseUnions.{HasPart, IsSparse, have_id, taken_id}
-use Rattle.arrow_select.specs.Taken.{MarksTaken, is_taken_valid, named_bit, taken_rows, valid_index}
-use Rattle.arrow_select.proofs.FieldColumns.{column_long}
-use Rattle.arrow_select.proofs.IndexLemmas.{Stores, length-gather, map-agree, row_taken}
+use Rattle.arrow_take.specs.SparseUnions.{HasPart, IsSparse, have_id, taken_id}
+use Rattle.arrow_take.specs.Taken.{MarksTaken, is_taken_valid, named_bit, taken_rows, valid_index}
+use Rattle.arrow_growable.proofs.FieldColumns.{column_long}
+use Rattle.arrow_take.proofs.IndexLemmas.{Stores, length-gather, map-agree, row_taken}
 use Rattle.arrow_select.proofs.LawLemmas.{selected_is_gathered}
-use Rattle.arrow_select.proofs.TakenFields.{fields_fit, fields_taken, taken_fits}
-use Rattle.arrow_select.proofs.TakenVariants.{field_taken, long, part, part_long}
+use Rattle.arrow_take.proofs.TakenFields.{fields_fit, fields_taken, taken_fits}
+use Rattle.arrow_take.proofs.TakenVariants.{field_taken, long, part, part_long}
 
 -- the places at which a mask is true are those of rows
 places_below : (i n : ℕ) (mask : List Bool) → i + length mask ≤ n → AreKeys n (map (λ k. Number (pos k)) (places_from i mask))

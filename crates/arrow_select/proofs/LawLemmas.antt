@@ -11,7 +11,7 @@ use Rattle.arrow_memory.specs.Sliced.{sliced}
 use Rattle.arrow_arrays.specs.KeyedParts.{AreKeys, IsKey}
 use Rattle.arrow_arrays.specs.Layout.{Layout, rows}
 use Rattle.arrow_select.specs.Laws.{RowsFit, kept_columns, places_from, true_places}
-use Rattle.arrow_select.proofs.IndexLemmas.{each_index, map-agree}
+use Rattle.arrow_take.proofs.IndexLemmas.{each_index, map-agree}
 
 -- the row behind others
 row_behind : (before xs : List Slot) (x : Slot) → slice_get (before ++ x ∷ xs) (length before) ≡ Some x

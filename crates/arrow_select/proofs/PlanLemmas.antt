@@ -13,7 +13,7 @@ use Rattle.arrow_types.specs.Ranges.{named, true_rows}
 use Rattle.arrow_memory.proofs.RunLemmas.{AreAlike, alike_are}
 use Rattle.arrow_select.specs.Ranges.{IsPlan, IsRangesOf, ended, mask_at}
 use Rattle.arrow_select.specs.Selected.{IsLowestRun}
-use Rattle.arrow_select.proofs.RangeLemmas.{NamesUpTo, all_named, all_shortest, kept_label, names_none, names_past, names_run, on_side, plain_named, plain_shortest}
+use Rattle.arrow_choice.proofs.RangeLemmas.{NamesUpTo, all_named, all_shortest, kept_label, names_none, names_past, names_run, on_side, plain_named, plain_shortest}
 
 -- ---- the mask that ranges hold
 

@@ -15,11 +15,12 @@ use Rattle.arrow_flat_growable.proofs.ValidRowLemmas.{set_run}
 use Rattle.arrow_select.specs.Laws.{places_from}
 use Rattle.arrow_select.specs.Ranges.{IsRangesOf}
 use Rattle.arrow_select.specs.Selected.{at_set}
-use Rattle.arrow_select.specs.Spans.{spanned}
-use Rattle.arrow_select.specs.Taken.{ends_from, row_length}
-use Rattle.arrow_select.proofs.SetBytes.{EndsUpTo, row_in, set_bytes, set_places}
+use Rattle.arrow_take.specs.Spans.{spanned}
+use Rattle.arrow_flat_growable.specs.Ends.{ends_from, row_length}
+use Rattle.arrow_select.proofs.SetBytes.{EndsUpTo, set_bytes, set_places}
+use Rattle.arrow_flat_growable.specs.Ends.{row_in}
 use Rattle.arrow_select.proofs.SetLemmas.{length-at_set}
-use Rattle.arrow_select.proofs.SpanLemmas.{spanned_more}
+use Rattle.arrow_take.proofs.SpanLemmas.{spanned_more}
 
 -- ---- rows by their places
 

@@ -2,7 +2,7 @@
 use Rattle.std.proofs.Common.{arith, ◌≡◌, ◌+◌, ◌-◌, ℕ, zero, suc, pos, ◌<◌, ◌≤◌, ◌^◌, Bool, true, false, Option, Some, None, List, [], ◌∷◌, ◌++◌, length, map, replicate, drop, slice_index, refl, ap, sym, subst, ◌∙◌, append_assoc}
 use Rattle.std.specs.Prelude.{option_map, slice_get, sum}
 use Rattle.std.specs.List.{All, concat, range_with_len}
-use Rattle.std.proofs.lemmas.List.{get_or-drop, get_or-take, get_or_default, length-map, map-append}
+use Rattle.std.proofs.lemmas.List.{length-map, map-append}
 use Rattle.std.proofs.lemmas.List.Elements.{All-cons, All-nil}
 use Rattle.std.proofs.lemmas.List.Sums.{sum-map, sum_by-append, sum_by-cons}
 use Rattle.arrow_types.specs.declared.datatypes.physical_type.PhysicalType.{PhysicalType}
@@ -13,8 +13,7 @@ use Rattle.arrow_types.specs.Physical.{physical_type_of}
 use Rattle.arrow_types.specs.Rows.{masked, select}
 use Rattle.arrow_types.specs.Slot.{Slot}
 use Rattle.arrow_types.proofs.RowsLemmas.{drop_at_read}
-use Rattle.arrow_memory.specs.Offsets.{IsOffsets, counted_on, last_of}
-use Rattle.arrow_memory.specs.Sliced.{sliced}
+use Rattle.arrow_memory.specs.Offsets.{IsOffsets, last_of}
 use Rattle.arrow_memory.proofs.OffsetLemmas.{at_most_last, offsets_rise}
 use Rattle.arrow_memory.proofs.SlicedLemmas.{length-sliced}
 use Rattle.arrow_flat.specs.Parts.{FitsRows}
@@ -23,14 +22,13 @@ use Rattle.arrow_flat.proofs.PieceLemmas.{length-pieces, piece_at}
 use Rattle.arrow_flat_growable.specs.ByteLaws.{fits_rows, slots_fit}
 use Rattle.arrow_flat_growable.specs.Bytes.{IsBytesType}
 use Rattle.arrow_flat_growable.specs.GrownRows.{total, valid_values}
-use Rattle.arrow_flat_growable.proofs.GrownRowLemmas.{part_cut}
 use Rattle.arrow_select.specs.Laws.{places_from}
 use Rattle.arrow_select.specs.Selected.{at_set}
-use Rattle.arrow_select.specs.Taken.{ends_from, row_length}
-use Rattle.arrow_select.proofs.EndLemmas.{ends_append, ends_last, last_ends}
+use Rattle.arrow_flat_growable.specs.Ends.{ends_from, row_in, row_length}
+use Rattle.arrow_flat_growable.proofs.EndLemmas.{ends_append, ends_last, last_ends}
 use Rattle.arrow_select.proofs.FilterLemmas.{set_fits, set_rows}
 use Rattle.arrow_select.proofs.SetLemmas.{at_set-short}
-use Rattle.arrow_select.proofs.TakenBytes.{concat_length, pieces_of_rows}
+use Rattle.arrow_take.proofs.TakenBytes.{concat_length, pieces_of_rows}
 
 -- ---- the rows that are left, a run at a time
 
@@ -81,43 +79,7 @@ module _ (os ends left run rest all : List ℕ) (some : 0 < length ends) (is : l
       let parts = ap sum split ∙ sum_by-append (λ x. x) (map (row_length os) run) (map (row_length os) rest) in
       omega (arith, whole, parts)
 
--- ---- the ends of a run
-
-moved_on : (place begin next : ℕ) (ns : List ℕ) → begin ≤ next → All (λ n. next ≤ n) ns → map (λ n. place + (n - begin)) ns ≡ map (λ n. place + (next - begin) + (n - next)) ns
-moved_on place begin next [] rise above = refl
-moved_on place begin next (n ∷ ns) rise above =
-    let first : place + (n - begin) ≡ place + (next - begin) + (n - next) = omega (arith, rise, above 0 n (omega arith)) in
-    let rest = moved_on place begin next ns rise (λ k d within. above (suc k) d (omega (arith, within))) in
-    λ i. first i ∷ rest i
-
-above_next : (os : List ℕ) (start len : ℕ) → IsOffsets os → start + 1 + len ≤ length os → All (λ n. slice_index os start ≤ n) (sliced os (start + 1) len)
-above_next os start len held part = λ k d within.
-    let long = length-sliced os (start + 1) len (omega (arith, part)) in
-    let inside : k < len = omega (arith, within, long) in
-    let read = get_or-take len (drop (start + 1) os) k d inside ∙ (get_or-drop (start + 1) os k d ∙ get_or_default os (start + 1 + k) d 0 (omega (arith, inside, part))) in
-    subst (λ n. slice_index os start ≤ n) (sym read) (offsets_rise os start (start + 1 + k) held (omega arith) (omega (arith, inside, part)))
-
-pub counted_ends : (os : List ℕ) (start len place : ℕ) → IsOffsets os → start + len < length os → counted_on place os start len ≡ ends_from place (map (row_length os) (range_with_len start len))
-counted_ends os start zero place held part = refl
-counted_ends os start (suc len) place held part =
-    let begin = slice_index os start in
-    let next = slice_index os (start + 1) in
-    let count : suc len ≡ len + 1 = omega arith in
-    let cut : sliced os (start + 1) (suc len) ≡ next ∷ sliced os (start + 1 + 1) len = ap (sliced os (start + 1)) count ∙ part_cut os (start + 1) len (omega (arith, part)) in
-    let rise = offsets_rise os start (start + 1) held (omega arith) (omega (arith, part)) in
-    let moved = moved_on place begin next (sliced os (start + 1 + 1) len) rise (above_next os (start + 1) len held (omega (arith, part))) in
-    ap (map (λ n. place + (n - begin))) cut ∙ ap (λ es. (place + (next - begin)) ∷ es) (moved ∙ counted_ends os (start + 1) len (place + (next - begin)) held (omega (arith, part)))
-
--- as many items as the rows of a run have
-pub counted_sum : (os : List ℕ) (start len : ℕ) → IsOffsets os → start + len < length os → slice_index os (start + len) - slice_index os start ≡ sum (map (row_length os) (range_with_len start len))
-counted_sum os start zero held part =
-    let same : slice_index os (start + 0) ≡ slice_index os start = ap (slice_index os) (omega arith) in
-    omega (arith, same)
-counted_sum os start (suc len) held part =
-    let at : slice_index os (start + 1 + len) ≡ slice_index os (start + suc len) = ap (slice_index os) (omega arith) in
-    let first = offsets_rise os start (start + 1) held (omega arith) (omega (arith, part)) in
-    let others = offsets_rise os (start + 1) (start + 1 + len) held (omega arith) (omega (arith, part)) in
-    omega (arith, at, first, others, counted_sum os (start + 1) len held (omega (arith, part)), sum_by-cons (λ x. x) (row_length os start) (map (row_length os) (range_with_len (start + 1) len)))
+-- ---- how long they are
 
 -- those at which a mask is set have no more than all
 pub set_sum : (os : List ℕ) (mask : List Bool) (i : ℕ) → IsOffsets os → i + length mask < length os → sum (map (row_length os) (places_from i mask)) + slice_index os i ≤ slice_index os (i + length mask)
@@ -142,10 +104,6 @@ set_by_place g xs (b ∷ mask) i reads long =
     let rest = set_by_place g xs mask (i + 1) reads (omega (arith, long)) in
     let by : (b : Bool) → at_set (b ∷ mask) (g i ∷ drop (i + 1) xs) ≡ map g (places_from i (b ∷ mask)) = elim [ true ↦ ap (λ ys. g i ∷ ys) rest | false ↦ rest ] in
     ap (at_set (b ∷ mask)) here ∙ by b
-
--- the bytes of a row
-abbrev pub row_in : {A : Type 0} → List ℕ → List A → ℕ → List A
-row_in os bytes n = sliced bytes (slice_index os n) (row_length os n)
 
 pub set_bytes : (os bytes : List ℕ) (mask : List Bool) (i : ℕ) → valid_values mask os bytes i ≡ concat (map (row_in os bytes) (places_from i mask))
 set_bytes os bytes [] i = refl

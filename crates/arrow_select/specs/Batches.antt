@@ -6,7 +6,7 @@ use Rattle.arrow_types.specs.Rows.{chosen, gather, mask_of, select, shifted}
 use Rattle.arrow_types.specs.Slot.{Slot, Number}
 use Rattle.arrow_flat.specs.Parts.{Parts, boolean_rows}
 use Rattle.arrow_flat.specs.RowByRow.{row_by_row}
-use Rattle.arrow_select.specs.Taken.{AreIndices}
+use Rattle.arrow_take.specs.Taken.{AreIndices}
 
 -- the rows of predicates that are lent
 abbrev pub predicates_in : List (Bor (Parts (List Bool))) → List (List Slot)

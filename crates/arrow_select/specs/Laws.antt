@@ -11,7 +11,7 @@ use Rattle.arrow_arrays.specs.Layout.{Layout}
 use Rattle.arrow_arrays.specs.TypeParts.{field_types}
 use Rattle.arrow_arrays.specs.declared.array.any.AnyArray.{AnyArray}
 use Rattle.arrow_select.specs.Selected.{selected_rows}
-use Rattle.arrow_select.specs.Taken.{CanTake}
+use Rattle.arrow_take.specs.Taken.{CanTake}
 
 -- the places at which a mask is true, of which the first has this number
 abbrev pub places_from : ℕ → List Bool → List ℕ

@@ -1,17 +1,10 @@
-pub mod Answers
 pub mod Arrays
 pub mod Batches
-pub mod Choice
 pub mod Examples
 pub mod Extended
 pub mod Growing
-pub mod Keys
 pub mod Laws
 pub mod Ranges
 pub mod Refusals
-pub mod Runs
 pub mod Selected
 pub mod Selection
-pub mod Spans
-pub mod SparseUnions
-pub mod Taken

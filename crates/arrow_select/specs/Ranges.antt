@@ -1,19 +1,7 @@
--- The side that each row of a predicate names, and masks as ranges hold them.
-use Rattle.std.specs.Prelude.{ℕ, zero, suc, ◌≡◌, ◌+◌, ◌≤◌, ◌==◌, Bool, true, false, List, [], ◌∷◌, count_by, length, if◌then◌else◌}
+-- Masks as ranges hold them.
+use Rattle.std.specs.Prelude.{ℕ, zero, suc, ◌≡◌, ◌+◌, ◌≤◌, ◌==◌, Bool, false, List, [], ◌∷◌, count_by, length, if◌then◌else◌}
 use Rattle.std.specs.List.{All}
 use Rattle.arrow_types.specs.Ranges.{IsShortest, named, true_rows}
-use Rattle.arrow_types.specs.Slot.{Slot, Boolean}
-
--- the side of a row of a predicate: the left array where it is true, the right one where it is false, and else nulls
-abbrev pub side_of : Slot → ℕ
-side_of (Boolean true) = 0
-side_of (Boolean false) = 1
-side_of _ = 2
-
--- each row of a predicate beside its side, where the first is row i
-abbrev pub sides_from : ℕ → List Slot → List (ℕ × ℕ)
-sides_from i [] = []
-sides_from i (p ∷ ps) = (side_of p, i) ∷ sides_from (suc i) ps
 
 -- the mask of n rows from row i on that is true at rows which rise
 abbrev pub mask_at : ℕ → ℕ → List ℕ → List Bool

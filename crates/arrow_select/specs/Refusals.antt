@@ -2,7 +2,7 @@
 use Rattle.std.specs.Prelude.{◌≡◌, ◌⊎◌, ◌<◌, ◌^◌, ◌-◌, ℕ, ℤ, negsuc, unsigned_abs}
 use Rattle.arrow_types.specs.declared.error.Error.{Error}
 use Rattle.arrow_types.specs.declared.error.Error.TheVariants.{InvalidArgumentError}
-use Rattle.arrow_types.specs.declared.error.ArgumentFault.TheVariants.{ConcatenateEmpty, ConcatenateTypes, IfThenElseLengths, IfThenElseTypes, ShiftOffset}
+use Rattle.arrow_types.specs.declared.error.ArgumentFault.TheVariants.{ConcatenateEmpty, ConcatenateTypes, ShiftOffset}
 use Rattle.arrow_memory.specs.Grown.{IsGrowthError}
 
 -- an error that `concatenate` may answer
@@ -15,12 +15,6 @@ IsConcatenateRefusal e = IsGrowthError e
 abbrev pub IsShiftRefusal : Error → Type 0
 IsShiftRefusal (InvalidArgumentError ShiftOffset) = Unit {0}
 IsShiftRefusal e = IsGrowthError e
-
--- an error that `if_then_else` may answer
-abbrev pub IsIfThenElseRefusal : Error → Type 0
-IsIfThenElseRefusal (InvalidArgumentError IfThenElseTypes) = Unit {0}
-IsIfThenElseRefusal (InvalidArgumentError IfThenElseLengths) = Unit {0}
-IsIfThenElseRefusal e = IsGrowthError e
 
 -- an offset that passes so many rows, either way, or is the least of 64 bits
 abbrev pub PassesLength : ℤ → ℕ → Type 0

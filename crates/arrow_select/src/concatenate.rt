@@ -1,6 +1,6 @@
 //! The rows of several arrays, one array behind the other.
 
-ghost use Rattle.std.specs.Prelude.{◌≡◌, ◌↔◌, [], Err, All, IfOk, IfErr, IsTrue, MatchBool};
+ghost use Rattle.std.specs.Prelude.{◌≡◌, ◌↔◌, [], Err, All, IfOk, IfErr, MatchBool};
 ghost use Rattle.arrow_types.specs.declared.error.Error.{Error};
 ghost use Rattle.arrow_types.specs.declared.error.ArgumentFault.{ArgumentFault};
 ghost use Rattle.arrow_types.specs.Fits.{Fits};
@@ -8,11 +8,12 @@ ghost use Rattle.arrow_types.specs.Rows.{joined};
 ghost use Rattle.arrow_arrays.specs.Any.{any_array_type, any_array_rows, layouts_in};
 ghost use Rattle.arrow_growable.specs.Join.{CannotJoin};
 ghost use Rattle.arrow_select.specs.Arrays.{HasOther, HasTwo, rows_in, types_in};
-ghost use Rattle.arrow_select.specs.Keys.{HasNoDictionary};
+ghost use Rattle.arrow_choice.specs.Keys.{HasNoDictionary};
 ghost use Rattle.arrow_select.specs.Refusals.{IsConcatenateRefusal};
 
-use crate::keys::show_all_no_keys;
 use arrow_arrays::array::AnyArray;
+use arrow_choice::keys::show_all_no_keys;
+use arrow_choice::types::is_of_type;
 use arrow_growable::growable::join_arrays;
 use arrow_types::error::{ArgumentFault, Error};
 use std::alloc::Global;
@@ -60,11 +61,4 @@ fn have_one_type(arrays: &[&AnyArray], first: &AnyArray) -> bool
         }
     }
     true
-}
-
-// Whether two arrays are of one data type.
-pub(crate) fn is_of_type(array: &AnyArray, other: &AnyArray) -> bool
-    ensures { IsTrue result ↔ (any_array_type array.now ≡ any_array_type other.now) }
-{
-    *array.data_type() == *other.data_type()
 }

@@ -88,10 +88,7 @@ pub fn filter_chunk(
 {
     let mask = mask_of_predicate(alloc, filter_values)?;
     let kept = filter_columns(alloc, columns.arrays(), &mask)?;
-    let Ok(chunk) = Chunk::try_new(kept) else {
-        unreachable!();
-    };
-    Ok(chunk)
+    Ok(Chunk::new(kept))
 }
 
 // The rows of each column at which the mask is set.

@@ -10,10 +10,10 @@ ghost use Rattle.arrow_flat.specs.Parts.{boolean_rows, rows_by};
 ghost use Rattle.arrow_arrays.specs.Any.{any_array_meaning, any_array_rows, any_array_type};
 ghost use Rattle.arrow_arrays.specs.Layout.{rows, type_of_layout};
 ghost use Rattle.arrow_select.specs.Arrays.{rows_in, types_in};
-ghost use Rattle.arrow_select.specs.Keys.{HasNoDictionary};
+ghost use Rattle.arrow_choice.specs.Keys.{HasNoDictionary};
 ghost use Rattle.arrow_select.specs.Laws.{CanTakeByFields, IsChoice, IsStructOrUnion, RowsFit, chosen_of, dense_nulls, dense_rows, gathered_of, kept_columns, kept_of, selected_of, shifted_of, true_places};
 ghost use Rattle.arrow_select.specs.Selected.{FirstDoesNotFit};
-ghost use Rattle.arrow_select.specs.Taken.{AreIndices};
+ghost use Rattle.arrow_take.specs.Taken.{AreIndices};
 
 pub mod batches;
 

@@ -4,10 +4,8 @@
 
 pub mod concatenate;
 pub mod filter;
-pub mod if_then_else;
-mod keys;
 pub mod laws;
-mod spans;
-pub mod take;
-mod validity;
 pub mod window;
+
+pub use arrow_choice::if_then_else;
+pub use arrow_take::take;

@@ -1,7 +1,6 @@
 //! The program `cases`: answers the lines of standard input on standard output.
 #![tactic(auto)]
 
-mod arrays;
 mod logic;
 mod select;
 
@@ -15,7 +14,7 @@ use std::io::{BufWriter, Read, Write};
 fn answer(alloc: Global, line: &str, out: &mut String) -> Result<bool, Fault> {
     let call = Call::read(alloc, line)?;
     Ok(
-        arrays::answer(alloc, &call, out)?
+        cases_arrays::answer(alloc, &call, out)?
             || select::answer(alloc, &call, out)?
             || logic::answer(alloc, &call, out)?,
     )

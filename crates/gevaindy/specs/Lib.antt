@@ -54,15 +54,17 @@ pub use Rattle.arrow_growable.specs.Dictionary
 pub use Rattle.arrow_growable.specs.GrownUnion
 pub use Rattle.arrow_growable.specs.Join
 pub use Rattle.arrow_growable.specs.Nested
-pub use Rattle.arrow_select.specs.Answers
+pub use Rattle.arrow_take.specs.Answers
 pub use Rattle.arrow_select.specs.Arrays
-pub use Rattle.arrow_select.specs.Choice
+pub use Rattle.arrow_choice.specs.Choice
 pub use Rattle.arrow_select.specs.Extended
-pub use Rattle.arrow_select.specs.Keys
+pub use Rattle.arrow_choice.specs.Keys
+pub use Rattle.arrow_choice.specs.Refusals as ChoiceRefusals
+pub use Rattle.arrow_choice.specs.Sides
 pub use Rattle.arrow_select.specs.Laws
 pub use Rattle.arrow_select.specs.Refusals
 pub use Rattle.arrow_select.specs.Selected
-pub use Rattle.arrow_select.specs.Taken
+pub use Rattle.arrow_take.specs.Taken
 pub use Rattle.arrow_logic.specs.Answers as Closures
 pub use Rattle.arrow_logic.specs.Length
 pub use Rattle.arrow_logic.specs.Nullif

@@ -3,7 +3,7 @@
 
 ghost use Rattle.std.specs.Prelude.{◌≡◌, IfOk, IsTrue, length};
 ghost use Rattle.arrow_arrays.specs.Any.{any_array_meaning, any_array_rows, any_array_type};
-ghost use Rattle.arrow_select.specs.Keys.{HasNoDictionary};
+ghost use Rattle.arrow_choice.specs.Keys.{HasNoDictionary};
 ghost use Rattle.arrow_select.specs.Laws.{IsStructOrUnion, selected_of};
 ghost use Rattle.arrow_types.specs.TypeOf.{type_of};
 

@@ -81,6 +81,32 @@ impl Model for FixedSizeListArray {
 }
 
 impl FixedSizeListArray {
+    /// The array that [`FixedSizeListArray::try_new`] makes of parts that are known to be sound: nothing is tested.
+    ///
+    /// # Requires
+    /// The data type is carried and that of a fixed-size list, the values have the type of its items and are rows without
+    /// rest, and a validity is as long as the rows.
+    pub fn new(
+        data_type: DataType,
+        values: Box<AnyArray>,
+        validity: Option<Bitmap>,
+    ) -> FixedSizeListArray
+        requires { HoldsFixedList (type_of data_type) (layout_of values.value) validity }
+        ensures { result ≡ record {
+          arrow_type = type_of data_type;
+          validity = validity;
+          size = list_size (type_of data_type);
+          child = layout_of values.value;
+        } }
+    {
+        FixedSizeListArray {
+            size: types::list_size(&data_type),
+            data_type,
+            values,
+            validity,
+        }
+    }
+
     /// An array of lists of a fixed size, that of the data type: row `i` is the items of `values` from
     /// `i * size` to `(i + 1) * size`, null where the validity has a bit that is not set. It takes no
     /// memory.
@@ -112,13 +138,7 @@ impl FixedSizeListArray {
             (IsFixedListFault (type_of data_type) (layout_of values.value) validity) }
     {
         check_fixed(&data_type, &values, &validity)?;
-        let size = types::list_size(&data_type);
-        Ok(FixedSizeListArray {
-            size,
-            data_type,
-            values,
-            validity,
-        })
+        Ok(FixedSizeListArray::new(data_type, values, validity))
     }
 
     /// The data type.

@@ -168,6 +168,36 @@ impl Model for ListArray {
 }
 
 impl ListArray {
+    /// The array that [`ListArray::try_new`] makes of parts that are known to be sound: nothing is tested.
+    ///
+    /// # Requires
+    /// The data type is carried and that of a list with offsets of this width, the values have the type of its items,
+    /// the last offset is at most their length, and a validity is as long as the rows.
+    pub fn new(
+        data_type: DataType,
+        offsets: AnyOffsetsBuffer,
+        values: Box<AnyArray>,
+        validity: Option<Bitmap>,
+    ) -> ListArray
+        requires { HoldsList (lists_of offsets) (type_of data_type) (length (offsets_of offsets) - 1)
+            (last_of (offsets_of offsets)) (layout_of values.value) validity }
+        ensures { result ≡ record {
+          arrow_type = type_of data_type;
+          validity = validity;
+          offsets = offsets_of offsets;
+          child = layout_of values.value;
+        } }
+    {
+        // That the offsets never fall is theirs to say.
+        let _ = offsets.len();
+        ListArray {
+            data_type,
+            offsets,
+            values,
+            validity,
+        }
+    }
+
     /// An array of lists: row `i` is the items of `values` from offset `i` to offset `i + 1`, null where
     /// the validity has a bit that is not set. It takes no memory.
     ///
@@ -214,12 +244,7 @@ impl ListArray {
             &values,
             &validity,
         )?;
-        Ok(ListArray {
-            data_type,
-            offsets,
-            values,
-            validity,
-        })
+        Ok(ListArray::new(data_type, offsets, values, validity))
     }
 
     /// The data type.

@@ -14,7 +14,7 @@ ghost use Rattle.arrow_memory.specs.Sliced.{sliced};
 ghost use Rattle.arrow_flat.specs.Parts.{FitsRows, MarksNulls, meaning_code};
 ghost use Rattle.arrow_arrays.specs.Any.{layout_of, kind_in, map_kind};
 ghost use Rattle.arrow_arrays.specs.Layout.{rows, type_of_layout};
-ghost use Rattle.arrow_arrays.specs.ListParts.{IsList, IsListFault, list_rows, list_meaning, list_slice, list_with_bits};
+ghost use Rattle.arrow_arrays.specs.ListParts.{HoldsList, IsList, IsListFault, list_rows, list_meaning, list_slice, list_with_bits};
 ghost use Rattle.arrow_arrays.specs.Spans.{span_row};
 ghost use Rattle.arrow_arrays.specs.TypeParts.{item_type};
 
@@ -87,6 +87,36 @@ impl Model for MapArray {
 }
 
 impl MapArray {
+    /// The array that [`MapArray::try_new`] makes of parts that are known to be sound: nothing is tested.
+    ///
+    /// # Requires
+    /// The data type is carried and that of a map, the field has the type of its entries, the last offset is at most
+    /// their count, and a validity is as long as the rows.
+    pub fn new(
+        data_type: DataType,
+        offsets: OffsetsBuffer<i32>,
+        field: Box<AnyArray>,
+        validity: Option<Bitmap>,
+    ) -> MapArray
+        requires { HoldsList physical.Map (type_of data_type) (length offsets - 1) (last_of offsets)
+            (layout_of field.value) validity }
+        ensures { result ≡ record {
+          arrow_type = type_of data_type;
+          validity = validity;
+          offsets = offsets;
+          child = layout_of field.value;
+        } }
+    {
+        // That the offsets never fall is theirs to say.
+        let _ = offsets.len();
+        MapArray {
+            data_type,
+            offsets,
+            field,
+            validity,
+        }
+    }
+
     /// An array of maps: row `i` is the entries of `field` from offset `i` to offset `i + 1`, null where
     /// the validity has a bit that is not set. It takes no memory.
     ///
@@ -132,12 +162,7 @@ impl MapArray {
             &field,
             &validity,
         )?;
-        Ok(MapArray {
-            data_type,
-            offsets,
-            field,
-            validity,
-        })
+        Ok(MapArray::new(data_type, offsets, field, validity))
     }
 
     /// The data type.

@@ -80,6 +80,26 @@ impl Model for StructArray {
 }
 
 impl StructArray {
+    /// The array that [`StructArray::try_new`] makes of parts that are known to be sound: nothing is tested.
+    ///
+    /// # Requires
+    /// The data type is carried and that of a struct, there is an array for each field, of its type, and these and a
+    /// validity are of one length.
+    pub fn new(data_type: DataType, values: Vec<AnyArray>, validity: Option<Bitmap>) -> StructArray
+        requires { HoldsStruct (type_of data_type) (map layout_of values.items) validity }
+        ensures { result ≡ record {
+          arrow_type = type_of data_type;
+          validity = validity;
+          children = map layout_of values.items;
+        } }
+    {
+        StructArray {
+            data_type,
+            values,
+            validity,
+        }
+    }
+
     /// An array of structs: row `i` is row `i` of each of `values`, null where the validity has a bit
     /// that is not set. It takes no memory.
     ///
@@ -108,11 +128,7 @@ impl StructArray {
             (IsStructFault (type_of data_type) (map layout_of values.items) validity) }
     {
         check_struct(&data_type, &values, &validity)?;
-        Ok(StructArray {
-            data_type,
-            values,
-            validity,
-        })
+        Ok(StructArray::new(data_type, values, validity))
     }
 
     /// The data type.

@@ -93,6 +93,38 @@ impl Model for UnionArray {
 }
 
 impl UnionArray {
+    /// The array that [`UnionArray::try_new`] makes of parts that are known to be sound: nothing is tested.
+    ///
+    /// # Requires
+    /// The data type is carried and that of a union, there is an array for each field, of its type, each type id is one of
+    /// a field, a dense union has an offset for each row, a row of that field, and the fields of a sparse one are as long
+    /// as the types.
+    pub fn new(
+        data_type: DataType,
+        types: Buffer<i8>,
+        fields: Vec<AnyArray>,
+        offsets: Option<Buffer<i32>>,
+    ) -> UnionArray
+        requires { HoldsUnion (type_of data_type) types (map layout_of fields.items) offsets }
+        ensures { result ≡ record {
+          arrow_type = type_of data_type;
+          types = types;
+          child_rows = child_rows_of offsets;
+          start = 0;
+          children = map layout_of fields.items;
+        } }
+    {
+        // There are at most as many rows as a `usize` counts.
+        let _ = types.len();
+        UnionArray {
+            data_type,
+            types,
+            fields,
+            offsets,
+            start: 0,
+        }
+    }
+
     /// An array of unions: row `i` is a row of the field whose type id is `types[i]`, the row of the same number
     /// in a sparse union, and where `offsets[i]` says in a dense one. It takes no memory. The offsets of
     /// a field need not rise, and rows may share a row of a field.
@@ -131,13 +163,7 @@ impl UnionArray {
         // There are at most as many rows as a `usize` counts.
         let _ = types.len();
         check_union(&data_type, &types, &fields, &offsets)?;
-        Ok(UnionArray {
-            data_type,
-            types,
-            fields,
-            offsets,
-            start: 0,
-        })
+        Ok(UnionArray::new(data_type, types, fields, offsets))
     }
 
     /// The data type.

@@ -15,7 +15,7 @@ use arrow_arrays::array::AnyKeys;
 use arrow_flat::array::BooleanArray;
 use arrow_logic::truths::truths;
 use arrow_memory::bitmap::Bitmap;
-use arrow_select::take::boolean::take;
+use arrow_take::take::boolean::take;
 use arrow_types::error::Error;
 use std::alloc::Global;
 

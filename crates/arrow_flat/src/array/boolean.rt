@@ -49,6 +49,22 @@ impl Values for Bitmap {
 }
 
 impl FlatArray<Bitmap> {
+    /// The array that [`FlatArray::try_new`] makes of parts that are known to be sound: nothing is tested.
+    ///
+    /// # Requires
+    /// The data type is carried and has the physical type of booleans, and a validity is as long as the values.
+    pub fn new(data_type: DataType, values: Bitmap, validity: Option<Bitmap>) -> FlatArray<Bitmap>
+        requires kind { IsCarriedAs physical.Boolean (type_of data_type) }
+        requires length { FitsRows validity (length values) }
+        ensures { result ≡ record { arrow_type = type_of data_type; values = values; validity = validity } }
+    {
+        FlatArray {
+            data_type,
+            values,
+            validity,
+        }
+    }
+
     /// An array of these values, null where the validity has a bit that is not set. It takes no memory.
     ///
     /// # Errors
@@ -73,11 +89,7 @@ impl FlatArray<Bitmap> {
         if !validity::fits_rows(&validity, values.len()) {
             return Err(Error::OutOfSpec(SpecPart::Length));
         }
-        Ok(FlatArray {
-            data_type,
-            values,
-            validity,
-        })
+        Ok(FlatArray::<Bitmap>::new(data_type, values, validity))
     }
 
     /// The values, one a row, null rows too.

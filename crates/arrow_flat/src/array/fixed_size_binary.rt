@@ -133,6 +133,41 @@ fn fixed_size(data_type: &DataType) -> usize
 }
 
 impl FlatArray<FixedRows> {
+    /// The array that [`FlatArray::try_new`] makes of parts that are known to be sound: nothing is tested.
+    ///
+    /// # Requires
+    /// The data type is carried and has the physical type of bytes of a fixed size, the values are a multiple of that
+    /// size, and a validity is as long as the rows.
+    pub fn new(
+        data_type: DataType,
+        values: Buffer<u8>,
+        validity: Option<Bitmap>,
+    ) -> FixedSizeBinaryArray
+        requires kind { IsCarriedAs physical.FixedSizeBinary (type_of data_type) }
+        requires bytes { FitsBytes (fixed_size_in (type_of data_type)) (length values) validity }
+        ensures { result ≡ record {
+          arrow_type = type_of data_type;
+          values = record {
+            size = fixed_size_in (type_of data_type);
+            count = length values / fixed_size_in (type_of data_type);
+            bytes = values;
+          };
+          validity = validity;
+        } }
+    {
+        let size = fixed_size(&data_type);
+        let count = values.len() / size;
+        FlatArray {
+            data_type,
+            values: FixedRows {
+                size,
+                count,
+                bytes: values,
+            },
+            validity,
+        }
+    }
+
     /// An array of the rows that the values are, each as long as the data type says, null where the
     /// validity has a bit that is not set. It takes no memory.
     ///
@@ -167,19 +202,10 @@ impl FlatArray<FixedRows> {
         }
         let size = fixed_size(&data_type);
         let len = values.len();
-        let count = len / size;
-        if len % size != 0 || !validity::fits_rows(&validity, count) {
+        if len % size != 0 || !validity::fits_rows(&validity, len / size) {
             return Err(Error::OutOfSpec(SpecPart::Length));
         }
-        Ok(FlatArray {
-            data_type,
-            values: FixedRows {
-                size,
-                count,
-                bytes: values,
-            },
-            validity,
-        })
+        Ok(FlatArray::<FixedRows>::new(data_type, values, validity))
     }
 
     /// The bytes of all rows, null rows too.

@@ -51,6 +51,17 @@ impl Model for NullArray {
 }
 
 impl NullArray {
+    /// The array that [`NullArray::try_new`] makes of a data type that is known to be the null type.
+    ///
+    /// # Requires
+    /// The data type is carried and has the physical type null.
+    pub fn new(data_type: DataType, length: usize) -> NullArray
+        requires { IsCarriedAs physical.Null (type_of data_type) }
+        ensures { result ≡ record { arrow_type = type_of data_type; count = length } }
+    {
+        NullArray { data_type, length }
+    }
+
     /// An array of so many null rows. It takes no memory.
     ///
     /// # Errors
@@ -65,7 +76,7 @@ impl NullArray {
         if !is_carried_as(&data_type, PhysicalType::Null) {
             return Err(Error::OutOfSpec(SpecPart::Kind));
         }
-        Ok(NullArray { data_type, length })
+        Ok(NullArray::new(data_type, length))
     }
 
     /// The data type.

@@ -51,6 +51,27 @@ impl<T: NativeType> Values for Buffer<T> {
 }
 
 impl<T: NativeType> FlatArray<Buffer<T>> {
+    /// The array that [`FlatArray::try_new`] makes of parts that are known to be sound: nothing is tested.
+    ///
+    /// # Requires
+    /// The data type is carried and has the physical type of such numbers or intervals, and a validity is as long as
+    /// the values.
+    pub fn new(
+        data_type: DataType,
+        values: Buffer<T>,
+        validity: Option<Bitmap>,
+    ) -> FlatArray<Buffer<T>>
+        requires kind { IsCarriedAs (physical.Primitive T.PRIMITIVE) (type_of data_type) }
+        requires length { FitsRows validity (length values) }
+        ensures { result ≡ record { arrow_type = type_of data_type; values = values; validity = validity } }
+    {
+        FlatArray {
+            data_type,
+            values,
+            validity,
+        }
+    }
+
     /// An array of these values, null where the validity has a bit that is not set. It takes no memory.
     ///
     /// # Errors
@@ -76,11 +97,7 @@ impl<T: NativeType> FlatArray<Buffer<T>> {
         if !validity::fits_rows(&validity, values.len()) {
             return Err(Error::OutOfSpec(SpecPart::Length));
         }
-        Ok(FlatArray {
-            data_type,
-            values,
-            validity,
-        })
+        Ok(FlatArray::<Buffer<T>>::new(data_type, values, validity))
     }
 
     /// The values, one a row, null rows too.

@@ -1,7 +1,8 @@
 //! What arrays do with their validity: a bit for each row, set where the row is valid. Without it no
 //! row is null ("Validity bitmaps").
 
-ghost use Rattle.std.specs.Prelude.{◌≡◌, ◌+◌, ◌≤◌, ◌<◌, ◌↔◌, length, replicate, true, IsTrue, IfSome, option_map, List, not, slice_index_or, option_copied};
+ghost use Rattle.std.specs.Prelude.{◌≡◌, ◌+◌, ◌*◌, ◌≤◌, ◌<◌, ◌↔◌, ◌==◌, ℕ, length, replicate, true, IsTrue, IfSome, option_map, List, not, slice_index_or, option_copied};
+ghost use Rattle.std.specs.Int.{bit_at};
 ghost use Rattle.arrow_types.specs.Relation.{is_null};
 ghost use Rattle.arrow_types.specs.Rows.{valid_at};
 ghost use Rattle.arrow_types.specs.Slot.{Slot, Null};
@@ -46,6 +47,18 @@ pub fn row_is_valid(validity: Option<&Bitmap>, i: usize) -> bool
     match validity {
         None => true,
         Some(bits) => bits.get_bit(i),
+    }
+}
+
+/// Which of the 64 rows from row `64 * j` on are valid, a bit each: all where there is no validity. Bits past its end may
+/// be either.
+pub fn valid_word(validity: Option<&Bitmap>, j: usize) -> u64
+    ensures { (k : ℕ) → k < 64 → IfSome (option_copied validity.entry) (λ bits. 64 * j + k < length bits)
+        → (bit_at result k == 1) ≡ valid_at (option_copied validity.entry) (64 * j + k) }
+{
+    match validity {
+        Some(bits) => bits.word(j),
+        None => u64::MAX,
     }
 }
 

@@ -101,10 +101,7 @@ impl GrowableValues for GrowableBits {
         validity: Option<Bitmap>,
     ) -> Result<BooleanArray, Error> {
         let values = self.bits.into_bitmap()?;
-        let Ok(array) = BooleanArray::try_new(data_type, values, validity) else {
-            unreachable!();
-        };
-        Ok(array)
+        Ok(BooleanArray::new(data_type, values, validity))
     }
 
     fn of_any(array: &AnyArray) -> &BooleanArray {

@@ -150,10 +150,7 @@ impl GrowableValues for GrowableFixedRows {
     ) -> Result<FixedSizeBinaryArray, Error> {
         let alloc = *self.bytes.allocator();
         let bytes = Buffer::from_vec(alloc, self.bytes)?;
-        let Ok(array) = FixedSizeBinaryArray::try_new(data_type, bytes, validity) else {
-            unreachable!();
-        };
-        Ok(array)
+        Ok(FixedSizeBinaryArray::new(data_type, bytes, validity))
     }
 
     fn of_any(array: &AnyArray) -> &FixedSizeBinaryArray {

@@ -371,8 +371,5 @@ fn into_array<K: DictionaryKey>(
     ensures err { IsOkUnless result Error.OutOfMemory }
 {
     let keys = Buffer::from_vec(alloc, keys)?;
-    let Ok(array) = PrimitiveArray::try_new(data_type, keys, validity) else {
-        unreachable!();
-    };
-    Ok(array)
+    Ok(PrimitiveArray::new(data_type, keys, validity))
 }

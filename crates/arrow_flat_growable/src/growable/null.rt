@@ -107,7 +107,7 @@ impl GrowableNull {
             len,
             has_failed: _,
         } = self;
-        Ok(null_array(data_type, len))
+        Ok(NullArray::new(data_type, len))
     }
 
     /// Appends so many nulls.
@@ -132,17 +132,6 @@ impl GrowableNull {
         self.len = total;
         Ok(())
     }
-}
-
-// An array of so many nulls.
-fn null_array(data_type: DataType, len: usize) -> NullArray
-    requires { IsCarriedAs physical.Null (type_of data_type) }
-    ensures { result ≡ record { arrow_type = type_of data_type; count = len } }
-{
-    let Ok(array) = NullArray::try_new(data_type, len) else {
-        unreachable!();
-    };
-    array
 }
 
 /// No rows of the null type itself, and no allocator.
@@ -204,7 +193,7 @@ impl<'a> Growable<'a> for GrowableNull {
         }
         self.has_failed = true;
         let data_type = self.data_type.clone()?;
-        let array = null_array(data_type, self.len);
+        let array = NullArray::new(data_type, self.len);
         self.len = 0;
         self.has_failed = false;
         Ok(AnyArray::Null(array))

@@ -108,10 +108,7 @@ impl<T: AnyElement> GrowableValues for Vec<T> {
     ) -> Result<PrimitiveArray<T>, Error> {
         let alloc = *self.allocator();
         let values = Buffer::from_vec(alloc, self)?;
-        let Ok(array) = PrimitiveArray::try_new(data_type, values, validity) else {
-            unreachable!();
-        };
-        Ok(array)
+        Ok(PrimitiveArray::new(data_type, values, validity))
     }
 
     fn of_any(array: &AnyArray) -> &PrimitiveArray<T> {

@@ -97,10 +97,7 @@ fn list_array(
     ensures rows { any_array_rows result
         ≡ masked validity (list_items (offsets_of offsets) (any_array_rows values.value)) }
 {
-    let Ok(array) = ListArray::try_new(data_type, offsets, values, validity) else {
-        unreachable!();
-    };
-    AnyArray::List(array)
+    AnyArray::List(ListArray::new(data_type, offsets, values, validity))
 }
 
 // An array of maps.
@@ -118,10 +115,7 @@ fn map_array(
     ensures rows { any_array_rows result
         ≡ masked validity (list_items offsets (any_array_rows values.value)) }
 {
-    let Ok(array) = MapArray::try_new(data_type, offsets, values, validity) else {
-        unreachable!();
-    };
-    AnyArray::Map(array)
+    AnyArray::Map(MapArray::new(data_type, offsets, values, validity))
 }
 
 // An array of lists of a fixed size.
@@ -138,10 +132,9 @@ fn fixed_size_list_array(
     ensures rows { any_array_rows result
         ≡ masked validity (fixed_items (list_size (type_of data_type)) (any_array_rows values.value)) }
 {
-    let Ok(array) = FixedSizeListArray::try_new(data_type, values, validity) else {
-        unreachable!();
-    };
-    AnyArray::FixedSizeList(array)
+    // There are at most as many items as a `usize` counts.
+    let _ = values.len();
+    AnyArray::FixedSizeList(FixedSizeListArray::new(data_type, values, validity))
 }
 
 // An array of structs.
@@ -152,10 +145,7 @@ fn struct_array(data_type: DataType, values: Vec<AnyArray>, validity: Option<Bit
     ensures same_type { any_array_type result ≡ type_of data_type }
     ensures rows { any_array_rows result ≡ masked validity (struct_items (map any_array_rows values.items)) }
 {
-    let Ok(array) = StructArray::try_new(data_type, values, validity) else {
-        unreachable!();
-    };
-    AnyArray::Struct(array)
+    AnyArray::Struct(StructArray::new(data_type, values, validity))
 }
 
 // An array of unions of a data type, dense where there are offsets.
@@ -181,10 +171,7 @@ pub(crate) fn union_array(
     let types = Buffer::from_vec(alloc, types)?;
     let offsets = offset_buffer(alloc, offsets)?;
     let data_type = data_type.clone()?;
-    let Ok(array) = UnionArray::try_new(data_type, types, values, offsets) else {
-        unreachable!();
-    };
-    Ok(array)
+    Ok(UnionArray::new(data_type, types, values, offsets))
 }
 
 // The offsets, if there are any, as a buffer.

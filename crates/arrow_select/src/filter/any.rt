@@ -11,7 +11,7 @@ ghost use Rattle.arrow_growable.specs.AnyGrowable.{grown_of};
 ghost use Rattle.arrow_growable.specs.Growing.{HasAppended};
 ghost use Rattle.arrow_memory.specs.Grown.{IsGrowthError};
 ghost use Rattle.arrow_arrays.specs.UnionParts.{union_rows};
-ghost use Rattle.arrow_select.specs.Answers.{Gives};
+ghost use Rattle.arrow_take.specs.Answers.{Gives};
 ghost use Rattle.arrow_select.specs.Selection.{mask_in};
 
 use crate::filter::boolean::filter_boolean;

@@ -34,8 +34,5 @@ pub(super) fn filter_boolean(
     }
     let validity = kept_validity(alloc, array.validity(), selection, count)?;
     let kept = kept_bits(alloc, array.values(), selection, count)?;
-    let Ok(kept) = BooleanArray::try_new(data_type.clone()?, kept, validity) else {
-        unreachable!();
-    };
-    Ok(kept)
+    Ok(BooleanArray::new(data_type.clone()?, kept, validity))
 }

@@ -73,8 +73,5 @@ pub(super) fn filter_values<T: NativeType>(
     let values = array.values().as_slice();
     let (kept, validity) = kept_rows(alloc, values, array.validity(), selection, count)?;
     let kept = Buffer::from_vec(alloc, kept)?;
-    let Ok(kept) = PrimitiveArray::try_new(data_type.clone()?, kept, validity) else {
-        unreachable!();
-    };
-    Ok(kept)
+    Ok(PrimitiveArray::new(data_type.clone()?, kept, validity))
 }

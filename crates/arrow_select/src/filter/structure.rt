@@ -7,7 +7,7 @@ ghost use Rattle.arrow_types.specs.Rows.{select};
 ghost use Rattle.arrow_flat.specs.Parts.{FitsRows};
 ghost use Rattle.arrow_arrays.specs.Any.{any_array_rows};
 ghost use Rattle.arrow_arrays.specs.StructParts.{struct_rows};
-ghost use Rattle.arrow_select.specs.Answers.{Gives};
+ghost use Rattle.arrow_take.specs.Answers.{Gives};
 ghost use Rattle.arrow_select.specs.Selected.{KeptColumns};
 ghost use Rattle.arrow_select.specs.Selection.{mask_in};
 
@@ -41,10 +41,7 @@ pub(super) fn filter_struct(
         return Ok(None);
     };
     let validity = kept_validity(alloc, array.validity(), selection, count)?;
-    let Ok(kept) = StructArray::try_new(data_type.clone()?, fields, validity) else {
-        unreachable!();
-    };
-    Ok(Some(kept))
+    Ok(Some(StructArray::new(data_type.clone()?, fields, validity)))
 }
 
 // The rows of each column that are kept, null where a bit of the validity is not set: none where a column has children.

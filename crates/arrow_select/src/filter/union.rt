@@ -8,16 +8,16 @@ ghost use Rattle.arrow_types.specs.Slot.{id_at};
 ghost use Rattle.arrow_arrays.specs.Layout.{field_ids};
 ghost use Rattle.arrow_arrays.specs.TypeParts.{field_types};
 ghost use Rattle.arrow_arrays.specs.UnionParts.{union_rows};
-ghost use Rattle.arrow_select.specs.Answers.{Gives};
+ghost use Rattle.arrow_take.specs.Answers.{Gives};
 ghost use Rattle.arrow_select.specs.Selection.{mask_in};
-ghost use Rattle.arrow_select.specs.SparseUnions.{HasPart, HaveParts, IsSparse, have_id};
+ghost use Rattle.arrow_take.specs.SparseUnions.{HasPart, HaveParts, IsSparse, have_id};
 
 use crate::filter::columns::{are_flat, kept_under};
 use crate::filter::selection::{Selection, kept_rows};
-use crate::take::union::id_of_field;
 use arrow_arrays::array::{AnyArray, UnionArray};
 use arrow_memory::bitmap::Bitmap;
 use arrow_memory::buffer::Buffer;
+use arrow_take::take::union::id_of_field;
 use arrow_types::error::Error;
 use std::alloc::Global;
 
@@ -45,10 +45,7 @@ pub(super) fn filter_sparse(
     let (types, _) = kept_rows(alloc, types, None, selection, count)?;
     let types = Buffer::from_vec(alloc, types)?;
     let data_type = array.data_type().clone()?;
-    let Ok(kept) = UnionArray::try_new(data_type, types, fields, None) else {
-        unreachable!();
-    };
-    Ok(Some(kept))
+    Ok(Some(UnionArray::new(data_type, types, fields, None)))
 }
 
 // What each field has of the rows that are kept: none where a field has children.

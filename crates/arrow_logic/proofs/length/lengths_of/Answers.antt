@@ -5,15 +5,14 @@ use Rattle.arrow_types.specs.Rows.{masked}
 use Rattle.arrow_types.specs.Slot.{Number, Text}
 use Rattle.arrow_flat.specs.ByteRows.{row_bytes}
 use Rattle.arrow_flat.specs.Parts.{FitsRows, rows_by}
-use Rattle.arrow_arrays.proofs.NullLemmas.{no_flat_fault}
 use Rattle.arrow_logic.specs.Kept.{kept}
 use Rattle.arrow_logic.specs.Length.{stored_length}
 use Rattle.arrow_logic.proofs.KeptLemmas.{length-kept, rows-kept, stored-kept}
 use Rattle.arrow_logic.proofs.LengthLemmas.{slots_of_numbers}
 use Rattle.arrow_logic.proofs.length.lengths_of.Goals as goal
 
-pub unreachable-requires : goal.unreachable-requires
-unreachable-requires g c =
+pub new-requires-clause-length : goal.new-requires-clause-length
+new-requires-clause-length g c =
     let number = g.O.NativeOrd.number in
     let v = c.args.texts.now.validity in
     let rows = row_bytes c.args.texts.now.values in
@@ -22,7 +21,7 @@ unreachable-requires g c =
     let shared = c.in_ok-validity.ensures.ok ∙ c.validity.ensures.same in
     let fits = subst (FitsRows v) (length-map rows Text) c.validity.ensures.fits in
     let many : length c.in_ok-lengths-2.lengths ≡ length rows = omega (arith, ap length numbers, length-map c.in_ok-lengths-2.lengths number, length-map all pos, length-kept 0 length v rows fits) in
-    no_flat_fault _ _ _ _ _ c.requires (subst (λ w. FitsRows w (length c.in_ok-lengths-2.lengths)) (sym shared) (subst (FitsRows v) (sym many) fits)) tt tt c.in_default.ensures.fault
+    subst (λ w. FitsRows w (length c.in_ok-lengths-2.lengths)) (sym shared) (subst (FitsRows v) (sym many) fits)
 
 pub returns-clause-rows : goal.returns-clause-rows
 returns-clause-rows g c =
@@ -33,7 +32,7 @@ returns-clause-rows g c =
     let numbers = ap (map number) c.in_ok-lengths-2.ensures.ok ∙ c.in_ok-lengths.ensures.ok in
     let shared = c.in_ok-validity.ensures.ok ∙ c.validity.ensures.same in
     let stored = slots_of_numbers slot number g.met.O.NativeOrd.slot_is_number c.in_ok-lengths-2.lengths (kept 0 length v rows) numbers in
-    ap (rows_by (map slot)) c.in-Ok.ensures.ok ∙ ((λ t. masked (shared t) (stored t)) ∙ rows-kept 0 length (λ n. Number (pos n)) Text bytes_of (λ bytes. refl) refl v rows)
+    ap (rows_by (map slot)) c.new.ensures ∙ ((λ t. masked (shared t) (stored t)) ∙ rows-kept 0 length (λ n. Number (pos n)) Text bytes_of (λ bytes. refl) refl v rows)
 
 pub returns-clause-stored : goal.returns-clause-stored
 returns-clause-stored g c =
@@ -43,4 +42,4 @@ returns-clause-stored g c =
     let rows = row_bytes c.args.texts.now.values in
     let numbers = ap (map number) c.in_ok-lengths-2.ensures.ok ∙ c.in_ok-lengths.ensures.ok in
     let stored = slots_of_numbers slot number g.met.O.NativeOrd.slot_is_number c.in_ok-lengths-2.lengths (kept 0 length v rows) numbers in
-    ap (λ p. map slot p.values) c.in-Ok.ensures.ok ∙ (stored ∙ stored-kept 0 length (λ n. Number (pos n)) Text stored_length (λ bytes. refl) refl v rows)
+    ap (λ p. map slot p.values) c.new.ensures ∙ (stored ∙ stored-kept 0 length (λ n. Number (pos n)) Text stored_length (λ bytes. refl) refl v rows)

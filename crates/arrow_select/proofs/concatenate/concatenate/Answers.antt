@@ -8,10 +8,10 @@ use Rattle.arrow_arrays.specs.Layout.{rows}
 use Rattle.arrow_flat_growable.specs.Grown.{first_type}
 use Rattle.arrow_growable.proofs.JoinedLemmas.{slice_get-map_read}
 use Rattle.arrow_growable.proofs.MakeLemmas.{map_twice}
-use Rattle.arrow_select.specs.Keys.{HasNoDictionary}
+use Rattle.arrow_choice.specs.Keys.{HasNoDictionary}
 use Rattle.arrow_select.specs.Arrays.{rows_in}
 use Rattle.arrow_select.proofs.ArrayLemmas.{Contains-read, of_one_type, all_as_first}
-use Rattle.arrow_select.proofs.KeyLemmas.{rows_alone}
+use Rattle.arrow_choice.proofs.KeyLemmas.{rows_alone}
 use Rattle.arrow_select.proofs.concatenate.concatenate.Goals as goal
 
 pub returns-then-not-have_one_type-clause-types : goal.returns-then-not-have_one_type-clause-types

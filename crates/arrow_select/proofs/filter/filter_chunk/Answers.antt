@@ -1,4 +1,4 @@
-use Rattle.std.proofs.Common.{Err, ap, length, map, sym, subst, ◌∙◌}
+use Rattle.std.proofs.Common.{ap, length, map, sym, subst, ◌∙◌}
 use Rattle.std.proofs.lemmas.List.{length-map}
 use Rattle.arrow_types.specs.Rows.{selects}
 use Rattle.arrow_flat.specs.Parts.{boolean_rows}
@@ -7,10 +7,10 @@ use Rattle.arrow_arrays.specs.StructParts.{HaveRows}
 use Rattle.arrow_select.proofs.ChunkLemmas.{selected_columns}
 use Rattle.arrow_select.proofs.filter.filter_chunk.Goals as goal
 
-pub unreachable-requires : goal.unreachable-requires
-unreachable-requires c =
+pub new-requires : goal.new-requires
+new-requires c =
     let mask = c.in_ok-mask.mask in
     let columns = map layout_of c.arrays.result.now in
     let long = ap length c.in_ok-mask.ensures.ok ∙ length-map (boolean_rows c.args.filter_values.now) selects in
     let each = subst (HaveRows (length mask)) (sym c.arrays.ensures.same) (subst (λ n. HaveRows n c.args.columns.now) (sym long) c.requires.lengths) in
-    c.try_new.ensures.lengths.0 (c.in_default.is ∙ ap Err c.in_default.ensures.others) (selected_columns mask columns _ each c.in_ok-kept.ensures.rows)
+    selected_columns mask columns _ each c.in_ok-kept.ensures.rows

@@ -5,7 +5,7 @@ use Rattle.arrow_types.specs.Physical.{physical_type_of}
 use Rattle.arrow_flat.specs.Faults.{IsCarriedAs}
 use Rattle.arrow_arrays.specs.UnionParts.{mode_by}
 use Rattle.arrow_growable.proofs.UnionMakeLemmas.{type_of_unions}
-use Rattle.arrow_select.proofs.TakenVariants.{no_rows}
+use Rattle.arrow_take.proofs.TakenVariants.{no_rows}
 use Rattle.arrow_select.proofs.filter.any.kept_union.Goals as goal
 
 pub filter_sparse-requires : goal.filter_sparse-requires

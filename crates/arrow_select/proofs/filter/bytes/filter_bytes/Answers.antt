@@ -11,7 +11,7 @@ use Rattle.arrow_select.specs.Selected.{at_set}
 use Rattle.arrow_select.specs.Selection.{mask_in}
 use Rattle.arrow_select.proofs.FilterLemmas.{select_all, set_rows}
 use Rattle.arrow_select.proofs.SetBytes.{all_set, kept_bits, kept_fit, last_below}
-use Rattle.arrow_select.proofs.TakenBytes.{rows_fit}
+use Rattle.arrow_take.proofs.TakenBytes.{rows_fit}
 use Rattle.arrow_select.proofs.filter.bytes.filter_bytes.Goals as goal
 
 pub kept_parts-requires : goal.kept_parts-requires

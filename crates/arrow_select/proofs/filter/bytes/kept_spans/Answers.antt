@@ -7,9 +7,10 @@ use Rattle.arrow_memory.specs.Sliced.{sliced}
 use Rattle.arrow_flat_growable.specs.GrownRows.{valid_values}
 use Rattle.arrow_flat_growable.proofs.ValidRowLemmas.{run_copied, run_long}
 use Rattle.arrow_select.specs.Laws.{places_from}
-use Rattle.arrow_select.specs.Spans.{IsSpanWithin, spanned}
-use Rattle.arrow_select.proofs.SetBytes.{counted_sum, ends_below, ends_more, run_first, set_sum}
-use Rattle.arrow_select.proofs.SpanLemmas.{spanned_more}
+use Rattle.arrow_take.specs.Spans.{IsSpanWithin, spanned}
+use Rattle.arrow_flat_growable.proofs.EndLemmas.{counted_sum}
+use Rattle.arrow_select.proofs.SetBytes.{ends_below, ends_more, run_first, set_sum}
+use Rattle.arrow_take.proofs.SpanLemmas.{spanned_more}
 use Rattle.arrow_select.proofs.filter.bytes.kept_spans.Goals as goal
 
 pub append_ends-requires-clause-fits : goal.append_ends-requires-clause-fits

@@ -5,9 +5,11 @@ use Rattle.std.proofs.lemmas.List.Elements.{All-append, All-cons, All-nil}
 use Rattle.arrow_types.specs.Ranges.{named}
 use Rattle.arrow_memory.specs.Offsets.{last_of}
 use Rattle.arrow_select.specs.Laws.{places_from}
-use Rattle.arrow_select.specs.Spans.{IsSpanWithin, spanned}
+use Rattle.arrow_take.specs.Spans.{IsSpanWithin, spanned}
 use Rattle.arrow_select.proofs.RangedLemmas.{bytes_of_ranges, ends_first, range_first, ranged_bytes}
-use Rattle.arrow_select.proofs.SetBytes.{counted_sum, ends_below, ends_more, row_in, set_sum}
+use Rattle.arrow_flat_growable.specs.Ends.{row_in}
+use Rattle.arrow_flat_growable.proofs.EndLemmas.{counted_sum}
+use Rattle.arrow_select.proofs.SetBytes.{ends_below, ends_more, set_sum}
 use Rattle.arrow_select.proofs.filter.bytes.ranged_spans.Goals as goal
 
 pub loop-start-init : goal.loop-start-init

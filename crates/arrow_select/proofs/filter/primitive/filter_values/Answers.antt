@@ -23,8 +23,8 @@ returns-then-count-len-clause-fits g c =
     let fit = fits_only_counted p.arrow_type (rows_by (map slot) p) (ap is_only_counted c.data_type-data_type.ensures.kind) (omega (arith, c.len.ensures.rows, c.len.type_inv)) in
     subst (λ kept. Fits kept.arrow_type (rows_by (map slot) kept)) (sym c.in_ok-clone.ensures.cases) fit
 
-pub unreachable-requires : goal.unreachable-requires
-unreachable-requires g c =
+pub new-requires-clause-length : goal.new-requires-clause-length
+new-requires-clause-length g c =
     let slot = g.T.NativeType.slot in
     let p = c.args.array.now in
     let mask = mask_in c.args.selection in
@@ -32,8 +32,7 @@ unreachable-requires g c =
     let are = c.in_ok-kept-2.ensures.ok ∙ (c.in_ok-kept.ensures.values ∙ ap (at_set mask) (c.as_slice-values.ensures ∙ c.values.ensures)) in
     let long : length mask ≡ length p.values = omega (arith, c.requires.lengths, c.len.ensures.rows, c.len.ensures.values, length-map p.values slot) in
     let stored : FitsRows p.validity (length p.values) = subst (FitsRows p.validity) (length-map p.values slot) c.validity.ensures.fits in
-    let fits : FitsRows c.in_ok-kept.validity (length c.in_ok-kept-2.kept) = set_fits mask p.validity c.in_ok-kept.validity p.values c.in_ok-kept-2.kept is are long stored in
-    search (rules, fits)
+    set_fits mask p.validity c.in_ok-kept.validity p.values c.in_ok-kept-2.kept is are long stored
 
 pub returns-clause-rows : goal.returns-clause-rows
 returns-clause-rows g c =
@@ -42,13 +41,13 @@ returns-clause-rows g c =
     let mask = mask_in c.args.selection in
     let is = c.in_ok-kept.ensures.validity ∙ ap (option_map (at_set mask)) c.validity.ensures.same in
     let are = c.in_ok-kept-2.ensures.ok ∙ (c.in_ok-kept.ensures.values ∙ ap (at_set mask) (c.as_slice-values.ensures ∙ c.values.ensures)) in
-    ap (rows_by (map slot)) c.in-Ok.ensures.ok ∙ set_rows slot mask p.validity c.in_ok-kept.validity p.values c.in_ok-kept-2.kept is are
+    ap (rows_by (map slot)) c.new.ensures ∙ set_rows slot mask p.validity c.in_ok-kept.validity p.values c.in_ok-kept-2.kept is are
 
 pub returns-clause-fits : goal.returns-clause-fits
 returns-clause-fits g c =
     let slot = g.T.NativeType.slot in
     let p = c.args.array.now in
-    let kept = c.in-Ok.kept in
+    let kept = c.new.result in
     let same : kept.arrow_type ≡ p.arrow_type = search rules in
     let many = ap length (returns-clause-rows g c) ∙ (length-select (mask_in c.args.selection) (rows_by (map slot) p) c.requires.lengths ∙ sym c.requires.count) in
     subst (λ t. Fits t (rows_by (map slot) kept)) (sym same) (fits_only_counted p.arrow_type (rows_by (map slot) kept) (ap is_only_counted c.data_type-data_type.ensures.kind) (omega (arith, many, c.ranges.count.fits)))

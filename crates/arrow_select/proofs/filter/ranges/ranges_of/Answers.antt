@@ -1,5 +1,5 @@
-use Rattle.std.proofs.Common.{arith, ◌≡◌, ◌+◌, ◌-◌, ◌*◌, ap, sym, ◌∙◌}
-use Rattle.arrow_select.proofs.PlanLemmas.{WalksWord, walk_apart, walk_on, walks_all, walks_in, walks_out}
+use Rattle.std.proofs.Common.{arith, ◌*◌, ap, ◌∙◌}
+use Rattle.arrow_select.proofs.PlanLemmas.{walk_apart, walk_on, walks_all, walks_out}
 use Rattle.arrow_select.proofs.filter.ranges.ranges_of.Goals as goal
 use Rattle.arrow_select.proofs.filter.ranges.ranges_of.Goals.{then-row-first+in_ok-end_run, else-row-first}
 

@@ -12,12 +12,11 @@ use Rattle.arrow_arrays.specs.Any.{layout_of}
 use Rattle.arrow_arrays.specs.Layout.{type_of_layout}
 use Rattle.arrow_arrays.specs.StructParts.{IsStruct, struct_rows}
 use Rattle.arrow_arrays.specs.TypeParts.{field_types}
-use Rattle.arrow_arrays.proofs.NullLemmas.{no_fault}
 use Rattle.arrow_arrays.proofs.StructLemmas.{length-struct_rows}
 use Rattle.arrow_growable.proofs.KindLemmas.{type_of_structs}
 use Rattle.arrow_select.specs.Selected.{KeptColumns, at_set}
 use Rattle.arrow_select.specs.Selection.{mask_in}
-use Rattle.arrow_select.proofs.FieldColumns.{column_long}
+use Rattle.arrow_growable.proofs.FieldColumns.{column_long}
 use Rattle.arrow_select.proofs.KeptFields.{struct_kept, struct_kept_columns, struct_kept_fits}
 use Rattle.arrow_select.proofs.filter.structure.filter_struct.Goals as goal
 
@@ -33,8 +32,8 @@ kept_columns-requires-clause-lengths c k d within =
     let held : IsStruct p = record { kind = (c.data_type-data_type.ensures.carried, kind); children = c.values-columns.ensures.fields; some = c.values-columns.ensures.some; fits = (c.values-columns.ensures.lengths, c.validity.ensures.fits) } in
     column_long p columns held c.values-columns.ensures.same k d within ∙ (sym (length-struct_rows p held) ∙ sym c.requires.lengths)
 
-pub unreachable-requires : goal.unreachable-requires
-unreachable-requires c =
+pub new-requires : goal.new-requires
+new-requires c =
     let p = c.args.array.now in
     let mask = mask_in c.args.selection in
     let columns = c.values-columns.result.now in
@@ -47,7 +46,7 @@ unreachable-requires c =
     let same : type_of c.in_ok-clone.field-0 ≡ p.arrow_type = search rules in
     let typed : map type_of_layout (map layout_of arrays) ≡ field_types p.arrow_type = map-map type_of_layout layout_of arrays ∙ (kept.types ∙ (sym (map-map type_of_layout layout_of columns) ∙ (ap (map type_of_layout) c.values-columns.ensures.same ∙ held.children))) in
     let fits = struct_kept_columns p columns held c.values-columns.ensures.same none mask c.requires.lengths arrays kept c.in_ok-validity.validity is in
-    no_fault _ _ _ _ _ _ c.in_default-try_new.field-0 (rw same held.kind) (rw same typed) fits tt tt tt c.in_default-try_new.ensures.fault
+    (rw same held.kind, rw same typed, fits)
 
 pub returns-clause-ok : goal.returns-clause-ok
 returns-clause-ok c =
@@ -63,7 +62,7 @@ returns-clause-ok c =
     let same : type_of c.in_ok-clone.field-0 ≡ p.arrow_type = search rules in
     let few : length (select mask (struct_rows p)) < 2 ^ 64 = omega (arith, length-select mask (struct_rows p) c.requires.lengths, c.requires.count, c.ranges.count.fits) in
     record {
-      array_type = ap (λ q. q.arrow_type) c.in-Ok.ensures.ok ∙ same;
-      rows = ap struct_rows c.in-Ok.ensures.ok ∙ struct_kept p columns held c.values-columns.ensures.same none mask c.requires.lengths arrays kept c.in_ok-validity.validity is;
+      array_type = ap (λ q. q.arrow_type) c.new.ensures ∙ same;
+      rows = ap struct_rows c.new.ensures ∙ struct_kept p columns held c.values-columns.ensures.same none mask c.requires.lengths arrays kept c.in_ok-validity.validity is;
       fits = struct_kept_fits p columns held c.values-columns.ensures.same none mask c.requires.lengths arrays kept few;
     }

@@ -7,7 +7,7 @@ use Rattle.arrow_arrays.specs.declared.array.any.AnyArray.{AnyArray}
 use Rattle.arrow_arrays.specs.Any.{any_array_rows, any_array_type}
 use Rattle.arrow_select.specs.Selected.{KeptUnder, kept_rows_under}
 use Rattle.arrow_select.specs.Selection.{mask_in}
-use Rattle.arrow_select.proofs.TakenFields.{makes_next}
+use Rattle.arrow_growable.proofs.FieldColumns.{makes_next}
 use Rattle.arrow_select.proofs.filter.structure.kept_columns.Goals as goal
 
 pub loop-column-preserved : goal.loop-column-preserved

@@ -7,18 +7,17 @@ use Rattle.arrow_types.proofs.SelectLemmas.{length-select}
 use Rattle.arrow_arrays.specs.Any.{layout_of}
 use Rattle.arrow_arrays.specs.TypeParts.{field_types}
 use Rattle.arrow_arrays.specs.UnionParts.{FitsMode, union_rows}
-use Rattle.arrow_arrays.proofs.NullLemmas.{no_fault}
 use Rattle.arrow_select.specs.Laws.{true_places}
 use Rattle.arrow_select.specs.Selected.{at_set}
 use Rattle.arrow_select.specs.Selection.{mask_in}
-use Rattle.arrow_select.specs.SparseUnions.{HaveParts, taken_id}
+use Rattle.arrow_take.specs.SparseUnions.{HaveParts, taken_id}
 use Rattle.arrow_select.proofs.KeptFields.{ids_kept, made_is, names_rows}
-use Rattle.arrow_select.proofs.SparseRows.{arrays_fit, arrays_known, arrays_long, arrays_rows, arrays_typed}
-use Rattle.arrow_select.proofs.TakenVariants.{all_named, as_long, long as rows_counted}
+use Rattle.arrow_take.proofs.SparseRows.{arrays_fit, arrays_known, arrays_long, arrays_rows, arrays_typed}
+use Rattle.arrow_take.proofs.TakenVariants.{all_named, as_long, long as rows_counted}
 use Rattle.arrow_select.proofs.filter.union.filter_sparse.Goals as goal
 
-pub unreachable-requires : goal.unreachable-requires
-unreachable-requires c =
+pub new-requires : goal.new-requires
+new-requires c =
     let p = c.args.array.now in
     let t = p.arrow_type in
     let mask = mask_in c.args.selection in
@@ -38,7 +37,7 @@ unreachable-requires c =
     let typed = arrays_typed t sparse.kind sparse.mode made ids long named arrays count parts in
     let have = subst (λ mode. FitsMode mode ids None (map layout_of arrays)) (sym sparse.mode) (arrays_long t sparse.kind sparse.mode made ids long named arrays count parts) in
     let known = arrays_known t sparse.kind sparse.mode made ids long named arrays count parts in
-    no_fault _ _ _ _ _ _ c.in_default-try_new.field-0 (rw same sparse.kind) (rw same typed) (rw same have) tt (rw same known) tt c.in_default-try_new.ensures.fault
+    (rw same sparse.kind, rw same typed, rw same have, tt, rw same known)
 
 pub returns-clause-ok : goal.returns-clause-ok
 returns-clause-ok c =
@@ -62,7 +61,7 @@ returns-clause-ok c =
     let lengths : length mask ≡ length (union_rows p) = c.requires.lengths ∙ sym (rows_counted p sparse (true_places mask) keys) in
     let few : length made < 2 ^ 64 = omega (arith, ap length is, length-select mask (union_rows p) lengths, c.requires.count, c.ranges.count.fits) in
     record {
-      array_type = ap (λ q. q.arrow_type) c.in-Ok.ensures.ok ∙ same;
-      rows = ap union_rows c.in-Ok.ensures.ok ∙ ((λ i. union_rows (record { arrow_type = same i; types = ids; child_rows = None; start = 0; children = map layout_of arrays })) ∙ (rows ∙ is));
+      array_type = ap (λ q. q.arrow_type) c.new.ensures ∙ same;
+      rows = ap union_rows c.new.ensures ∙ ((λ i. union_rows (record { arrow_type = same i; types = ids; child_rows = None; start = 0; children = map layout_of arrays })) ∙ (rows ∙ is));
       fits = subst (Fits t) is (arrays_fit t sparse.kind sparse.mode made ids long named arrays count parts few);
     }

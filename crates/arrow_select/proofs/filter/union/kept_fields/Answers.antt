@@ -4,8 +4,8 @@ use Rattle.std.proofs.lemmas.List.{length-append}
 use Rattle.arrow_types.specs.Rows.{select}
 use Rattle.arrow_arrays.specs.UnionParts.{union_rows}
 use Rattle.arrow_select.specs.Selection.{mask_in}
-use Rattle.arrow_select.specs.SparseUnions.{HasPart, HaveParts}
-use Rattle.arrow_select.proofs.SparseRows.{parts_next}
+use Rattle.arrow_take.specs.SparseUnions.{HasPart, HaveParts}
+use Rattle.arrow_take.proofs.SparseRows.{parts_next}
 use Rattle.arrow_select.proofs.filter.union.kept_fields.Goals as goal
 
 pub loop-f-preserved : goal.loop-f-preserved

@@ -6,11 +6,8 @@ use Rattle.arrow_arrays.proofs.FaultLemmas.{failed}
 use Rattle.arrow_arrays.proofs.UnionLemmas.{holds_union}
 use Rattle.arrow_arrays.proofs.array.union.UnionArray.try_new.Goals as goal
 
-pub invariant_of-result : goal.invariant_of-result
-invariant_of-result c =
-    let below : length c.args.types < 2 ^ 64 = omega (arith, c.len.ensures, c.len.type_inv) in
-    let holds = rw c.deref.ensures.value at c.in_ok-check_union.ensures.ok in
-    holds_union (type_of c.args.data_type) c.args.types c.args.offsets (map layout_of c.args.fields.items) below holds
+pub new-requires : goal.new-requires
+new-requires c = rw c.deref.ensures.value at c.in_ok-check_union.ensures.ok
 
 pub returns-clause-sound : goal.returns-clause-sound
 returns-clause-sound c =

@@ -2,16 +2,14 @@ use Rattle.std.proofs.Common.{ap}
 use Rattle.arrow_types.specs.Rows.{masked}
 use Rattle.arrow_types.specs.TypeOf.{type_of}
 use Rattle.arrow_flat.specs.FixedRows.{fixed_slots, fixed_size_in}
-use Rattle.arrow_arrays.proofs.NullLemmas.{no_flat_fault}
 use Rattle.arrow_flat_growable.proofs.FixedRowsLemmas.{stored_fit, stored_parts}
 use Rattle.arrow_flat_growable.proofs.growable.fixed_binary.GrowableFixedRowsGrowableValues.into_array.Goals as goal
 
-pub unreachable-requires : goal.unreachable-requires
-unreachable-requires c =
-    let fits = stored_fit c.self.inside.size c.self.inside.count (fixed_size_in (type_of c.args.data_type)) c.self.inside.bytes.items c.in_ok-bytes.bytes c.args.self c.self.view_is c.self.invariant c.requires.kind.1 c.in_ok-bytes.ensures.ok c.args.validity c.requires.fits in
-    no_flat_fault _ _ _ _ c.in_default.field-0 (c.requires.carried, c.requires.kind.0) fits tt tt c.in_default.ensures.fault
+pub new-requires-clause-bytes : goal.new-requires-clause-bytes
+new-requires-clause-bytes c =
+    stored_fit c.self.inside.size c.self.inside.count (fixed_size_in (type_of c.args.data_type)) c.self.inside.bytes.items c.in_ok-bytes.bytes c.args.self c.self.view_is c.self.invariant c.requires.kind.1 c.in_ok-bytes.ensures.ok c.args.validity c.requires.fits
 
 pub returns-clause-rows : goal.returns-clause-rows
 returns-clause-rows c =
     let same = stored_parts c.self.inside.size c.self.inside.count (fixed_size_in (type_of c.args.data_type)) c.self.inside.bytes.items c.in_ok-bytes.bytes c.args.self c.self.view_is c.self.invariant c.requires.kind.1 c.in_ok-bytes.ensures.ok in
-    rw c.in-Ok.ensures.ok (ap (λ p. masked c.args.validity (fixed_slots p)) same)
+    rw c.new.ensures (ap (λ p. masked c.args.validity (fixed_slots p)) same)

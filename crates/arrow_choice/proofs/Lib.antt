@@ -1,0 +1,11 @@
+pub mod ChoiceLemmas
+pub mod ChosenBytes
+pub mod ChosenFields
+pub mod ChosenItems
+pub mod ChosenLemmas
+pub mod ChosenLists
+pub mod ChosenRows
+pub mod ChosenRuns
+pub mod KeyLemmas
+pub mod RangeLemmas
+pub mod SideLemmas

@@ -1,0 +1,11 @@
+use Rattle.std.proofs.Common.{◌*◌, ◌∷◌, [], take}
+use Rattle.std.specs.Prelude.{option_copied}
+use Rattle.arrow_choice.specs.Choice.{AppendsRows, all_chosen}
+use Rattle.arrow_flat.specs.Pieces.{pieces}
+use Rattle.arrow_choice.proofs.if_then_else.bytes.chosen_parts.Given as goal
+
+-- where the rows so far end, and their bytes
+abbrev pub invariant-loop-j : goal.invariant-loop-j
+invariant-loop-j g l = record {
+  rows : AppendsRows (take (64 * l.j) (all_chosen (option_copied l.fn.validity) l.fn.bits (pieces l.fn.left.0.now l.fn.left.1.now) (pieces l.fn.right.0.now l.fn.right.1.now))) (0 ∷ []) [] l.offsets l.bytes.items;
+}

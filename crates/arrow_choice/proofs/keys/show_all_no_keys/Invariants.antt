@@ -1,0 +1,9 @@
+use Rattle.std.proofs.Common.{All, take}
+use Rattle.arrow_arrays.specs.Any.{any_array_type, layout_of}
+use Rattle.arrow_choice.specs.Keys.{HasNoDictionary, HasNoKeys}
+use Rattle.arrow_choice.proofs.keys.show_all_no_keys.Given as goal
+
+-- the arrays so far hold none, if their types do
+abbrev pub invariant-loop-array : goal.invariant-loop-array
+invariant-loop-array l =
+    All (λ array. HasNoDictionary (any_array_type array.now) → HasNoKeys (layout_of array.now)) (take l.array-index l.arrays)

@@ -1,8 +1,0 @@
-use Rattle.std.proofs.Common.{Err, ap}
-use Rattle.arrow_flat_growable.proofs.ResultLemmas.{passed_on}
-use Rattle.arrow_select.proofs.if_then_else.chosen_by_runs.Goals as goal
-
-pub returns-in_err-append_by_kind-clause-overflow :
-    goal.returns-in_err-append_by_kind-clause-overflow
-returns-in_err-append_by_kind-clause-overflow c overflows =
-    c.in_err-append_by_kind.ensures.overflow (ap Err (passed_on c.from_residual.result _ _ c.from_residual.ensures.1 overflows))

@@ -1,8 +1,0 @@
-use Rattle.std.proofs.Common.{◌∙◌, ap, length, rules}
-use Rattle.std.specs.Prelude.{option_copied}
-use Rattle.arrow_select.proofs.ChosenLemmas.{validity_chosen}
-use Rattle.arrow_select.proofs.if_then_else.words.chosen_validity.Goals as goal
-
-pub returns-clause-ok : goal.returns-clause-ok
-returns-clause-ok c =
-    validity_chosen _ c.args.predicate.now (option_copied c.args.left) (option_copied c.args.right) c.len-len.result c.in_ok-bits.bits (c.len-len.ensures ∙ ap length c.values.ensures) (λ j word some answered k below within. search rules) c.in_ok-bits.ensures.ok

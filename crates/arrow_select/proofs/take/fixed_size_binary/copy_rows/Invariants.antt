@@ -1,9 +1,0 @@
-use Rattle.std.proofs.Common.{map}
-use Rattle.arrow_flat.specs.Parts.{rows_by}
-use Rattle.arrow_select.proofs.TakenRows.{RowsUpTo}
-use Rattle.arrow_select.proofs.take.fixed_size_binary.copy_rows.Given as goal
-
--- the rows of the indices so far, and zeros for the others
-abbrev pub invariant-loop-row : goal.invariant-loop-row
-invariant-loop-row g l =
-    RowsUpTo l.values.values.size l.values.values.bytes (rows_by (map g.I.NativeType.slot) l.indices) l.row l.taken

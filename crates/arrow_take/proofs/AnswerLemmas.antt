@@ -1,0 +1,37 @@
+-- Answers that pass an error on, and those that a growable hands out.
+use Rattle.std.proofs.Common.{◌≡◌, ◌↔◌, ◌∙◌, true, false, List, Result, Ok, Err, ap, refl, sym, subst}
+use Rattle.std.specs.Prelude.{IfOk, IfErr}
+use Rattle.std.specs.Result.{IsErrAnd}
+use Rattle.arrow_types.specs.declared.error.Error.{Error}
+use Rattle.arrow_types.specs.declared.error.Error.TheVariants.{Failed, OutOfMemory, Overflow}
+use Rattle.arrow_types.specs.ArrowType.{ArrowType}
+use Rattle.arrow_types.specs.Fits.{Fits}
+use Rattle.arrow_types.specs.Slot.{Slot}
+use Rattle.arrow_memory.specs.Grown.{IsGrowthError}
+use Rattle.arrow_arrays.specs.Layout.{Layout}
+use Rattle.arrow_flat_growable.specs.Grown.{Grown, IsFailedOrMemory, first_type}
+use Rattle.arrow_flat_growable.proofs.ResultLemmas.{passed_on}
+use Rattle.arrow_growable.specs.Growing.{HasAppended}
+use Rattle.arrow_take.specs.Answers.{Answers}
+
+module _ {A : Type 0} (type_in : A → ArrowType) (rows_in : A → List Slot) where
+  -- a growth that was refused
+  pub passes_on : (t : ArrowType) (slots : List Slot) (r : Result A Error) (e : Error) → IsErrAnd r (λ x. x ≡ e) → (e ≡ Overflow → Fits t slots → ⊥) → IsGrowthError e → Answers type_in rows_in r t slots
+  passes_on t slots (Ok a) e is over growth = absurd is
+  passes_on t slots (Err x) e is over growth =
+      record { ok = tt; overflow = λ same. over (passed_on (Err x) e Overflow is same); others = subst IsGrowthError (sym is) growth }
+
+  -- an array of what a growable holds, which has not failed
+  pub hands_out : (layouts : List Layout) (g : Grown) (slots : List Slot) → HasAppended layouts g slots → (r : Result A Error) → IfOk r (λ a. (type_in a ≡ g.arrow_type) × (rows_in a ≡ g.rows)) → (r ≡ Err Failed) ↔ (g.failed ≡ true) → IfErr r IsFailedOrMemory → Answers type_in rows_in r (first_type layouts) slots
+  hands_out layouts g slots held (Ok a) ok failed others =
+      record { ok = record { array_type = ok.0 ∙ ap (λ h. h.arrow_type) held.0; rows = ok.1 ∙ ap (λ h. h.rows) held.0; fits = held.1 }; overflow = λ is. cc; others = tt }
+  hands_out layouts g slots held (Err OutOfMemory) ok failed others =
+      record { ok = tt; overflow = λ is. cc; others = tt }
+  hands_out layouts g slots held (Err Failed) ok failed others =
+      let has_failed : false ≡ true = sym (ap (λ h. h.failed) held.0) ∙ failed.0 refl in
+      absurd (cc)
+  hands_out layouts g slots held (Err _) ok failed others = absurd others
+
+  pub rows_of : (t : ArrowType) (slots : List Slot) (r : Result A Error) → Answers type_in rows_in r t slots → IfOk r (λ a. rows_in a ≡ slots)
+  rows_of t slots (Ok a) answer = answer.ok.rows
+  rows_of t slots (Err e) answer = tt

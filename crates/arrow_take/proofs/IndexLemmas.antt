@@ -1,0 +1,269 @@
+-- Rows by index: what is stored by index, under the validity by index.
+use Rattle.std.proofs.Common.{arith, ◌≡◌, ◌/◌, ◌^◌, ◌==◌, ℕ, suc, ◌<◌, ℤ, pos, negsuc, Bool, true, false, not, Option, Some, None, List, [], ◌∷◌, ◌++◌, ◌+◌, ◌≤◌, ◌&&◌, length, map, take, take-add, get_or, nat_eq, bit_and, replicate, if◌then◌else◌, refl, ap, sym, subst, ◌∙◌, append_assoc}
+use Rattle.std.specs.Prelude.{IfSome, slice_get, slice_index_or, option_map, unwrap_or}
+use Rattle.std.specs.Int.{bit_at}
+use Rattle.std.specs.List.{All}
+use Rattle.std.proofs.lemmas.List.{get_or-replicate, get_or_default, length-map, length-replicate, map-append, take_all}
+use Rattle.std.proofs.lemmas.Simd.{map-map}
+use Rattle.std.proofs.lemmas.Nat.Bits.{shr_and_one}
+use Rattle.std.proofs.lemmas.Option.{get_or_from_slice_get, slice_get-get_or, slice_get-map, slice_get_read, slice_get_within}
+use Rattle.arrow_types.specs.ArrowType.{ArrowType}
+use Rattle.arrow_types.specs.Relation.{is_null}
+use Rattle.arrow_types.specs.Rows.{gather, gathered, mask, masked, valid_at}
+use Rattle.arrow_types.specs.Slot.{Slot, Null, Boolean, Number, DayTime, MonthDayNano, Bytes, Text, Items, Parts as fields, Dict, Variant, null_slot}
+use Rattle.arrow_types.proofs.RowsLemmas.{slice_get-mask, take_at_read}
+use Rattle.arrow_memory.specs.Sliced.{sliced}
+use Rattle.arrow_flat.specs.Parts.{FitsRows, IsValue}
+use Rattle.arrow_flat.proofs.PartsLemmas.{bit_within, length-masked, row_at}
+use Rattle.arrow_flat.proofs.PieceLemmas.{slot_of_row}
+use Rattle.arrow_arrays.specs.KeyedParts.{AreKeys, IsKey, key_in}
+use Rattle.arrow_arrays.proofs.KeyLemmas.{null_row, number_row}
+use Rattle.arrow_take.specs.Taken.{MarksTaken, is_taken_valid, named_bit, picked, place_in, valid_index}
+
+-- functions that agree on each member
+pub map-agree : {A B : Type 0} (P : A → Type 0) (f g : A → B) → ((x : A) → P x → f x ≡ g x) → (xs : List A) → All P xs → map f xs ≡ map g xs
+map-agree P f g same [] all = refl
+map-agree P f g same (x ∷ xs) all =
+    let first = same x (all 0 x (omega arith)) in
+    let rest = map-agree P f g same xs (λ k d within. all (suc k) d (omega (arith, within))) in
+    λ i. first i ∷ rest i
+
+-- an index is null or names one of so many rows
+pub each_index : (count : ℕ) (P : Slot → Type 0) → P Null → ((n : ℕ) → n < count → P (Number (pos n))) → (s : Slot) → IsKey count s → P s
+each_index count P none one Null key = none
+each_index count P none one (Number (pos n)) key = one n key
+each_index count P none one (Number (negsuc n)) key = absurd key
+each_index count P none one (Boolean b) key = absurd key
+each_index count P none one (DayTime days ms) key = absurd key
+each_index count P none one (MonthDayNano months days ns) key = absurd key
+each_index count P none one (Bytes bytes) key = absurd key
+each_index count P none one (Text bytes) key = absurd key
+each_index count P none one (Items slots) key = absurd key
+each_index count P none one (fields slots) key = absurd key
+each_index count P none one (Dict slot) key = absurd key
+each_index count P none one (Variant id slot) key = absurd key
+
+-- the row of a key, and of none the null slot
+abbrev pub row_by : List Slot → ArrowType → Option ℕ → Slot
+row_by xs t None = null_slot t
+row_by xs t (Some n) = unwrap_or (slice_get xs n) (null_slot t)
+
+pub by_key : (xs : List Slot) (t : ArrowType) (s : Slot) → gathered xs t s ≡ row_by xs t (key_in s)
+by_key xs t Null = refl
+by_key xs t (Number (pos n)) = refl
+by_key xs t (Number (negsuc n)) = refl
+by_key xs t (Boolean b) = refl
+by_key xs t (DayTime days ms) = refl
+by_key xs t (MonthDayNano months days ns) = refl
+by_key xs t (Bytes bytes) = refl
+by_key xs t (Text bytes) = refl
+by_key xs t (Items slots) = refl
+by_key xs t (fields slots) = refl
+by_key xs t (Dict slot) = refl
+by_key xs t (Variant id slot) = refl
+
+-- what is read by index of rows that are changed one by one
+row_by-map : (h : Slot → Slot) (xs : List Slot) (t u : ArrowType) → h (null_slot t) ≡ null_slot u → (key : Option ℕ) → h (row_by xs t key) ≡ row_by (map h xs) u key
+row_by-map h xs t u none None = none
+row_by-map h xs t u none (Some n) =
+    let read : (o : Option Slot) → h (unwrap_or o (null_slot t)) ≡ unwrap_or (option_map h o) (null_slot u) = elim [ None ↦ none | (Some x) ↦ refl ] in
+    read (slice_get xs n) ∙ ap (λ o. unwrap_or o (null_slot u)) (sym (slice_get-map h xs n))
+
+pub gather-map : (h : Slot → Slot) (xs : List Slot) (t u : ArrowType) → h (null_slot t) ≡ null_slot u → (indices : List Slot) → map h (gather xs indices t) ≡ gather (map h xs) indices u
+gather-map h xs t u none [] = refl
+gather-map h xs t u none (s ∷ indices) =
+    let first = ap h (by_key xs t s) ∙ (row_by-map h xs t u none (key_in s) ∙ sym (by_key (map h xs) u s)) in
+    let rest = gather-map h xs t u none indices in
+    λ i. first i ∷ rest i
+
+-- bits of indices over what is stored by index
+pub mask-map : (g : Slot → Bool) (f : Slot → Slot) (indices : List Slot) → mask (map g indices) (map f indices) ≡ map (λ s. if g s then f s else Null) indices
+mask-map g f [] = refl
+mask-map g f (s ∷ indices) =
+    ap (λ xs. (if g s then f s else Null) ∷ xs) (mask-map g f indices)
+
+-- what is stored for each row that is valid
+abbrev pub Stores : Option (List Bool) → List Slot → (Slot → Slot) → Type 0
+Stores v xs f = (n : ℕ) → n < length xs → valid_at v n ≡ true → slice_get xs n ≡ Some (f (Number (pos n)))
+
+module _ (xs : List Slot) (t : ArrowType) (f : Slot → Slot) (none : null_slot t ≡ Null) where
+  row_under : (bits : List Bool) → length bits ≡ length xs → Stores (Some bits) xs f → (n : ℕ) → n < length xs → (b : Bool) → slice_index_or bits n false ≡ b → (if b then f (Number (pos n)) else Null) ≡ gathered (mask bits xs) t (Number (pos n))
+  row_under bits same stores n within true is =
+      let read = slice_get-get_or bits n false (omega (arith, within, same)) ∙ ap Some is in
+      let valid = get_or_default bits n true false (omega (arith, within, same)) ∙ is in
+      sym (ap (λ o. unwrap_or o (null_slot t)) (slice_get-mask bits xs n true _ read (stores n within valid)))
+  row_under bits same stores n within false is =
+      let read = slice_get-get_or bits n false (omega (arith, within, same)) ∙ ap Some is in
+      sym (ap (λ o. unwrap_or o (null_slot t)) (slice_get-mask bits xs n false _ read (slice_get-get_or xs n Null within)))
+
+  pub row_taken : (v : Option (List Bool)) → FitsRows v (length xs) → Stores v xs f → (s : Slot) → IsKey (length xs) s → (if is_taken_valid v s then f s else Null) ≡ gathered (masked v xs) t s
+  row_taken None fits stores =
+      each_index (length xs) _ (sym none) (λ n within. sym (ap (λ o. unwrap_or o (null_slot t)) (stores n within refl)))
+  row_taken (Some bits) fits stores =
+      each_index (length xs) _ (sym none) (λ n within. row_under bits fits stores n within (slice_index_or bits n false) refl)
+
+  row_valid : Stores None xs f → (s : Slot) → IsKey (length xs) s → IsValue s → f s ≡ gathered xs t s
+  row_valid stores =
+      each_index (length xs) (λ s. IsValue s → f s ≡ gathered xs t s) (λ value. absurd (cc)) (λ n within value. sym (ap (λ o. unwrap_or o (null_slot t)) (stores n within refl)))
+
+  -- under the validity by index these are the rows by index
+  pub rows_taken : (v taken : Option (List Bool)) (indices : List Slot) → FitsRows v (length xs) → Stores v xs f → AreKeys (length xs) indices → MarksTaken v indices taken → masked taken (map f indices) ≡ gather (masked v xs) indices t
+  rows_taken v (Some bits) indices fits stores keys marks =
+      ap (λ bs. mask bs (map f indices)) marks ∙ (mask-map (is_taken_valid v) f indices ∙ map-agree (IsKey (length xs)) _ _ (row_taken v fits stores) indices keys)
+  rows_taken None None indices fits stores keys marks =
+      map-agree (λ s. IsKey (length xs) s × IsValue s) f _ (λ s p. row_valid stores s p.0 p.1) indices (λ k d within. (keys k d within, marks.1 k d within))
+  rows_taken (Some bits) None indices fits stores keys marks = absurd (cc)
+
+-- the validity by index has a bit for each index
+pub fits_taken : (v taken : Option (List Bool)) (indices : List Slot) → MarksTaken v indices taken → FitsRows taken (length indices)
+fits_taken v None indices marks = tt
+fits_taken v (Some bits) indices marks = ap length marks ∙ length-map indices (is_taken_valid v)
+
+-- an index that is there is valid where the row is that it names
+pub named_valid : (v : Option (List Bool)) (n count : ℕ) → FitsRows v count → n < count → valid_at v n ≡ is_taken_valid v (Number (pos n))
+named_valid None n count fits within = refl
+named_valid (Some bits) n count fits within = get_or_default bits n true false (omega (arith, fits, within))
+
+-- indices that are null also where the row that they name is
+pub null_is_none : (v : Option (List Bool)) → is_taken_valid v Null ≡ false
+null_is_none None = refl
+null_is_none (Some bits) = refl
+
+valid_rows : (v : Option (List Bool)) (nulls : List Bool) (ys : List Slot) → length nulls ≡ length ys → mask (map (is_taken_valid v) (mask nulls ys)) ys ≡ map (valid_index v) (mask nulls ys)
+valid_rows v [] [] same = refl
+valid_rows v [] (y ∷ ys) same = absurd (omega (arith, same))
+valid_rows v (b ∷ nulls) [] same = absurd (omega (arith, same))
+valid_rows v (true ∷ nulls) (y ∷ ys) same =
+    ap (λ xs. valid_index v y ∷ xs) (valid_rows v nulls ys (omega (arith, same)))
+valid_rows v (false ∷ nulls) (y ∷ ys) same =
+    let none = null_is_none v in
+    let rest = valid_rows v nulls ys (omega (arith, same)) in
+    rw none (ap (λ xs. Null ∷ xs) rest)
+
+-- where no index is null, each is itself
+unmasked : (nulls : List Bool) (ys : List Slot) → length nulls ≡ length ys → All IsValue (mask nulls ys) → ys ≡ mask nulls ys
+unmasked [] [] same values = refl
+unmasked [] (y ∷ ys) same values = absurd (omega (arith, same))
+unmasked (b ∷ nulls) [] same values = absurd (omega (arith, same))
+unmasked (true ∷ nulls) (y ∷ ys) same values =
+    ap (λ xs. y ∷ xs) (unmasked nulls ys (omega (arith, same)) (λ k d within. values (suc k) d (omega (arith, within))))
+unmasked (false ∷ nulls) (y ∷ ys) same values =
+    let first : IsValue Null = values 0 Null (omega arith) in
+    absurd (cc)
+
+all_stored : (nulls : Option (List Bool)) (ys : List Slot) → FitsRows nulls (length ys) → All IsValue (masked nulls ys) → ys ≡ masked nulls ys
+all_stored None ys fits values = refl
+all_stored (Some bits) ys fits values = unmasked bits ys fits values
+
+values_stay : (s : Slot) → IsValue s → s ≡ valid_index None s
+values_stay s value = rw value refl
+
+map-stays : (indices : List Slot) → All IsValue indices → indices ≡ map (valid_index None) indices
+map-stays [] values = refl
+map-stays (s ∷ indices) values =
+    let first = values_stay s (values 0 s (omega arith)) in
+    let rest = map-stays indices (λ k d within. values (suc k) d (omega (arith, within))) in
+    λ i. first i ∷ rest i
+
+-- what is stored of the indices, under the validity by index
+masked_itself : (v : Option (List Bool)) (ys : List Slot) → mask (map (is_taken_valid v) ys) ys ≡ map (valid_index v) ys
+masked_itself v [] = refl
+masked_itself v (y ∷ ys) = ap (λ xs. valid_index v y ∷ xs) (masked_itself v ys)
+
+pub indices_valid : (v nulls taken : Option (List Bool)) (ys : List Slot) → FitsRows nulls (length ys) → MarksTaken v (masked nulls ys) taken → masked taken ys ≡ map (valid_index v) (masked nulls ys)
+indices_valid v None (Some bits) ys fits marks = ap (λ bs. mask bs ys) marks ∙ masked_itself v ys
+indices_valid v (Some nulls) (Some bits) ys fits marks = ap (λ bs. mask bs ys) marks ∙ valid_rows v nulls ys fits
+indices_valid v nulls None ys fits marks =
+    all_stored nulls ys fits marks.1 ∙ (map-stays (masked nulls ys) marks.1 ∙ ap (λ w. map (valid_index w) (masked nulls ys)) (sym marks.0))
+
+-- the row of an index that was read
+module _ {I : Type 0} (slot : I → Slot) (number : I → ℤ) (is : (x : I) → slot x ≡ Number (number x)) (v : Option (List Bool)) (keys : List I) (i : ℕ) (fits : FitsRows v (length keys)) (within : i < length keys) where
+  slots_fit : FitsRows v (length (map slot keys))
+  slots_fit = subst (FitsRows v) (sym (length-map keys slot)) fits
+
+  pub row_within : i < length (masked v (map slot keys))
+  row_within = omega (arith, within, length-map keys slot, length-masked v (map slot keys) slots_fit)
+
+  -- by its bit in a word of the validity
+  pub row_by_bit : (x : I) (word k : ℕ) → (IfSome v (λ bits. i < length bits) → (bit_at word k == 1) ≡ valid_at v i) → x ≡ get_or keys i x → (if nat_eq (bit_and (word / 2 ^ k) 1) 1 then slot x else Null) ≡ get_or (masked v (map slot keys)) i Null
+  row_by_bit x word k marks read =
+      let bit = ap (λ b. nat_eq b 1) (shr_and_one word k) ∙ marks (bit_within v (length keys) i fits within) in
+      let stored = slot_of_row slot keys i x (slice_get_read keys (length keys) i x refl within read) in
+      (λ t. if bit t then sym stored t else Null) ∙ sym (row_at v (map slot keys) i slots_fit (omega (arith, within, length-map keys slot)))
+
+  pub number_at : (x : I) → true ≡ valid_at v i → x ≡ get_or keys i x → get_or (masked v (map slot keys)) i Null ≡ Number (number x)
+  number_at x valid read =
+      number_row slot number is v keys i x slots_fit row_within valid (slice_get_read keys (length keys) i x refl within read)
+
+  pub null_at : false ≡ valid_at v i → get_or (masked v (map slot keys)) i Null ≡ Null
+  null_at null = null_row v (map slot keys) i slots_fit row_within null
+
+-- what the indices so far give, and one more
+pub gives_next : {A : Type 0} (f : Slot → A) (old done : List A) (indices : List Slot) (i : ℕ) (x : A) → i < length indices → x ≡ f (get_or indices i Null) → done ≡ old ++ map f (take i indices) → done ++ x ∷ [] ≡ old ++ map f (take (i + 1) indices)
+gives_next f old done indices i x within is so_far =
+    let next = take_at_read indices i _ (slice_get-get_or indices i Null within) in
+    (λ j. so_far j ++ is j ∷ []) ∙ (append_assoc old (map f (take i indices)) (f (get_or indices i Null) ∷ []) ∙ ap (λ ys. old ++ ys) (sym (map-append f (take i indices) (get_or indices i Null ∷ [])) ∙ ap (map f) (sym next)))
+
+-- and so many more
+pub gives_more : {A : Type 0} (f : Slot → A) (old done new : List A) (indices : List Slot) (i place count : ℕ) → place ≡ i → new ≡ done ++ map f (sliced indices place count) → done ≡ old ++ map f (take i indices) → new ≡ old ++ map f (take (i + count) indices)
+gives_more f old done new indices i place count here more so_far =
+    let next = ap (λ p. map f (sliced indices p count)) here in
+    more ∙ ((λ j. so_far j ++ next j) ∙ (append_assoc old (map f (take i indices)) (map f (sliced indices i count)) ∙ ap (λ ys. old ++ ys) (sym (map-append f (take i indices) (sliced indices i count)) ∙ ap (map f) (sym (take-add i count indices)))))
+
+-- and of all
+pub gives_all : {A : Type 0} (f : Slot → A) (old done : List A) (indices : List Slot) (i : ℕ) → length indices ≤ i → done ≡ old ++ map f (take i indices) → done ≡ old ++ map f indices
+gives_all f old done indices i all so_far = so_far ∙ ap (λ is. old ++ map f is) (take_all i indices all)
+
+pub nil_of : {A : Type 0} (xs : List A) → length xs ≡ 0 → xs ≡ []
+nil_of [] none = refl
+nil_of (x ∷ xs) none = absurd (omega (arith, none))
+
+-- what nulls give where there is nothing to name
+pub picked_none : {A : Type 0} (spare : A) (indices : List Slot) → replicate (length indices) spare ≡ map (picked [] spare) indices
+picked_none spare [] = refl
+picked_none spare (s ∷ indices) = ap (λ xs. spare ∷ xs) (picked_none spare indices)
+
+pub no_bits : (indices : List Slot) → AreKeys 0 indices → replicate (length indices) false ≡ map (named_bit []) indices
+no_bits [] keys = refl
+no_bits (s ∷ indices) keys =
+    let first = each_index 0 (λ s. false ≡ named_bit [] s) refl (λ n none. absurd (omega (arith, none))) s (keys 0 s (omega arith)) in
+    let rest = no_bits indices (λ k d within. keys (suc k) d (omega (arith, within))) in
+    λ i. first i ∷ rest i
+
+-- the bit that an index names, by whether it is null
+pub named_by : (bits : List Bool) (count : ℕ) (s : Slot) (b : Bool) → IsKey count s → count ≡ length bits → 0 < count → slice_get bits (place_in s) ≡ Some b → not (is_null s) && b ≡ named_bit bits s
+named_by bits count s b key same some read =
+    each_index count (λ s. slice_get bits (place_in s) ≡ Some b → not (is_null s) && b ≡ named_bit bits s) (λ at. refl) (λ n within at. sym (get_or_from_slice_get bits n b false at)) s key read
+
+-- as many rows as indices that are stored
+pub length-masked_slots : {I : Type 0} (slot : I → Slot) (v : Option (List Bool)) (keys : List I) → FitsRows v (length keys) → length (masked v (map slot keys)) ≡ length keys
+length-masked_slots slot v keys fits =
+    length-masked v (map slot keys) (subst (FitsRows v) (sym (length-map keys slot)) fits) ∙ length-map keys slot
+
+-- values that are stored by index, under the validity by index
+pub values_taken : {T : Type 0} (slot : T → Slot) (g : Slot → T) (values taken : List T) (t : ArrowType) (v validity : Option (List Bool)) (indices : List Slot) → ((n : ℕ) → n < length values → slice_get values n ≡ Some (g (Number (pos n)))) → null_slot t ≡ Null → FitsRows v (length (map slot values)) → AreKeys (length (masked v (map slot values))) indices → MarksTaken v indices validity → taken ≡ map g indices → masked validity (map slot taken) ≡ gather (masked v (map slot values)) indices t
+values_taken slot g values taken t v validity indices read none fits keys marks are =
+    let stores : Stores v (map slot values) (λ s. slot (g s)) = λ n within valid. slice_get-map slot values n ∙ ap (option_map slot) (read n (omega (arith, within, length-map values slot))) in
+    ap (λ xs. masked validity (map slot xs)) are ∙ (ap (masked validity) (map-map slot g indices) ∙ rows_taken (map slot values) t (λ s. slot (g s)) none v validity indices fits stores (subst (λ n. AreKeys n indices) (length-masked v (map slot values) fits) keys) marks)
+
+-- as many rows as indices
+pub length-gather : (xs indices : List Slot) (t : ArrowType) → length (gather xs indices t) ≡ length indices
+length-gather xs indices t = length-map indices (gathered xs t)
+
+-- as many nulls as indices
+null_by_key : (n : ℕ) (t : ArrowType) → null_slot t ≡ Null → (key : Option ℕ) → Null ≡ row_by (replicate n Null) t key
+null_by_key n t none None = sym none
+null_by_key n t none (Some k) =
+    let read : (o : Option Slot) → slice_get (replicate n Null) k ≡ o → Null ≡ unwrap_or o (null_slot t) = elim [
+      | None ↦ λ is. sym none
+      | (Some x) ↦ λ is. let within : k < n = omega (arith, slice_get_within (replicate n Null) k x is, length-replicate n Null) in
+          sym (get_or-replicate n k Null x within) ∙ get_or_from_slice_get (replicate n Null) k x x is
+    ] in
+    read (slice_get (replicate n Null) k) refl
+
+pub nulls_taken : (n : ℕ) (t : ArrowType) → null_slot t ≡ Null → (indices : List Slot) → replicate (length indices) Null ≡ gather (replicate n Null) indices t
+nulls_taken n t none [] = refl
+nulls_taken n t none (s ∷ indices) =
+    let first = null_by_key n t none (key_in s) ∙ sym (by_key (replicate n Null) t s) in
+    let rest = nulls_taken n t none indices in
+    λ i. first i ∷ rest i

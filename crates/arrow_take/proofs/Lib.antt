@@ -1,0 +1,11 @@
+pub mod AnswerLemmas
+pub mod IndexLemmas
+pub mod SpanLemmas
+pub mod SparseRows
+pub mod TakenBytes
+pub mod TakenFields
+pub mod TakenKeys
+pub mod TakenRows
+pub mod TakenRuns
+pub mod TakenTypes
+pub mod TakenVariants

@@ -1,0 +1,28 @@
+use Rattle.std.proofs.Common.{[], ◌∷◌, Err, ap, map, subst, sym}
+use Rattle.arrow_types.specs.Fits.{Fits}
+use Rattle.arrow_types.specs.Rows.{gather}
+use Rattle.arrow_flat.specs.Parts.{rows_by}
+use Rattle.arrow_arrays.specs.Layout.{rows, type_of_layout}
+use Rattle.arrow_arrays.specs.UnionParts.{union_layout, union_rows}
+use Rattle.arrow_growable.specs.Growing.{HasAppended}
+use Rattle.arrow_growable.proofs.UnionLoopLemmas.{union_type}
+use Rattle.arrow_take.specs.Answers.{Answers}
+use Rattle.arrow_take.specs.Taken.{first_bound}
+use Rattle.arrow_take.proofs.AnswerLemmas.{hands_out, passes_on}
+use Rattle.arrow_take.proofs.take.union.grown.Goals as goal
+
+pub returns-in_err-append_taken : goal.returns-in_err-append_taken
+returns-in_err-append_taken g c =
+    let p = c.args.values.now in
+    let indices = rows_by (map g.I.NativeType.slot) c.args.indices.now in
+    let all = λ (t : _). Fits t (gather (union_rows p) indices t) in
+    let here = λ (h : _). Fits (type_of_layout (first_bound h)) (gather (rows (first_bound h)) indices (type_of_layout (first_bound h))) in
+    record { answer = passes_on _ _ _ _ _ _ c.from_residual.ensures.1 (λ same fits. c.in_err-append_taken.ensures.overflow (ap Err same) (subst here (sym c.requires.bound) (subst all (sym (union_type p)) fits))) c.in_err-append_taken.ensures.others }
+
+pub returns : goal.returns
+returns g c =
+    let p = c.args.values.now in
+    let indices = rows_by (map g.I.NativeType.slot) c.args.indices.now in
+    let held = subst (λ h. HasAppended (first_bound h ∷ []) c.append_taken.new.growable (gather (rows (first_bound h)) indices (type_of_layout (first_bound h)))) c.requires.bound c.in_ok-append_taken.ensures.ok in
+    let answer = hands_out (λ array. array.arrow_type) union_rows (union_layout p ∷ []) c.append_taken.new.growable _ held c.into_array.result c.into_array.ensures.ok c.into_array.ensures.failed c.into_array.ensures.others in
+    record { answer = subst (λ t. Answers (λ array. array.arrow_type) union_rows c.into_array.result t (gather (union_rows p) indices t)) (union_type p) answer }

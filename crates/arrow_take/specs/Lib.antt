@@ -1,0 +1,5 @@
+pub mod Answers
+pub mod Examples
+pub mod Spans
+pub mod SparseUnions
+pub mod Taken

@@ -1,0 +1,43 @@
+//! Truth values by index.
+
+ghost use Rattle.std.specs.Prelude.{◌≡◌, length, map, IfOk, IsOkUnless};
+ghost use Rattle.arrow_types.specs.declared.error.Error.{Error};
+ghost use Rattle.arrow_types.specs.Fits.{Fits};
+ghost use Rattle.arrow_types.specs.Rows.{gather};
+ghost use Rattle.arrow_flat.specs.Parts.{boolean_rows, rows_by};
+ghost use Rattle.arrow_take.specs.Taken.{AreIndices};
+
+use crate::take::indices::{gather_bits, take_validity};
+use arrow_flat::array::{BooleanArray, PrimitiveArray};
+use arrow_types::error::Error;
+use arrow_types::types::Index;
+use std::alloc::Global;
+
+/// The rows that the indices name, in their order, and null where an index is null, whatever lies beneath it.
+///
+/// # Requires
+/// Each index that is not null is that of a row.
+///
+/// # Errors
+/// `OutOfMemory` where memory is refused.
+///
+/// Source: arrow2's `take::boolean::take`.
+pub fn take<I: Index>(
+    alloc: Global,
+    values: &BooleanArray,
+    indices: &PrimitiveArray<I>,
+) -> Result<BooleanArray, Error>
+    requires inside { AreIndices (length (boolean_rows values.now)) (rows_by (map I.slot) indices.now) }
+    ensures array_type { IfOk result (λ taken. taken.arrow_type ≡ values.now.arrow_type) }
+    ensures rows { IfOk result (λ taken. boolean_rows taken
+        ≡ gather (boolean_rows values.now) (rows_by (map I.slot) indices.now) values.now.arrow_type) }
+    ensures fits { IfOk result (λ taken. Fits taken.arrow_type (boolean_rows taken)) }
+    ensures err { IsOkUnless result Error.OutOfMemory }
+{
+    // There are as many rows as a `usize` counts.
+    let _ = indices.len();
+    let validity = take_validity(alloc, values.validity(), indices)?;
+    let taken = gather_bits(alloc, values.values(), indices)?;
+    let data_type = values.data_type().clone()?;
+    Ok(BooleanArray::new(data_type, taken, validity))
+}

@@ -1,0 +1,157 @@
+//! Texts and bytes by index: where the rows lie and end first, and then the bytes, for which there is room.
+
+ghost use Rattle.std.specs.Prelude.{◌≡◌, ◌+◌, ◌-◌, ◌<◌, ◌≤◌, ◌∷◌, Err, length, map, slice_index_or, option_copied, sum, IfOk, IfErr, OnOk};
+ghost use Rattle.std.specs.List.{concat};
+ghost use Rattle.arrow_types.specs.declared.error.Error.{Error};
+ghost use Rattle.arrow_types.specs.Fits.{Fits};
+ghost use Rattle.arrow_types.specs.Rows.{gather, masked};
+ghost use Rattle.arrow_types.specs.Slot.{Null};
+ghost use Rattle.arrow_memory.specs.Grown.{IsGrowthError};
+ghost use Rattle.arrow_memory.specs.Offsets.{last_of};
+ghost use Rattle.arrow_flat.specs.ByteRows.{byte_slots};
+ghost use Rattle.arrow_flat.specs.Parts.{FitsRows, MarksNulls, rows_by};
+ghost use Rattle.arrow_arrays.specs.KeyedParts.{key_in};
+ghost use Rattle.arrow_take.specs.Taken.{AreIndices, span_length, span_of, taken_bytes, taken_span};
+ghost use Rattle.arrow_flat_growable.specs.Ends.{ends_from};
+
+use crate::spans::copy_spans;
+use crate::take::indices::{index_at, take_validity};
+use crate::validity::is_valid;
+use arrow_flat::array::{ByteKind, ByteRows, FlatArray, PrimitiveArray};
+use arrow_flat_growable::growable::GrowableKind;
+use arrow_memory::bitmap::Bitmap;
+use arrow_memory::buffer::Buffer;
+use arrow_memory::offset::{Offsets, OffsetsBuffer};
+use arrow_types::error::Error;
+use arrow_types::types::{Index, Offset};
+use std::alloc::Global;
+
+/// The rows that the indices name, in their order, and null where an index is null, whatever lies beneath it.
+///
+/// # Requires
+/// Each index that is not null is that of a row.
+///
+/// # Errors
+/// `Overflow` where the rows do not fit the type, `OutOfMemory` where memory is refused.
+///
+/// Source: arrow2's `take::utf8::take` and `take::binary::take`.
+pub fn take<O: Offset, K: GrowableKind, I: Index>(
+    alloc: Global,
+    values: &FlatArray<ByteRows<O, K>>,
+    indices: &PrimitiveArray<I>,
+) -> Result<FlatArray<ByteRows<O, K>>, Error>
+    requires inside { AreIndices (length (rows_by (byte_slots K.slot) values.now))
+        (rows_by (map I.slot) indices.now) }
+    ensures array_type { IfOk result (λ taken. taken.arrow_type ≡ values.now.arrow_type) }
+    ensures rows { IfOk result (λ taken. rows_by (byte_slots K.slot) taken
+        ≡ gather (rows_by (byte_slots K.slot) values.now)
+        (rows_by (map I.slot) indices.now) values.now.arrow_type) }
+    ensures fits { IfOk result (λ taken. Fits taken.arrow_type (rows_by (byte_slots K.slot) taken)) }
+    ensures overflow { result ≡ Err Error.Overflow
+        → Fits values.now.arrow_type
+        (gather (rows_by (byte_slots K.slot) values.now)
+        (rows_by (map I.slot) indices.now) values.now.arrow_type) → ⊥ }
+    ensures others { IfErr result IsGrowthError }
+{
+    // There are as many rows as a `usize` counts, and the rows lie in the values as the type and the offsets say.
+    let (_, _) = (indices.len(), values.offsets().len());
+    let _ = values.values();
+    let _ = values.data_type();
+    let validity = take_validity(alloc, values.validity(), indices)?;
+    let (offsets, bytes) = take_rows(alloc, values, indices)?;
+    let bytes = Buffer::from_vec(alloc, bytes)?;
+    let data_type = values.data_type().clone()?;
+    Ok(FlatArray::<ByteRows<O, K>>::new(data_type, offsets, bytes, validity))
+}
+
+// Where the rows that the indices name end, and their bytes.
+fn take_rows<O: Offset, K: ByteKind, I: Index>(
+    alloc: Global,
+    values: &FlatArray<ByteRows<O, K>>,
+    indices: &PrimitiveArray<I>,
+) -> Result<(OffsetsBuffer<O>, Vec<u8>), Error>
+    requires { AreIndices (length values.now.values.offsets - 1) (rows_by (map I.slot) indices.now) }
+    ensures offsets { IfOk result (λ rows. rows.0
+        ≡ 0 ∷ ends_from 0 (map (span_length values.now.validity values.now.values.offsets)
+        (rows_by (map I.slot) indices.now))) }
+    ensures bytes { IfOk result (λ rows. rows.1.items
+        ≡ concat (map (taken_bytes values.now.validity values.now.values.offsets values.now.values.bytes)
+        (rows_by (map I.slot) indices.now))) }
+    ensures few { OnOk result (sum
+        (map (span_length values.now.validity values.now.values.offsets) (rows_by (map I.slot) indices.now))
+        ≤ O.greatest) }
+    ensures overflow { result ≡ Err Error.Overflow
+        → O.greatest < sum (map (span_length values.now.validity values.now.values.offsets)
+        (rows_by (map I.slot) indices.now)) }
+    ensures others { IfErr result IsGrowthError }
+{
+    // The rows lie in the values as the offsets say.
+    let _ = values.offsets().len();
+    let (spans, offsets) = take_spans(alloc, values, indices)?;
+    let total = offsets.last().to_usize();
+    let bytes = copy_spans(alloc, values.values().as_slice(), &spans, total)?;
+    Ok((offsets.into_buffer()?, bytes))
+}
+
+// Where the bytes of the row lie that index `row` names: nowhere where the index or that row is null. Both are read
+// before the test, so that the test is a choice of values and no branch.
+fn span_at<O: Offset, I: Index>(
+    rows: &OffsetsBuffer<O>,
+    validity: Option<&Bitmap>,
+    stored: &[I],
+    nulls: Option<&Bitmap>,
+    row: usize,
+) -> (usize, usize)
+    requires fits { FitsRows (option_copied validity) (length rows.now - 1) }
+    requires index_fits { FitsRows (option_copied nulls) (length stored.now) }
+    requires marks { MarksNulls (option_copied nulls) (masked (option_copied nulls) (map I.slot stored.now)) }
+    requires within { row < length stored.now }
+    requires inside { AreIndices (length rows.now - 1)
+        (masked (option_copied nulls) (map I.slot stored.now)) }
+    ensures span { result ≡ span_of (option_copied validity.entry) rows.now
+        (key_in (slice_index_or (masked (option_copied nulls.entry) (map I.slot stored.now)) row Null)) }
+    ensures rises { result.0 ≤ result.1 }
+    ensures within { result.1 ≤ last_of rows.now }
+{
+    let place = index_at(stored, nulls, row).unwrap_or(0);
+    if rows.len() <= place + 1 {
+        // Without a row each index is null.
+        return (0, 0);
+    }
+    let span = rows.start_end(place);
+    if is_valid(nulls, row) & is_valid(validity, place) {
+        span
+    } else {
+        (0, 0)
+    }
+}
+
+// Where the bytes lie of the rows that the indices name, and their offsets by index.
+fn take_spans<O: Offset, K: ByteKind, I: Index>(
+    alloc: Global,
+    values: &FlatArray<ByteRows<O, K>>,
+    indices: &PrimitiveArray<I>,
+) -> Result<(Vec<(usize, usize)>, Offsets<O>), Error>
+    requires { AreIndices (length values.now.values.offsets - 1) (rows_by (map I.slot) indices.now) }
+    ensures spans { IfOk result (λ taken. taken.0.items
+        ≡ map (taken_span values.now.validity values.now.values.offsets)
+        (rows_by (map I.slot) indices.now)) }
+    ensures offsets { IfOk result (λ taken. taken.1
+        ≡ 0 ∷ ends_from 0 (map (span_length values.now.validity values.now.values.offsets)
+        (rows_by (map I.slot) indices.now))) }
+    ensures overflow { result ≡ Err Error.Overflow
+        → O.greatest < sum (map (span_length values.now.validity values.now.values.offsets)
+        (rows_by (map I.slot) indices.now)) }
+    ensures others { IfErr result IsGrowthError }
+{
+    let (rows, validity) = (values.offsets(), values.validity());
+    let (stored, nulls) = (indices.values().as_slice(), indices.validity());
+    let mut spans = Vec::with_capacity(alloc, stored.len())?;
+    let mut offsets = Offsets::with_capacity(alloc, stored.len())?;
+    for row in 0..stored.len() {
+        let span = span_at(rows, validity, stored, nulls, row);
+        spans.push_reserved(span);
+        offsets.try_push_usize(span.1 - span.0)?;
+    }
+    Ok((spans, offsets))
+}

@@ -1,0 +1,260 @@
+//! Indices of rows, and what they name of what stores the rows.
+
+ghost use Rattle.std.specs.Prelude.{◌≡◌, ◌+◌, ◌*◌, ◌<◌, ◌≤◌, ◌==◌, ℕ, [], ◌++◌, false, length, map, replicate, slice_index_or, option_copied, if◌then◌else◌, IfOk, IfSome, IsOkUnless, OnOk};
+ghost use Rattle.std.specs.Int.{bit_at};
+ghost use Rattle.std.specs.Vec.{vec_len, vec_capacity};
+ghost use Rattle.arrow_types.specs.declared.error.Error.{Error};
+ghost use Rattle.arrow_types.specs.Rows.{masked, valid_at};
+ghost use Rattle.arrow_types.specs.Slot.{Null};
+ghost use Rattle.arrow_flat.specs.Parts.{FitsRows, MarksNulls, rows_by};
+ghost use Rattle.arrow_memory.specs.Sliced.{sliced};
+ghost use Rattle.arrow_memory.specs.Words.{low_bits};
+ghost use Rattle.arrow_arrays.specs.KeyedParts.{IsKeyIn, key_in};
+ghost use Rattle.arrow_take.specs.Taken.{AreIndices, IsIndex, MarksTaken, named_bit, picked, valid_index};
+
+use crate::validity::is_valid;
+use arrow_flat::array::PrimitiveArray;
+use arrow_flat::array::validity::valid_word;
+use arrow_memory::bitmap::{Bitmap, MutableBitmap, WORD_BITS};
+use arrow_types::error::Error;
+use arrow_types::types::{Index, NativeType};
+use std::alloc::Global;
+
+// The place that index `row` names, if it is not null. What is stored beneath a null does not count: it is read before
+// the test, so that the test is a choice of values and no branch.
+pub(super) fn index_at<I: Index>(
+    stored: &[I],
+    validity: Option<&Bitmap>,
+    row: usize,
+) -> Option<usize>
+    requires fits { FitsRows (option_copied validity) (length stored.now) }
+    requires within { row < length stored.now }
+    requires key { IsKeyIn (slice_index_or
+        (masked (option_copied validity) (map I.slot stored.now)) row Null) }
+    ensures { result ≡ key_in (slice_index_or
+        (masked (option_copied validity.entry) (map I.slot stored.now)) row Null) }
+{
+    let index = stored[row];
+    if is_valid(validity, row) {
+        Some(index.to_usize())
+    } else {
+        None
+    }
+}
+
+// The values that the indices name; for a null index the first of the values, or zero where there is none.
+pub(super) fn gather_values<T: NativeType, I: Index>(
+    alloc: Global,
+    values: &[T],
+    indices: &PrimitiveArray<I>,
+) -> Result<Vec<T>, Error>
+    requires { AreIndices (length values.now) (rows_by (map I.slot) indices.now) }
+    ensures ok { IfOk result (λ taken. taken.items
+        ≡ map (picked values.now T.zero) (rows_by (map I.slot) indices.now)) }
+    ensures err { IsOkUnless result Error.OutOfMemory }
+{
+    let (stored, validity) = (indices.values().as_slice(), indices.validity());
+    if values.is_empty() {
+        return zeros(alloc, stored.len());
+    }
+    let mut taken = Vec::with_capacity(alloc, stored.len())?;
+    append_values(&mut taken, values, stored, validity);
+    Ok(taken)
+}
+
+// So many values whose bits are all zero.
+fn zeros<T: NativeType>(alloc: Global, count: usize) -> Result<Vec<T>, Error>
+    ensures ok { IfOk result (λ values. values.items ≡ replicate count T.zero) }
+    ensures err { IsOkUnless result Error.OutOfMemory }
+{
+    let mut values = Vec::with_capacity(alloc, count)?;
+    values.resize(count, T::default())?;
+    Ok(values)
+}
+
+// Appends the values that the indices name, 64 at a time. There is room for them.
+fn append_values<T: NativeType, I: Index>(
+    taken: &mut Vec<T>,
+    values: &[T],
+    stored: &[I],
+    validity: Option<&Bitmap>,
+)
+    requires some { 0 < length values.now }
+    requires room { vec_len taken.old + length stored.now ≤ vec_capacity taken.old }
+    requires fits { FitsRows (option_copied validity) (length stored.now) }
+    requires inside { AreIndices (length values.now)
+        (masked (option_copied validity) (map I.slot stored.now)) }
+    ensures { taken.new.items ≡ taken.old.items
+        ++ map (picked values.now T.zero) (masked (option_copied validity.entry) (map I.slot stored.now)) }
+{
+    let mut row = 0;
+    while row < stored.len() {
+        let count = WORD_BITS.min(stored.len() - row);
+        append_picked(taken, values, stored, validity, row / WORD_BITS, count);
+        row += count;
+    }
+}
+
+// Appends the values that `count` indices from index `64 * j` on name. There is room for them, and no branch depends on a
+// bit.
+fn append_picked<T: NativeType, I: Index>(
+    taken: &mut Vec<T>,
+    values: &[T],
+    stored: &[I],
+    validity: Option<&Bitmap>,
+    j: usize,
+    count: usize,
+)
+    requires some { 0 < length values.now }
+    requires room { vec_len taken.old + count ≤ vec_capacity taken.old }
+    requires fits { FitsRows (option_copied validity) (length stored.now) }
+    requires within { 64 * j + count ≤ length stored.now }
+    requires in_word { count ≤ 64 }
+    requires inside { AreIndices (length values.now)
+        (masked (option_copied validity) (map I.slot stored.now)) }
+    ensures items { taken.new.items
+        ≡ taken.old.items ++ map (picked values.now T.zero)
+        (sliced (masked (option_copied validity.entry) (map I.slot stored.now)) (64 * j) count) }
+    ensures len { vec_len taken.new ≡ vec_len taken.old + count }
+    ensures capacity { vec_capacity taken.new ≡ vec_capacity taken.old }
+{
+    let word = valid_word(validity, j);
+    let start = WORD_BITS * j;
+    for k in 0..count {
+        taken.push_reserved(value_at(values, stored[start + k], word >> k & 1 == 1));
+    }
+}
+
+// The value that an index names, and the first one where it is null. What is stored beneath a null does not count: the
+// index is chosen before it is turned into a place, so that the test is a choice of values and no branch.
+fn value_at<T: NativeType, I: Index>(values: &[T], index: I, is_valid: bool) -> T
+    requires some { 0 < length values.now }
+    requires inside { IsIndex (length values.now) (if is_valid then I.slot index else Null) }
+    ensures { result ≡ picked values.now T.zero (if is_valid then I.slot index else Null) }
+{
+    let index = if is_valid { index } else { I::default() };
+    values[index.to_usize()]
+}
+
+// The bits that the indices name; for a null index one that is not set.
+pub(super) fn gather_bits<I: Index>(
+    alloc: Global,
+    bits: &Bitmap,
+    indices: &PrimitiveArray<I>,
+) -> Result<Bitmap, Error>
+    requires { AreIndices (length bits.now) (rows_by (map I.slot) indices.now) }
+    ensures ok { IfOk result (λ taken. taken ≡ map (named_bit bits.now) (rows_by (map I.slot) indices.now)) }
+    ensures err { IsOkUnless result Error.OutOfMemory }
+{
+    let (stored, validity) = (indices.values().as_slice(), indices.validity());
+    if bits.is_empty() {
+        return Bitmap::new_zeroed(alloc, stored.len());
+    }
+    let mut taken = MutableBitmap::with_capacity(alloc, stored.len())?;
+    append_bits(&mut taken, bits, stored, validity)?;
+    taken.into_bitmap()
+}
+
+// Appends the bits that the indices name, a word at a time.
+fn append_bits<I: Index>(
+    taken: &mut MutableBitmap,
+    bits: &Bitmap,
+    stored: &[I],
+    validity: Option<&Bitmap>,
+) -> Result<(), Error>
+    requires some { 0 < length bits.now }
+    requires none { taken.old ≡ [] }
+    requires fits { FitsRows (option_copied validity) (length stored.now) }
+    requires marks { MarksNulls (option_copied validity)
+        (masked (option_copied validity) (map I.slot stored.now)) }
+    requires inside { AreIndices (length bits.now) (masked (option_copied validity) (map I.slot stored.now)) }
+    ensures ok { OnOk result (taken.new
+        ≡ map (named_bit bits.now) (masked (option_copied validity.entry) (map I.slot stored.now))) }
+    ensures err { IsOkUnless result Error.OutOfMemory }
+{
+    let mut row = 0;
+    while row < stored.len() {
+        let count = WORD_BITS.min(stored.len() - row);
+        let word = bits_at(bits, stored, validity, row, count);
+        taken.push_word(word, count)?;
+        row += count;
+    }
+    Ok(())
+}
+
+// The bits that `count` indices from `row` on name, as a word.
+fn bits_at<I: Index>(
+    bits: &Bitmap,
+    stored: &[I],
+    validity: Option<&Bitmap>,
+    row: usize,
+    count: usize,
+) -> u64
+    requires some { 0 < length bits.now }
+    requires fits { FitsRows (option_copied validity) (length stored.now) }
+    requires marks { MarksNulls (option_copied validity)
+        (masked (option_copied validity) (map I.slot stored.now)) }
+    requires within { row + count ≤ length stored.now }
+    requires in_word { count ≤ 64 }
+    requires inside { AreIndices (length bits.now) (masked (option_copied validity) (map I.slot stored.now)) }
+    ensures { low_bits result count
+        ≡ map (named_bit bits.now)
+        (sliced (masked (option_copied validity.entry) (map I.slot stored.now)) row count) }
+{
+    let mut word = 0;
+    for k in 0..count {
+        word |= u64::from(bit_at(bits, stored, validity, row + k)) << k;
+    }
+    word
+}
+
+// The bit that index `row` names, and one that is not set where it is null.
+fn bit_at<I: Index>(bits: &Bitmap, stored: &[I], validity: Option<&Bitmap>, row: usize) -> bool
+    requires some { 0 < length bits.now }
+    requires fits { FitsRows (option_copied validity) (length stored.now) }
+    requires marks { MarksNulls (option_copied validity)
+        (masked (option_copied validity) (map I.slot stored.now)) }
+    requires within { row < length stored.now }
+    requires inside { AreIndices (length bits.now) (masked (option_copied validity) (map I.slot stored.now)) }
+    ensures { result ≡ named_bit bits.now
+        (slice_index_or (masked (option_copied validity.entry) (map I.slot stored.now)) row Null) }
+{
+    let bit = bits.get_bit(index_at(stored, validity, row).unwrap_or(0));
+    is_valid(validity, row) & bit
+}
+
+// The validity of the rows that the indices name, where theirs is `validity`: a row is null where the index is, or the
+// row that it names. There is none where neither has one.
+pub(super) fn take_validity<I: Index>(
+    alloc: Global,
+    validity: Option<&Bitmap>,
+    indices: &PrimitiveArray<I>,
+) -> Result<Option<Bitmap>, Error>
+    requires { IfSome (option_copied validity)
+        (λ bits. AreIndices (length bits) (rows_by (map I.slot) indices.now)) }
+    ensures ok { IfOk result (λ taken.
+        MarksTaken (option_copied validity.entry) (rows_by (map I.slot) indices.now) taken) }
+    ensures err { IsOkUnless result Error.OutOfMemory }
+{
+    match (validity, indices.validity()) {
+        (None, None) => Ok(None),
+        (None, Some(validity)) => Ok(Some(validity.clone()?)),
+        (Some(bits), _) => Ok(Some(gather_bits(alloc, bits, indices)?)),
+    }
+}
+
+// The same indices, null where the row that they name is null under this validity of the rows by index.
+pub(super) fn valid_indices<I: Index>(
+    indices: &PrimitiveArray<I>,
+    taken: &Option<Bitmap>,
+    validity: Option<&Bitmap>,
+) -> Result<PrimitiveArray<I>, Error>
+    requires { MarksTaken (option_copied validity) (rows_by (map I.slot) indices.now) taken.now }
+    ensures ok { IfOk result (λ valid. rows_by (map I.slot) valid
+        ≡ map (valid_index (option_copied validity.entry)) (rows_by (map I.slot) indices.now)) }
+    ensures err { IsOkUnless result Error.OutOfMemory }
+{
+    // The validity of the indices has a bit for each.
+    let _ = indices.validity();
+    Ok(indices.clone()?.with_validity(taken.clone()?))
+}
