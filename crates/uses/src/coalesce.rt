@@ -4,7 +4,7 @@ ghost use Rattle.std.specs.Prelude.{◌≡◌, ◌≢◌, Err, IfOk, IfErr};
 ghost use Rattle.gevaindy.specs.Errors.ArgumentFault.{ArgumentFault};
 ghost use Rattle.gevaindy.specs.Errors.Error.{Error};
 ghost use Rattle.gevaindy.specs.Any.{any_array_rows, any_array_type};
-ghost use Rattle.gevaindy.specs.Refusals.{IsIfThenElseRefusal};
+ghost use Rattle.gevaindy.specs.ChoiceRefusals.{IsIfThenElseRefusal};
 ghost use Rattle.gevaindy.specs.RowByRow.{row_by_row};
 ghost use Rattle.uses.specs.Coalesced.{or_else};
 
