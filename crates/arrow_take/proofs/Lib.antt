@@ -1,11 +1,16 @@
 pub mod AnswerLemmas
+pub mod DenseRows
 pub mod IndexLemmas
+pub mod KeptLemmas
+pub mod RankLemmas
 pub mod SpanLemmas
 pub mod SparseRows
 pub mod TakenBytes
 pub mod TakenFields
 pub mod TakenKeys
+pub mod TakenPlaces
 pub mod TakenRows
 pub mod TakenRuns
 pub mod TakenTypes
+pub mod TakenUnions
 pub mod TakenVariants

@@ -23,9 +23,9 @@ use Rattle.arrow_arrays.specs.TypeParts.{field_types, mode_in}
 use Rattle.arrow_arrays.specs.UnionParts.{IsKnown, union_rows}
 use Rattle.arrow_growable.specs.Variants.{field_part, part_of_id, variant_type}
 use Rattle.arrow_growable.proofs.UnionRunLemmas.{rows_are}
-use Rattle.arrow_growable.proofs.UnionTypeLemmas.{FitsPlaces, fits_variants, ids_apart, variant_fits}
+use Rattle.arrow_growable.proofs.UnionTypeLemmas.{FitsPlaces, fits_variants, ids_apart}
 use Rattle.arrow_growable.proofs.VariantColumns.{AreApart, own_column}
-use Rattle.arrow_take.specs.SparseUnions.{HasPart, HaveParts, SomePartDoesNotFit}
+use Rattle.arrow_take.specs.SparseUnions.{HasPart, HaveParts}
 
 -- one row of a union, by its type id and its place
 pub item_at : (ids : _) (columns : List (List Slot)) (types : List ℤ) (places : List ℕ) (i : ℕ) (d : ℤ) → i < length types → i < length places → get_or (union_items ids columns types places) i Null ≡ variant_at ids columns (get_or types i d) (get_or places i 0)
@@ -33,7 +33,7 @@ item_at ids columns types places i d here there =
     get_or-map (λ row. variant_at ids columns row.0 row.1) (zip types places) i (d, 0) Null (omega (arith, here, there, length-zip types places)) ∙ ap (λ (row : ℤ × ℕ). variant_at ids columns row.0 row.1) (get_or-zip types places i (d, 0) here there)
 
 -- what holds of each array holds of the list
-types_of : (arrays : List AnyArray) (us : List ArrowType) → length arrays ≡ length us → ((f : ℕ) (d : AnyArray) → f < length arrays → any_array_type (get_or arrays f d) ≡ get_or us f (plain null)) → map any_array_type arrays ≡ us
+pub types_of : (arrays : List AnyArray) (us : List ArrowType) → length arrays ≡ length us → ((f : ℕ) (d : AnyArray) → f < length arrays → any_array_type (get_or arrays f d) ≡ get_or us f (plain null)) → map any_array_type arrays ≡ us
 types_of [] [] many each = refl
 types_of [] (u ∷ us) many each = absurd (omega (arith, many))
 types_of (x ∷ arrays) [] many each = absurd (omega (arith, many))
@@ -47,13 +47,13 @@ rows_long [] n each = All-nil (λ l. length (rows l) ≡ n)
 rows_long (x ∷ arrays) n each =
     All-cons (λ l. length (rows l) ≡ n) (layout_of x) (map layout_of arrays) (each 0 x (omega arith)) (rows_long arrays n (λ f d within. each (suc f) d (omega (arith, within))))
 
-column_of : (arrays : List AnyArray) (f : ℕ) (ys : List Slot) → f < length arrays → ((d : AnyArray) → f < length arrays → any_array_rows (get_or arrays f d) ≡ ys) → get_or (map rows (map layout_of arrays)) f [] ≡ ys
+pub column_of : (arrays : List AnyArray) (f : ℕ) (ys : List Slot) → f < length arrays → ((d : AnyArray) → f < length arrays → any_array_rows (get_or arrays f d) ≡ ys) → get_or (map rows (map layout_of arrays)) f [] ≡ ys
 column_of [] f ys within each = absurd (omega (arith, within))
 column_of (x ∷ arrays) zero ys within each = each x within
 column_of (x ∷ arrays) (suc f) ys within each =
     column_of arrays f ys (omega (arith, within)) (λ d inside. each d within)
 
-array_fits : (arrays : List AnyArray) (f : ℕ) (u : ArrowType) (ys : List Slot) → f < length arrays → ((d : AnyArray) → f < length arrays → (any_array_type (get_or arrays f d) ≡ u) × (any_array_rows (get_or arrays f d) ≡ ys) × Fits (any_array_type (get_or arrays f d)) (any_array_rows (get_or arrays f d))) → Fits u ys
+pub array_fits : (arrays : List AnyArray) (f : ℕ) (u : ArrowType) (ys : List Slot) → f < length arrays → ((d : AnyArray) → f < length arrays → (any_array_type (get_or arrays f d) ≡ u) × (any_array_rows (get_or arrays f d) ≡ ys) × Fits (any_array_type (get_or arrays f d)) (any_array_rows (get_or arrays f d))) → Fits u ys
 array_fits [] f u ys within each = absurd (omega (arith, within))
 array_fits (x ∷ arrays) zero u ys within each =
     let here = each x within in
@@ -85,11 +85,6 @@ module _ (t : ArrowType) (kind : IsCarriedAs physical.Union t) (mode : mode_in t
   part_row : (g : ℕ) (id : ℤ) (w : Slot) → id_of g ≡ id → sparse_part (id_of g) (variant_type t g) (Variant id w) ≡ w
   part_row g id w same =
       ap (λ b. if b then w else null_slot (variant_type t g)) ((Decides-int_eq (id_of g) id).1 same)
-
-  -- and what each has fits where they do
-  pub parts_pass : SomePartDoesNotFit t made → Fits t made → ⊥
-  parts_pass some_part fits =
-      some_part.2 (variant_fits t some_part.0 made kind.1 some_part.1 fits).1
 
   -- arrays of what each field has
   module _ (arrays : List AnyArray) (count : length arrays ≡ length (field_types t)) (have : HaveParts t made arrays) where

@@ -16,7 +16,7 @@ use Rattle.arrow_types.specs.declared.datatypes.Field.{Field}
 use Rattle.arrow_types.specs.declared.datatypes.physical_type.PhysicalType.TheVariants as physical
 use Rattle.arrow_types.specs.ArrowType.{ArrowFields, ArrowType, from_fields, null, plain, type_in, union}
 use Rattle.arrow_types.specs.Carried.{AreTypeIds, IsCarried, IsTypeId}
-use Rattle.arrow_types.specs.Fits.{Fits, sparse_part}
+use Rattle.arrow_types.specs.Fits.{sparse_part}
 use Rattle.arrow_types.specs.Relation.{is_null}
 use Rattle.arrow_types.specs.Rows.{gather, gathered, valid_at}
 use Rattle.arrow_types.specs.Slot.{Slot, Null, Number, Variant, id_at, null_slot}
@@ -43,7 +43,7 @@ use Rattle.arrow_growable.proofs.UnionRunLemmas.{rows_are}
 use Rattle.arrow_growable.proofs.UnionTypeLemmas.{ids_apart, null_variant}
 use Rattle.arrow_growable.proofs.VariantColumns.{AreApart, own_column}
 use Rattle.arrow_take.specs.Taken.{named_bit, valid_index}
-use Rattle.arrow_take.specs.SparseUnions.{HasPart, IsSparse, PartDoesNotFit, have_id, taken_id}
+use Rattle.arrow_take.specs.SparseUnions.{IsSparse, have_id, taken_id}
 use Rattle.arrow_take.proofs.IndexLemmas.{each_index, map-agree}
 use Rattle.arrow_take.proofs.SparseRows.{item_at}
 use Rattle.arrow_take.proofs.TakenFields.{valid_keys}
@@ -64,7 +64,7 @@ mutual
   depth_of_parts (more_layouts l ls) offset len =
       λ i. max (depth_of_part l offset len i) (depth_of_parts ls offset len i)
 
-union_depth : (u : ArrowType) (types : List ℤ) (child_rows : Option (List ℕ)) (start : ℕ) (children : List Layout) → depth (union_layout_by u types child_rows start children) ≡ suc (depth_of_all (to_layouts children))
+pub union_depth : (u : ArrowType) (types : List ℤ) (child_rows : Option (List ℕ)) (start : ℕ) (children : List Layout) → depth (union_layout_by u types child_rows start children) ≡ suc (depth_of_all (to_layouts children))
 union_depth u types None start children = refl
 union_depth u types (Some child_rows) start children = refl
 
@@ -264,15 +264,6 @@ module _ (p : UnionParts) (held : IsSparse p) (indices : List Slot) (keys : AreK
           let deep = depth_at layout_of fields f a within in
           omega (arith, ap depth cut ∙ depth_of_part (layout_of a) p.start (length p.types), ap (λ x. depth (layout_of x)) read, deep, ap (λ ls. depth_of_all (to_layouts ls)) children, union_depth p.arrow_type p.types p.child_rows p.start p.children)
 
-      q_taken : gather (any_array_rows q) (map (own f) indices) (any_array_type q) ≡ field_part t f made
+      pub q_taken : gather (any_array_rows q) (map (own f) indices) (any_array_type q) ≡ field_part t f made
       q_taken =
           (λ i. gather (q_rows i) (map (own f) indices) (q_type i)) ∙ field_taken f inside
-
-      -- what is taken of the part is what the field has of the rows
-      pub part_taken : (taken : AnyArray) → any_array_type taken ≡ any_array_type q → any_array_rows taken ≡ gather (any_array_rows q) (map (own f) indices) (any_array_type q) → Fits (any_array_type taken) (any_array_rows taken) → HasPart t made f taken
-      part_taken taken type rows fits =
-          record { array_type = type ∙ q_type; rows = rows ∙ q_taken; fits = fits }
-
-      pub part_passes : (Fits (any_array_type q) (gather (any_array_rows q) (map (own f) indices) (any_array_type q)) → ⊥) → PartDoesNotFit t made f
-      part_passes over fits =
-          over (subst {A = ArrowType × List Slot} (λ r. Fits r.0 r.1) (λ i. (sym q_type i, sym q_taken i)) fits)

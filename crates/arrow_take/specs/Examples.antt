@@ -6,6 +6,7 @@ use Rattle.arrow_types.specs.declared.datatypes.UnionMode.TheVariants.{Dense, Sp
 use Rattle.arrow_types.specs.ArrowType.{ArrowType, decimal256, extension, field, fixed_size_binary, integer, list, mapped, more_fields, no_fields, plain, small, struct, union, utf8}
 use Rattle.arrow_types.specs.Rows.{gather}
 use Rattle.arrow_types.specs.Slot.{Bytes, Items, Null, Number, Parts as fields, Text, Variant, more_slots, no_slots}
+use Rattle.arrow_take.specs.DenseUnions.{kept, ranks}
 use Rattle.arrow_take.specs.Taken.{IsTaken, taken_row}
 
 -- maps are listed, also in a struct and in a union, and whatever is inside a list
@@ -56,6 +57,13 @@ struct_of_union_taken = refl
 -- the dense union [1, "b"], [0, 4], [1, "a"], whose fields have the ids 0 and 1, by [2, 0, 0, null]
 dense_taken : gather (Variant (pos 1) (Text (98 ∷ [])) ∷ Variant (pos 0) (Number (pos 4)) ∷ Variant (pos 1) (Text (97 ∷ [])) ∷ []) (Number (pos 2) ∷ Number (pos 0) ∷ Number (pos 0) ∷ Null ∷ []) (union Dense None (more_fields (field [] (plain (integer Int32)) true) (more_fields (field [] (plain utf8) true) no_fields))) ≡ Variant (pos 1) (Text (97 ∷ [])) ∷ Variant (pos 1) (Text (98 ∷ [])) ∷ Variant (pos 1) (Text (98 ∷ [])) ∷ Variant (pos 0) Null ∷ []
 dense_taken = refl
+
+-- its offsets and type ids, and the places by which its second field is taken
+dense_ranks : ranks (pos 1 ∷ pos 1 ∷ pos 1 ∷ pos 0 ∷ []) ≡ 0 ∷ 1 ∷ 2 ∷ 0 ∷ []
+dense_ranks = refl
+
+own_places_kept : kept (true ∷ true ∷ true ∷ false ∷ []) (Number (pos 0) ∷ Number (pos 1) ∷ Number (pos 1) ∷ Null ∷ []) ≡ Number (pos 0) ∷ Number (pos 1) ∷ Number (pos 1) ∷ []
+own_places_kept = refl
 
 -- bytes of size 2, "ab", null and "cd", by [2, 1, null, 0]
 fixed_taken : gather (Bytes (97 ∷ 98 ∷ []) ∷ Null ∷ Bytes (99 ∷ 100 ∷ []) ∷ []) (Number (pos 2) ∷ Number (pos 1) ∷ Null ∷ Number (pos 0) ∷ []) (plain (fixed_size_binary 2)) ≡ Bytes (99 ∷ 100 ∷ []) ∷ Null ∷ Null ∷ Bytes (97 ∷ 98 ∷ []) ∷ []

@@ -1,4 +1,5 @@
 pub mod Answers
+pub mod DenseUnions
 pub mod Examples
 pub mod Spans
 pub mod SparseUnions

@@ -15,6 +15,7 @@ mod append;
 pub mod binary;
 pub mod boolean;
 mod bytes;
+mod dense;
 pub mod dict;
 pub mod fixed_size_binary;
 pub mod fixed_size_list;

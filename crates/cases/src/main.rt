@@ -1,7 +1,6 @@
 //! The program `cases`: answers the lines of standard input on standard output.
 #![tactic(auto)]
 
-mod logic;
 mod select;
 
 use arrow_text::call::Call;
@@ -16,7 +15,7 @@ fn answer(alloc: Global, line: &str, out: &mut String) -> Result<bool, Fault> {
     Ok(
         cases_arrays::answer(alloc, &call, out)?
             || select::answer(alloc, &call, out)?
-            || logic::answer(alloc, &call, out)?,
+            || cases_logic::answer(alloc, &call, out)?,
     )
 }
 

@@ -1,7 +1,7 @@
-//! Unions by index. Of a sparse one, the type ids and each field are taken by index; over a dense one there is a growable, to
-//! which runs of its rows are appended.
+//! Unions by index: the type ids, and each field by the indices of its own rows. Where these have no room for the places of
+//! a dense union's rows, runs of rows are appended to a growable.
 
-ghost use Rattle.std.specs.Prelude.{◌≡◌, ◌<◌, ◌&&◌, [], ◌∷◌, Err, Some, length, map, option_copied, slice_index_or, IfErr, IfOk, IfSome, IsOkUnless};
+ghost use Rattle.std.specs.Prelude.{◌≡◌, ◌<◌, ◌&&◌, [], ◌∷◌, Err, Some, length, map, option_copied, option_map, slice_index_or, IfErr, IfOk, IfSome, IsOkUnless};
 ghost use Rattle.std.specs.Ordering.{int_eq};
 ghost use Rattle.arrow_types.specs.declared.error.Error.{Error};
 ghost use Rattle.arrow_types.specs.declared.datatypes.physical_type.PhysicalType.TheVariants as physical;
@@ -16,9 +16,11 @@ ghost use Rattle.arrow_arrays.specs.TypeParts.{field_types};
 ghost use Rattle.arrow_arrays.specs.UnionParts.{union_layout, union_rows};
 ghost use Rattle.arrow_flat_growable.specs.Grown.{bound_to};
 ghost use Rattle.arrow_take.specs.Taken.{AnswersUnions, AreIndices, valid_index};
-ghost use Rattle.arrow_take.specs.SparseUnions.{HasPart, HaveParts, IsSparse, PartDoesNotFit, SomePartDoesNotFit, have_id, id_or, taken_id};
+ghost use Rattle.arrow_take.specs.SparseUnions.{HasPart, HaveParts, PartDoesNotFit, SomePartDoesNotFit, have_id, id_or, taken_id};
+ghost use Rattle.arrow_take.specs.DenseUnions.{ArePlaces, CanName, HasUnionParts, NamesPart};
 
 use crate::take::append::append_taken;
+use crate::take::dense::{can_name, own_places, take_offsets, take_places};
 use crate::take::indices::index_at;
 use crate::validity::is_valid;
 use arrow_arrays::array::{AnyArray, UnionArray};
@@ -53,14 +55,16 @@ pub fn take<I: Index>(
     // The type, the fields and the ids are those of a union, with an id a row.
     let (_, _, _) = (values.data_type(), values.fields(), values.types());
     let _ = values.len();
-    match values.offsets() {
-        None => take_sparse(alloc, values, indices),
-        Some(_) => take_dense(alloc, values, indices),
+    let _ = values.offsets();
+    if can_name::<I>(values) {
+        take_parts(alloc, values, indices)
+    } else {
+        take_runs(alloc, values, indices)
     }
 }
 
-// Those of a dense union, by a growable over it.
-fn take_dense<I: Index>(
+// The same, by a growable over the array.
+fn take_runs<I: Index>(
     alloc: Global,
     values: &UnionArray,
     indices: &PrimitiveArray<I>,
@@ -73,7 +77,7 @@ fn take_dense<I: Index>(
     grown(growable, values, values.len(), indices)
 }
 
-// The same, by a growable over the array that has no row yet.
+// The same, by a growable that has no row yet.
 fn grown<'a, I: Index>(
     growable: GrowableUnion<'a>,
     values: &UnionArray,
@@ -90,24 +94,27 @@ fn grown<'a, I: Index>(
     growable.into_array()
 }
 
-// Those of a sparse union: its type ids, and what each field has of the rows.
+// The same, by the type ids and what each field has of the rows.
 #[cycle(take)]
-fn take_sparse<I: Index>(
+fn take_parts<I: Index>(
     alloc: Global,
     values: &UnionArray,
     indices: &PrimitiveArray<I>,
 ) -> Result<UnionArray, Error>
-    requires sparse { IsSparse values.now }
+    requires union { HasUnionParts values.now }
+    requires named { CanName I.greatest values.now }
     requires inside { AreIndices (length values.now.types) (rows_by (map I.slot) indices.now) }
     ensures answer { AnswersUnions result values.now (rows_by (map I.slot) indices.now) }
 {
     // There are at most as many indices as a `usize` counts.
     let _ = indices.len();
     let types = take_types(alloc, values, indices)?;
-    let fields = take_fields(alloc, values, indices, &types)?;
+    let places = take_places(alloc, values, indices)?;
+    let offsets = take_offsets(alloc, values, &types)?;
+    let fields = take_fields(alloc, values, indices, &types, places.as_ref())?;
     let types = Buffer::from_vec(alloc, types)?;
     let data_type = values.data_type().clone()?;
-    Ok(UnionArray::new(data_type, types, fields, None))
+    Ok(UnionArray::new(data_type, types, fields, offsets))
 }
 
 // The type id of each row that the indices name, and that of the first field where an index is null.
@@ -116,7 +123,7 @@ fn take_types<I: Index>(
     values: &UnionArray,
     indices: &PrimitiveArray<I>,
 ) -> Result<Vec<i8>, Error>
-    requires sparse { IsSparse values.now }
+    requires union { HasUnionParts values.now }
     requires inside { AreIndices (length values.now.types) (rows_by (map I.slot) indices.now) }
     ensures ok { IfOk result (λ types. types.items
         ≡ map (taken_id values.now) (rows_by (map I.slot) indices.now)) }
@@ -162,17 +169,21 @@ pub fn id_of_field(data_type: &DataType, f: usize) -> i8
     }
 }
 
-// What each field has of the rows that the indices name, of which `types` are the type ids.
+// What each field has of the rows that the indices name: these have the ids `types`, and are in a dense union those rows of
+// its children.
 #[cycle(take)]
 fn take_fields<I: Index>(
     alloc: Global,
     values: &UnionArray,
     indices: &PrimitiveArray<I>,
     types: &[i8],
+    places: Option<&PrimitiveArray<I>>,
 ) -> Result<Vec<AnyArray>, Error>
-    requires sparse { IsSparse values.now }
+    requires union { HasUnionParts values.now }
     requires inside { AreIndices (length values.now.types) (rows_by (map I.slot) indices.now) }
     requires types { types.now ≡ map (taken_id values.now) (rows_by (map I.slot) indices.now) }
+    requires places { ArePlaces values.now (rows_by (map I.slot) indices.now)
+        (option_map (rows_by (map I.slot)) (option_copied places)) }
     ensures count { IfOk result (λ fields. length fields.items
         ≡ length (field_types values.now.arrow_type)) }
     ensures parts { IfOk result (λ fields. HaveParts values.now.arrow_type
@@ -185,23 +196,26 @@ fn take_fields<I: Index>(
     let count = values.fields().len();
     let mut fields = Vec::with_capacity(alloc, count)?;
     for f in 0..count {
-        fields.push(take_field(alloc, values, indices, types, f)?)?;
+        fields.push(take_field(alloc, values, indices, types, places, f)?)?;
     }
     Ok(fields)
 }
 
-// What a field has of the rows that the indices name: its own by index, and a null slot for each other.
+// What a field has of these rows.
 #[cycle(take)]
 fn take_field<I: Index>(
     alloc: Global,
     values: &UnionArray,
     indices: &PrimitiveArray<I>,
     types: &[i8],
+    places: Option<&PrimitiveArray<I>>,
     f: usize,
 ) -> Result<AnyArray, Error>
-    requires sparse { IsSparse values.now }
+    requires union { HasUnionParts values.now }
     requires inside { AreIndices (length values.now.types) (rows_by (map I.slot) indices.now) }
     requires types { types.now ≡ map (taken_id values.now) (rows_by (map I.slot) indices.now) }
+    requires places { ArePlaces values.now (rows_by (map I.slot) indices.now)
+        (option_map (rows_by (map I.slot)) (option_copied places)) }
     requires field { f < length values.now.children }
     ensures part { IfOk result (HasPart values.now.arrow_type
         (gather (union_rows values.now) (rows_by (map I.slot) indices.now) values.now.arrow_type) f) }
@@ -209,13 +223,52 @@ fn take_field<I: Index>(
         (gather (union_rows values.now) (rows_by (map I.slot) indices.now) values.now.arrow_type) f }
     ensures others { IfErr result IsGrowthError }
 {
-    let id = id_of_field(values.data_type(), f);
-    let own = own_indices(alloc, values, indices, types, id)?;
-    let part = values.fields()[f]
-        .clone()?
-        .sliced(values.start(), values.len());
-    let taken = crate::take::take(alloc, &part, &own)?;
+    let (child, own) = part_of_field(alloc, values, indices, types, places, f)?;
+    let taken = crate::take::take(alloc, &child.array, &own)?;
     Ok(taken)
+}
+
+// Rows of a field: a struct, so that these are let go by a call and not kind by kind.
+#[derive(Drop)]
+struct Child {
+    array: AnyArray,
+}
+
+// The rows of a field, and the indices of those that it has of these rows. In a sparse union they lie beside the union's
+// own, and the indices are the same, null where the row is of another field.
+fn part_of_field<I: Index>(
+    alloc: Global,
+    values: &UnionArray,
+    indices: &PrimitiveArray<I>,
+    types: &[i8],
+    places: Option<&PrimitiveArray<I>>,
+    f: usize,
+) -> Result<(Child, PrimitiveArray<I>), Error>
+    requires union { HasUnionParts values.now }
+    requires inside { AreIndices (length values.now.types) (rows_by (map I.slot) indices.now) }
+    requires types { types.now ≡ map (taken_id values.now) (rows_by (map I.slot) indices.now) }
+    requires places { ArePlaces values.now (rows_by (map I.slot) indices.now)
+        (option_map (rows_by (map I.slot)) (option_copied places)) }
+    requires field { f < length values.now.children }
+    ensures ok { IfOk result (λ named. NamesPart values.now (rows_by (map I.slot) indices.now) f
+        named.0.array (rows_by (map I.slot) named.1)) }
+    ensures err { IsOkUnless result Error.OutOfMemory }
+{
+    let id = id_of_field(values.data_type(), f);
+    match places {
+        None => {
+            let own = own_indices(alloc, values, indices, types, id)?;
+            let array = values.fields()[f]
+                .clone()?
+                .sliced(values.start(), values.len());
+            Ok((Child { array }, own))
+        }
+        Some(places) => {
+            let own = own_places(alloc, places, types, id)?;
+            let array = values.fields()[f].clone()?;
+            Ok((Child { array }, own))
+        }
+    }
 }
 
 // The same indices, null where the row that they name is not of the field with this id. Their rows have the ids `types`.

@@ -1,42 +1,40 @@
-use Rattle.std.proofs.Common.{◌≡◌, ◌+◌, ◌<◌, ◌∙◌, [], ◌∷◌, Err, None, Some, arith, ap, length, map, of_z, refl, rules, subst, sym, to_z, w8}
-use Rattle.std.specs.Prelude.{option_copied}
-use Rattle.std.proofs.lemmas.Int.{ints, to_z-of_z}
+use Rattle.std.proofs.Common.{◌≡◌, ◌+◌, ◌<◌, ◌^◌, ◌∙◌, [], ◌∷◌, Err, arith, ap, length, map, refl, rules, subst, sym}
+use Rattle.std.specs.Prelude.{option_map}
 use Rattle.std.specs.List.{All}
 use Rattle.std.proofs.lemmas.List.{length-append, length-map, take_all}
 use Rattle.std.proofs.lemmas.List.Elements.{All-more, All-same}
 use Rattle.std.proofs.lemmas.Option.{slice_get_read}
 use Rattle.arrow_types.specs.declared.datatypes.physical_type.PhysicalType.{PhysicalType}
 use Rattle.arrow_types.specs.declared.datatypes.physical_type.PhysicalType.TheVariants as physical
+use Rattle.arrow_types.specs.declared.datatypes.UnionMode.TheVariants.{Dense}
+use Rattle.arrow_types.specs.Carried.{IsTypeId}
 use Rattle.arrow_types.specs.Fits.{Fits}
 use Rattle.arrow_types.specs.Physical.{physical_type_of}
 use Rattle.arrow_types.specs.Rows.{gather}
-use Rattle.arrow_types.specs.Slot.{id_at}
 use Rattle.arrow_types.specs.TypeOf.{type_of}
 use Rattle.arrow_types.proofs.SlotLemmas.{null_slot-no_union}
-use Rattle.arrow_memory.specs.Sliced.{sliced}
-use Rattle.arrow_flat.specs.Faults.{IsCarriedAs}
 use Rattle.arrow_flat.specs.Parts.{rows_by}
 use Rattle.arrow_flat_growable.proofs.ResultLemmas.{passed_on}
 use Rattle.arrow_arrays.specs.Any.{any_array_rows, any_array_type, layout_of}
 use Rattle.arrow_arrays.specs.KeyedParts.{AreKeys}
-use Rattle.arrow_arrays.specs.Layout.{depth, depth_of_all, field_ids, to_layouts, type_of_layout}
-use Rattle.arrow_arrays.specs.SliceOf.{slice_of}
+use Rattle.arrow_arrays.specs.Layout.{depth, depth_of_all, to_layouts, type_of_layout}
 use Rattle.arrow_arrays.specs.StructParts.{FitsColumns, IsStruct, struct_rows}
-use Rattle.arrow_arrays.specs.TypeParts.{field_types}
-use Rattle.arrow_arrays.specs.UnionParts.{FitsMode, mode_by, union_rows}
+use Rattle.arrow_arrays.specs.TypeParts.{field_types, mode_in}
+use Rattle.arrow_arrays.specs.UnionParts.{HoldsUnion, child_rows_of, union_rows}
 use Rattle.arrow_arrays.proofs.DepthLemmas.{depth_at}
 use Rattle.arrow_growable.proofs.KindLemmas.{type_of_structs}
 use Rattle.arrow_growable.proofs.UnionLoopLemmas.{union_type}
 use Rattle.arrow_growable.proofs.UnionMakeLemmas.{type_of_unions}
 use Rattle.arrow_take.specs.Taken.{MarksTaken, SomeDoNotFit, taken_rows, valid_index}
-use Rattle.arrow_take.specs.SparseUnions.{HasPart, HaveParts, IsSparse, have_id, taken_id}
+use Rattle.arrow_take.specs.SparseUnions.{HasPart, HaveParts, taken_id}
+use Rattle.arrow_take.specs.DenseUnions.{ArePlaces, HasOffsets, HasUnionParts, SomeRankPasses}
 use Rattle.arrow_take.proofs.AnswerLemmas.{passes_on}
 use Rattle.std.proofs.lemmas.Simd.{map-map}
 use Rattle.arrow_take.proofs.TakenFields.{columns_inside, fields_fit, fields_pass, fields_taken, taken_fits}
 use Rattle.arrow_growable.proofs.FieldColumns.{makes_next}
 use Rattle.arrow_take.proofs.IndexLemmas.{length-gather}
-use Rattle.arrow_take.proofs.SparseRows.{arrays_fit, arrays_known, arrays_long, arrays_rows, arrays_typed, no_parts, parts_next, parts_pass}
-use Rattle.arrow_take.proofs.TakenVariants.{all_named, as_long, no_rows, part_passes, part_taken, q_depth, q_inside, spans_rows}
+use Rattle.arrow_take.proofs.SparseRows.{no_parts, parts_next}
+use Rattle.arrow_take.proofs.TakenUnions.{ids_counted, part_passes, part_taken, parts_pass, union_made, union_passes}
 use Rattle.arrow_take.proofs.take.+take.Goals as goal
 
 no_both : {p : PhysicalType} → p ≡ physical.Struct → p ≡ physical.Union → ⊥
@@ -178,76 +176,37 @@ structure::take-returns-clause-fits g t c =
     let fit = fields_fit p columns held c.values.ensures.same none indices c.requires.inside (omega (arith, c.len.ensures.rows)) fits in
     subst (λ u. Fits u (struct_rows c.new.result)) (sym same) (subst (Fits p.arrow_type) (sym (structure::take-returns-clause-rows g t c)) fit)
 
--- sparse unions
+-- unions
 
-pub union::take-take_sparse-requires : goal.union::take-take_sparse-requires
-union::take-take_sparse-requires g t c κs within =
+pub union::take-take_parts-requires : goal.union::take-take_parts-requires
+union::take-take_parts-requires g t c κs within =
     let p = c.args.values.now in
-    let kind : IsCarriedAs physical.Union p.arrow_type = (c.data_type.ensures.carried, type_of_unions (physical_type_of p.arrow_type) c.data_type.ensures.kind) in
-    let none = no_rows p.child_rows (sym (ap option_copied c.in-None.is) ∙ c.offsets.ensures.same) in
-    let sparse : IsSparse p = record {
-      kind = kind;
-      mode = c.offsets.ensures.mode ∙ ap mode_by none;
-      child_rows = none;
+    let held : HasUnionParts p = record {
+      kind = (c.data_type.ensures.carried, type_of_unions (physical_type_of p.arrow_type) c.data_type.ensures.kind);
+      mode = c.offsets.ensures.mode;
       fields = c.fields.ensures.fields;
       some = c.fields.ensures.some;
       spans = c.fields.ensures.spans;
+      long = sym c.len.ensures.rows ∙ c.len.ensures.types;
       known = c.types.ensures.known;
     } in
-    (omega (arith, c.decreases), (within, (sparse, subst (λ n. AreKeys n (rows_by (map g.I.NativeType.slot) c.args.indices.now)) (sym c.len.ensures.rows ∙ c.len.ensures.types) c.requires.inside)))
-
-pub union::take_field-sliced-part-requires : goal.union::take_field-sliced-part-requires
-union::take_field-sliced-part-requires g t c =
-    let p = c.args.values.now in
-    let indices = rows_by (map g.I.NativeType.slot) c.args.indices.now in
-    let fields = c.fields.result.now in
-    let among : c.args.f < length fields = omega (arith, c.requires.field, length-map fields layout_of, ap length c.fields.ensures.same) in
-    let spans = spans_rows p c.requires.sparse indices c.requires.inside fields c.fields.ensures.same c.args.f among c.index-fields-f.result c.index-fields-f.is in
-    search rules
+    (omega (arith, c.decreases), (within, (held, (c.if-can_name.ensures refl, subst (λ n. AreKeys n (rows_by (map g.I.NativeType.slot) c.args.indices.now)) held.long c.requires.inside))))
 
 pub union::take_field-take-requires : goal.union::take_field-take-requires
 union::take_field-take-requires g t c κs within =
-    let p = c.args.values.now in
-    let indices = rows_by (map g.I.NativeType.slot) c.args.indices.now in
-    let fields = c.fields.result.now in
-    let among : c.args.f < length fields = omega (arith, c.requires.field, length-map fields layout_of, ap length c.fields.ensures.same) in
-    let id : to_z w8 (of_z w8 c.id_of_field-id.result) ≡ id_at (field_ids p.arrow_type) c.args.f = to_z-of_z w8 c.id_of_field-id.result (omega (arith, ints, c.id_of_field-id.type_inv)) ∙ (c.id_of_field-id.ensures ∙ ap (λ u. id_at (field_ids u) c.args.f) c.data_type.ensures.same) in
-    let own = c.in_ok-own.ensures.ok ∙ ap (λ k. map (valid_index (Some (have_id k p.types))) indices) id in
-    let part = c.sliced-part.result in
-    let cut : layout_of part ≡ slice_of (layout_of c.index-fields-f.result) p.start (length p.types) = search rules in
-    let cut_rows : any_array_rows part ≡ sliced (any_array_rows c.index-fields-f.result) p.start (length p.types) = search rules in
-    let deep = q_depth p c.requires.sparse indices c.requires.inside fields c.fields.ensures.same c.args.f among c.index-fields-f.result c.index-fields-f.is part cut cut_rows in
-    let inside = q_inside p c.requires.sparse indices c.requires.inside fields c.fields.ensures.same c.args.f among c.index-fields-f.result c.index-fields-f.is part cut cut_rows in
-    (omega (arith, c.decreases, deep), (within, subst (AreKeys (length (any_array_rows part))) (sym own) inside))
+    let names = c.in_ok-child.ensures.ok in
+    (omega (arith, c.decreases, names.less_deep), (within, names.inside))
 
 pub union::take_field-returns-in_err-taken-clause-overflow :
     goal.union::take_field-returns-in_err-taken-clause-overflow
 union::take_field-returns-in_err-taken-clause-overflow g t c overflows =
-    let p = c.args.values.now in
-    let indices = rows_by (map g.I.NativeType.slot) c.args.indices.now in
-    let fields = c.fields.result.now in
-    let among : c.args.f < length fields = omega (arith, c.requires.field, length-map fields layout_of, ap length c.fields.ensures.same) in
-    let id : to_z w8 (of_z w8 c.id_of_field-id.result) ≡ id_at (field_ids p.arrow_type) c.args.f = to_z-of_z w8 c.id_of_field-id.result (omega (arith, ints, c.id_of_field-id.type_inv)) ∙ (c.id_of_field-id.ensures ∙ ap (λ u. id_at (field_ids u) c.args.f) c.data_type.ensures.same) in
-    let own = c.in_ok-own.ensures.ok ∙ ap (λ k. map (valid_index (Some (have_id k p.types))) indices) id in
-    let part = c.sliced-part.result in
-    let cut : layout_of part ≡ slice_of (layout_of c.index-fields-f.result) p.start (length p.types) = search rules in
-    let cut_rows : any_array_rows part ≡ sliced (any_array_rows c.index-fields-f.result) p.start (length p.types) = search rules in
     let over = c.in_err-taken.ensures.overflow (ap Err (passed_on c.from_residual-in_err-taken.result _ _ c.from_residual-in_err-taken.ensures.1 overflows)) in
-    part_passes p c.requires.sparse indices c.requires.inside fields c.fields.ensures.same c.args.f among c.index-fields-f.result c.index-fields-f.is part cut cut_rows (subst (λ is. Fits (any_array_type part) (gather (any_array_rows part) is (any_array_type part)) → ⊥) own over)
+    part_passes c.args.values.now (rows_by (map g.I.NativeType.slot) c.args.indices.now) c.args.f _ _ c.in_ok-child.ensures.ok over
 
 pub union::take_field-returns-clause-part : goal.union::take_field-returns-clause-part
 union::take_field-returns-clause-part g t c =
-    let p = c.args.values.now in
-    let indices = rows_by (map g.I.NativeType.slot) c.args.indices.now in
-    let fields = c.fields.result.now in
-    let among : c.args.f < length fields = omega (arith, c.requires.field, length-map fields layout_of, ap length c.fields.ensures.same) in
-    let id : to_z w8 (of_z w8 c.id_of_field-id.result) ≡ id_at (field_ids p.arrow_type) c.args.f = to_z-of_z w8 c.id_of_field-id.result (omega (arith, ints, c.id_of_field-id.type_inv)) ∙ (c.id_of_field-id.ensures ∙ ap (λ u. id_at (field_ids u) c.args.f) c.data_type.ensures.same) in
-    let own = c.in_ok-own.ensures.ok ∙ ap (λ k. map (valid_index (Some (have_id k p.types))) indices) id in
-    let part = c.sliced-part.result in
-    let cut : layout_of part ≡ slice_of (layout_of c.index-fields-f.result) p.start (length p.types) = search rules in
-    let cut_rows : any_array_rows part ≡ sliced (any_array_rows c.index-fields-f.result) p.start (length p.types) = search rules in
     let given = c.in_ok-taken.ensures in
-    part_taken p c.requires.sparse indices c.requires.inside fields c.fields.ensures.same c.args.f among c.index-fields-f.result c.index-fields-f.is part cut cut_rows c.in_ok-taken.taken given.array_type (given.rows ∙ ap (λ is. gather (any_array_rows part) is (any_array_type part)) own) given.fits
+    part_taken c.args.values.now (rows_by (map g.I.NativeType.slot) c.args.indices.now) c.args.f _ _ c.in_ok-child.ensures.ok c.in_ok-taken.taken given.array_type given.rows given.fits
 
 pub union::take_fields-loop-f-init : goal.union::take_fields-loop-f-init
 union::take_fields-loop-f-init g t c =
@@ -262,7 +221,7 @@ pub union::take_fields-take_field-requires : goal.union::take_fields-take_field-
 union::take_fields-take_field-requires g t c κs within =
     let fields = c.fields-count.result.now in
     let field : c.loop-f.f < length c.args.values.now.children = omega (arith, c.loop-f-test.true, length-map fields layout_of, ap length c.fields-count.ensures.same) in
-    (omega (arith, c.decreases), (within, (c.requires.sparse, (c.requires.inside, (c.requires.types, field)))))
+    (omega (arith, c.decreases), (within, (c.requires.union, (c.requires.inside, (c.requires.types, (c.requires.places, field))))))
 
 pub union::take_fields-returns-in_err-take_field-clause-overflow :
     goal.union::take_fields-returns-in_err-take_field-clause-overflow
@@ -291,54 +250,62 @@ union::take_fields-returns-clause-count g t c =
     let fields = c.fields-count.result.now in
     omega (arith, c.loop-f.invariant.count, c.loop-f-test.false, length-map fields layout_of, ap length c.fields-count.ensures.same, ap length c.fields-count.ensures.fields, length-map p.children type_of_layout)
 
-pub union::take_sparse-take_fields-requires : goal.union::take_sparse-take_fields-requires
-union::take_sparse-take_fields-requires g t c κs within =
-    (omega (arith, c.decreases), (within, (c.requires.sparse, (c.requires.inside, c.deref.ensures.value ∙ c.in_ok-types.ensures.ok))))
+pub union::take_parts-take_offsets-requires : goal.union::take_parts-take_offsets-requires
+union::take_parts-take_offsets-requires g t c =
+    let p = c.args.values.now in
+    let slot = g.I.NativeType.slot in
+    let indices = rows_by (map slot) c.args.indices.now in
+    record { ids = subst (All IsTypeId) (sym c.deref.ensures.value) (ids_counted p c.requires.union indices c.requires.inside c.in_ok-types.types.items c.in_ok-types.ensures.ok (option_map (rows_by (map slot)) c.in_ok-places.places) c.in_ok-places.ensures.ok) }
 
-pub union::take_sparse-returns-in_err-fields : goal.union::take_sparse-returns-in_err-fields
-union::take_sparse-returns-in_err-fields g t c =
+pub union::take_parts-take_fields-requires : goal.union::take_parts-take_fields-requires
+union::take_parts-take_fields-requires g t c κs within =
+    let p = c.args.values.now in
+    let slot = g.I.NativeType.slot in
+    let indices = rows_by (map slot) c.args.indices.now in
+    let are = subst (λ o. ArePlaces p indices (option_map (rows_by (map slot)) o)) (sym c.as_ref.ensures.value) c.in_ok-places.ensures.ok in
+    (omega (arith, c.decreases), (within, (c.requires.union, (c.requires.inside, (c.deref-2.ensures.value ∙ c.in_ok-types.ensures.ok, are)))))
+
+pub union::take_parts-returns-in_err-offsets : goal.union::take_parts-returns-in_err-offsets
+union::take_parts-returns-in_err-offsets g t c =
+    let p = c.args.values.now in
+    let slot = g.I.NativeType.slot in
+    let indices = rows_by (map slot) c.args.indices.now in
+    let types : c.deref.result.now ≡ c.in_ok-types.types.items = c.deref.ensures.value in
+    record { answer = passes_on _ _ _ _ _ _ c.from_residual-in_err-offsets.ensures.1 (λ same. union_passes p c.requires.union indices c.requires.inside c.in_ok-types.types.items c.in_ok-types.ensures.ok (option_map (rows_by (map slot)) c.in_ok-places.places) c.in_ok-places.ensures.ok (subst (λ ids. (mode_in p.arrow_type ≡ Dense) × SomeRankPasses ids) types (c.in_err-offsets.ensures.overflow (ap Err same)))) c.in_err-offsets.ensures.others }
+
+pub union::take_parts-returns-in_err-fields : goal.union::take_parts-returns-in_err-fields
+union::take_parts-returns-in_err-fields g t c =
     let p = c.args.values.now in
     let indices = rows_by (map g.I.NativeType.slot) c.args.indices.now in
-    let made = gather (union_rows p) indices p.arrow_type in
-    let types = c.in_ok-types.types.items in
-    let named = all_named p c.requires.sparse indices c.requires.inside types c.in_ok-types.ensures.ok in
-    let long = as_long p c.requires.sparse indices c.requires.inside types c.in_ok-types.ensures.ok in
-    record { answer = passes_on _ _ _ _ _ _ c.from_residual-in_err-fields.ensures.1 (λ same. parts_pass p.arrow_type c.requires.sparse.kind c.requires.sparse.mode made types long named (c.in_err-fields.ensures.overflow (ap Err same))) c.in_err-fields.ensures.others }
+    record { answer = passes_on _ _ _ _ _ _ c.from_residual-in_err-fields.ensures.1 (λ same. parts_pass p c.requires.union indices c.requires.inside c.in_ok-types.types.items c.in_ok-types.ensures.ok (c.in_err-fields.ensures.overflow (ap Err same))) c.in_err-fields.ensures.others }
 
-pub union::take_sparse-new-requires : goal.union::take_sparse-new-requires
-union::take_sparse-new-requires g t c =
+pub union::take_parts-new-requires : goal.union::take_parts-new-requires
+union::take_parts-new-requires g t c =
     let p = c.args.values.now in
-    let sparse = c.requires.sparse in
-    let indices = rows_by (map g.I.NativeType.slot) c.args.indices.now in
-    let made = gather (union_rows p) indices p.arrow_type in
-    let arrays = c.in_ok-fields.fields.items in
-    let ids = c.in_ok-types-2.types in
-    let types : ids ≡ map (taken_id p) indices = c.in_ok-types-2.ensures.ok ∙ c.in_ok-types.ensures.ok in
-    let long = as_long p sparse indices c.requires.inside ids types in
-    let named = all_named p sparse indices c.requires.inside ids types in
-    let same : type_of c.in_ok-data_type.data_type ≡ p.arrow_type = search rules in
-    let count = c.in_ok-fields.ensures.count in
-    let parts = c.in_ok-fields.ensures.parts in
-    let typed = arrays_typed p.arrow_type sparse.kind sparse.mode made ids long named arrays count parts in
-    let have = subst (λ mode. FitsMode mode ids None (map layout_of arrays)) (sym sparse.mode) (arrays_long p.arrow_type sparse.kind sparse.mode made ids long named arrays count parts) in
-    let known = arrays_known p.arrow_type sparse.kind sparse.mode made ids long named arrays count parts in
-    (rw same sparse.kind, rw same typed, rw same have, tt, rw same known)
-
-pub union::take_sparse-returns : goal.union::take_sparse-returns
-union::take_sparse-returns g t c =
-    let p = c.args.values.now in
-    let sparse = c.requires.sparse in
-    let indices = rows_by (map g.I.NativeType.slot) c.args.indices.now in
+    let slot = g.I.NativeType.slot in
+    let indices = rows_by (map slot) c.args.indices.now in
     let made = gather (union_rows p) indices p.arrow_type in
     let arrays = c.in_ok-fields.fields.items in
     let ids = c.in_ok-types-2.types in
     let types : ids ≡ map (taken_id p) indices = c.in_ok-types-2.ensures.ok ∙ c.in_ok-types.ensures.ok in
-    let long = as_long p sparse indices c.requires.inside ids types in
-    let named = all_named p sparse indices c.requires.inside ids types in
     let same : type_of c.in_ok-data_type.data_type ≡ p.arrow_type = search rules in
-    let count = c.in_ok-fields.ensures.count in
-    let parts = c.in_ok-fields.ensures.parts in
-    let rows = arrays_rows p.arrow_type sparse.kind sparse.mode made ids long named arrays count parts in
-    let are : union_rows c.new.result ≡ made = ap union_rows c.new.ensures ∙ ((λ i. union_rows (record { arrow_type = same i; types = ids; child_rows = None; start = 0; children = map layout_of arrays })) ∙ rows) in
-    let fits = arrays_fit p.arrow_type sparse.kind sparse.mode made ids long named arrays count parts (omega (arith, c.len.ensures.rows, length-gather (union_rows p) indices p.arrow_type)) in
-    record { answer = record { ok = record { array_type = ap (λ q. q.arrow_type) c.new.ensures ∙ same; rows = are; fits = fits }; overflow = λ is. cc; others = tt } }
+    let counted : length made < 2 ^ 64 = omega (arith, c.len.ensures.rows, length-gather (union_rows p) indices p.arrow_type) in
+    let offsets = subst (λ zs. HasOffsets (mode_in p.arrow_type) zs c.in_ok-offsets.offsets) (c.deref.ensures.value ∙ sym c.in_ok-types-2.ensures.ok) c.in_ok-offsets.ensures.ok in
+    let makes = union_made p c.requires.union indices c.requires.inside ids types arrays c.in_ok-fields.ensures.count c.in_ok-fields.ensures.parts counted (option_map (rows_by (map slot)) c.in_ok-places.places) c.in_ok-places.ensures.ok c.in_ok-offsets.offsets offsets in
+    subst (λ u. HoldsUnion u ids (map layout_of arrays) c.in_ok-offsets.offsets) (sym same) makes.holds
+
+pub union::take_parts-returns : goal.union::take_parts-returns
+union::take_parts-returns g t c =
+    let p = c.args.values.now in
+    let slot = g.I.NativeType.slot in
+    let indices = rows_by (map slot) c.args.indices.now in
+    let made = gather (union_rows p) indices p.arrow_type in
+    let arrays = c.in_ok-fields.fields.items in
+    let ids = c.in_ok-types-2.types in
+    let types : ids ≡ map (taken_id p) indices = c.in_ok-types-2.ensures.ok ∙ c.in_ok-types.ensures.ok in
+    let same : type_of c.in_ok-data_type.data_type ≡ p.arrow_type = search rules in
+    let counted : length made < 2 ^ 64 = omega (arith, c.len.ensures.rows, length-gather (union_rows p) indices p.arrow_type) in
+    let offsets = subst (λ zs. HasOffsets (mode_in p.arrow_type) zs c.in_ok-offsets.offsets) (c.deref.ensures.value ∙ sym c.in_ok-types-2.ensures.ok) c.in_ok-offsets.ensures.ok in
+    let makes = union_made p c.requires.union indices c.requires.inside ids types arrays c.in_ok-fields.ensures.count c.in_ok-fields.ensures.parts counted (option_map (rows_by (map slot)) c.in_ok-places.places) c.in_ok-places.ensures.ok c.in_ok-offsets.offsets offsets in
+    let are : union_rows c.new.result ≡ made = ap union_rows c.new.ensures ∙ ((λ i. union_rows (record { arrow_type = same i; types = ids; child_rows = child_rows_of c.in_ok-offsets.offsets; start = 0; children = map layout_of arrays })) ∙ makes.rows) in
+    record { answer = record { ok = record { array_type = ap (λ q. q.arrow_type) c.new.ensures ∙ same; rows = are; fits = makes.fits }; overflow = λ is. cc; others = tt } }

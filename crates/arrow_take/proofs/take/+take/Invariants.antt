@@ -25,8 +25,8 @@ decreases-structure::take_fields g l = 5 * depth_of_all (to_layouts (map layout_
 abbrev pub decreases-union::take : goal.decreases-union::take
 decreases-union::take g l = 5 * depth (union_layout l.values.now) + 3
 
-abbrev pub decreases-union::take_sparse : goal.decreases-union::take_sparse
-decreases-union::take_sparse g l = 5 * depth (union_layout l.values.now) + 2
+abbrev pub decreases-union::take_parts : goal.decreases-union::take_parts
+decreases-union::take_parts g l = 5 * depth (union_layout l.values.now) + 2
 
 abbrev pub decreases-union::take_fields : goal.decreases-union::take_fields
 decreases-union::take_fields g l = 5 * depth (union_layout l.values.now) + 1

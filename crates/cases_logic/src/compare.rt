@@ -2,8 +2,8 @@
 
 mod any;
 
-use crate::logic::typed;
-use crate::logic::typed::primitive;
+use crate::typed;
+use crate::typed::primitive;
 use arrow_arrays::array::AnyArray;
 use arrow_flat::scalar::AnyScalar;
 use arrow_relate::relation::Relation;

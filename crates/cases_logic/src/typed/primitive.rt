@@ -1,6 +1,6 @@
 //! Comparisons of numbers and of intervals.
 
-use crate::logic::compare::Asked;
+use crate::compare::Asked;
 use arrow_flat::array::{AnyPrimitive, PrimitiveArray};
 use arrow_flat::scalar::{AnyPrimitiveScalar, PrimitiveScalar};
 use arrow_relate::comparison::primitive;

@@ -1,5 +1,6 @@
-//! Answers to lines that call `arrow_logic`, `arrow_relate` and `arrow_compare`: arguments are read, each condition of the call
-//! is tested, and the answer is written as text.
+//! Calls of logic and comparisons, for the program `cases`: each reads its arguments, tests its conditions, and prints what the
+//! call answered.
+#![tactic(auto)]
 
 /// What a function makes of two values of one element type, and another where the values stand in no order. The right one is
 /// of an enum by element type. `Usage` where their element types differ.
@@ -52,8 +53,8 @@ const CALLS: [(&str, Answer); 11] = [
     ("utils::combine_validities", validities::combine_validities),
 ];
 
-// Appends the answer of a call to `out`; `false` where the call has none of these names.
-pub(crate) fn answer(alloc: Global, call: &Call<'_>, out: &mut String) -> Result<bool, Fault> {
+/// Appends the answer of a call to `out`; `false` where the call has none of these names.
+pub fn answer(alloc: Global, call: &Call<'_>, out: &mut String) -> Result<bool, Fault> {
     Ok(
         answer_by(alloc, &CALLS, call, out)?
             || boolean::answer(alloc, call, out)?

@@ -36,7 +36,7 @@ macro_rules! of_scalar {
 
 pub(crate) mod primitive;
 
-use crate::logic::compare::Asked;
+use crate::compare::Asked;
 use arrow_flat::array::{BinaryArray, BooleanArray, Utf8Array};
 use arrow_relate::comparison::{binary, boolean, utf8};
 use arrow_text::fault::Fault;

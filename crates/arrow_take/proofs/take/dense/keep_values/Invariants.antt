@@ -1,0 +1,12 @@
+use Rattle.std.proofs.Common.{◌≡◌, ◌≤◌, length, take}
+use Rattle.arrow_take.specs.DenseUnions.{kept}
+use Rattle.arrow_take.specs.SparseUnions.{have_id}
+use Rattle.arrow_take.proofs.take.dense.keep_values.Given as goal
+
+-- the values so far that are kept
+abbrev pub invariant-loop-row : goal.invariant-loop-row
+invariant-loop-row g l = record {
+  items : take l.count l.own.items ≡ kept (take l.row (have_id l.id l.types)) (take l.row l.values);
+  within : l.count ≤ l.row;
+  long : length l.own.items ≡ length l.values;
+}
