@@ -13,6 +13,7 @@ ghost use Rattle.arrow_arrays.specs.Any.{layout_of, any_array_type, any_array_ro
 ghost use Rattle.arrow_arrays.specs.SliceOf.{slice_of};
 ghost use Rattle.arrow_arrays.specs.Spans.{AreSameSpans};
 ghost use Rattle.arrow_types.specs.Slot.{Null};
+ghost use Rattle.arrow_arrays.specs.declared.array.any.AnyArray.TheVariants as variants;
 
 use crate::array::{
     DictionaryArray, FixedSizeListArray, ListArray, MapArray, StructArray, UnionArray,
@@ -258,25 +259,93 @@ pub(crate) fn equal_spans(
 impl Clone for AnyArray {
     ghost is_clone = { λ array copy. copy ≡ array };
 
-    #[cycle(clone)]
     fn clone(&self) -> Result<AnyArray, AllocError> {
         match self {
-            AnyArray::Null(array) => Ok(AnyArray::Null(array.clone()?)),
-            AnyArray::Boolean(array) => Ok(AnyArray::Boolean(array.clone()?)),
-            AnyArray::Primitive(array) => Ok(AnyArray::Primitive(array.clone()?)),
-            AnyArray::Utf8(array) => Ok(AnyArray::Utf8(array.clone()?)),
-            AnyArray::LargeUtf8(array) => Ok(AnyArray::LargeUtf8(array.clone()?)),
-            AnyArray::Binary(array) => Ok(AnyArray::Binary(array.clone()?)),
-            AnyArray::LargeBinary(array) => Ok(AnyArray::LargeBinary(array.clone()?)),
-            AnyArray::FixedSizeBinary(array) => Ok(AnyArray::FixedSizeBinary(array.clone()?)),
-            AnyArray::List(array) => Ok(AnyArray::List(array.clone()?)),
-            AnyArray::FixedSizeList(array) => Ok(AnyArray::FixedSizeList(array.clone()?)),
-            AnyArray::Struct(array) => Ok(AnyArray::Struct(array.clone()?)),
-            AnyArray::Union(array) => Ok(AnyArray::Union(array.clone()?)),
-            AnyArray::Map(array) => Ok(AnyArray::Map(array.clone()?)),
-            AnyArray::Dictionary(array) => Ok(AnyArray::Dictionary(array.clone()?)),
+            AnyArray::Null(array) => clone_null(array),
+            AnyArray::Boolean(array) => clone_boolean(array),
+            AnyArray::Primitive(array) => clone_primitive(array),
+            AnyArray::Utf8(array) => clone_utf8(array),
+            AnyArray::LargeUtf8(array) => clone_large_utf8(array),
+            AnyArray::Binary(array) => clone_binary(array),
+            AnyArray::LargeBinary(array) => clone_large_binary(array),
+            AnyArray::FixedSizeBinary(array) => clone_fixed_size_binary(array),
+            _ => clone_any(self),
         }
     }
+}
+
+// A clone of an array of any type, with children or without.
+#[cycle(clone)]
+fn clone_any(array: &AnyArray) -> Result<AnyArray, AllocError>
+    ensures { IfOk result (λ copy. copy ≡ array.now) }
+{
+    match array {
+        AnyArray::Null(array) => clone_null(array),
+        AnyArray::Boolean(array) => clone_boolean(array),
+        AnyArray::Primitive(array) => clone_primitive(array),
+        AnyArray::Utf8(array) => clone_utf8(array),
+        AnyArray::LargeUtf8(array) => clone_large_utf8(array),
+        AnyArray::Binary(array) => clone_binary(array),
+        AnyArray::LargeBinary(array) => clone_large_binary(array),
+        AnyArray::FixedSizeBinary(array) => clone_fixed_size_binary(array),
+        AnyArray::List(array) => Ok(AnyArray::List(array.clone()?)),
+        AnyArray::FixedSizeList(array) => Ok(AnyArray::FixedSizeList(array.clone()?)),
+        AnyArray::Struct(array) => Ok(AnyArray::Struct(array.clone()?)),
+        AnyArray::Union(array) => Ok(AnyArray::Union(array.clone()?)),
+        AnyArray::Map(array) => Ok(AnyArray::Map(array.clone()?)),
+        AnyArray::Dictionary(array) => Ok(AnyArray::Dictionary(array.clone()?)),
+    }
+}
+
+// A clone of an array of one kind. Each has room for an array of that kind alone: one function for all would clear room for
+// an array of each kind at every call.
+
+fn clone_null(array: &NullArray) -> Result<AnyArray, AllocError>
+    ensures { IfOk result (λ copy. copy ≡ variants.Null array.now) }
+{
+    Ok(AnyArray::Null(array.clone()?))
+}
+
+fn clone_boolean(array: &BooleanArray) -> Result<AnyArray, AllocError>
+    ensures { IfOk result (λ copy. copy ≡ variants.Boolean array.now) }
+{
+    Ok(AnyArray::Boolean(array.clone()?))
+}
+
+fn clone_primitive(array: &AnyPrimitive) -> Result<AnyArray, AllocError>
+    ensures { IfOk result (λ copy. copy ≡ variants.Primitive array.now) }
+{
+    Ok(AnyArray::Primitive(array.clone()?))
+}
+
+fn clone_utf8(array: &Utf8Array<i32>) -> Result<AnyArray, AllocError>
+    ensures { IfOk result (λ copy. copy ≡ variants.Utf8 array.now) }
+{
+    Ok(AnyArray::Utf8(array.clone()?))
+}
+
+fn clone_large_utf8(array: &Utf8Array<i64>) -> Result<AnyArray, AllocError>
+    ensures { IfOk result (λ copy. copy ≡ variants.LargeUtf8 array.now) }
+{
+    Ok(AnyArray::LargeUtf8(array.clone()?))
+}
+
+fn clone_binary(array: &BinaryArray<i32>) -> Result<AnyArray, AllocError>
+    ensures { IfOk result (λ copy. copy ≡ variants.Binary array.now) }
+{
+    Ok(AnyArray::Binary(array.clone()?))
+}
+
+fn clone_large_binary(array: &BinaryArray<i64>) -> Result<AnyArray, AllocError>
+    ensures { IfOk result (λ copy. copy ≡ variants.LargeBinary array.now) }
+{
+    Ok(AnyArray::LargeBinary(array.clone()?))
+}
+
+fn clone_fixed_size_binary(array: &FixedSizeBinaryArray) -> Result<AnyArray, AllocError>
+    ensures { IfOk result (λ copy. copy ≡ variants.FixedSizeBinary array.now) }
+{
+    Ok(AnyArray::FixedSizeBinary(array.clone()?))
 }
 
 // A box of its own for a clone of the child.
@@ -284,7 +353,7 @@ impl Clone for AnyArray {
 pub(crate) fn clone_boxed(array: &Box<AnyArray>) -> Result<Box<AnyArray>, AllocError>
     ensures { IfOk result (λ copy. copy.value ≡ array.now.value) }
 {
-    Ok(Box::new(*Box::allocator(array), (**array).clone()?)?)
+    Ok(Box::new(*Box::allocator(array), clone_any(&**array)?)?)
 }
 
 // The clones of the children, in their order.
@@ -294,7 +363,7 @@ pub(crate) fn clone_all(arrays: &Vec<AnyArray>) -> Result<Vec<AnyArray>, AllocEr
 {
     let mut copies = Vec::with_capacity(*arrays.allocator(), arrays.len())?;
     for array in arrays {
-        copies.push(array.clone()?)?;
+        copies.push(clone_any(array)?)?;
     }
     Ok(copies)
 }

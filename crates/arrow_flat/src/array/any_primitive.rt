@@ -1,6 +1,6 @@
 //! A primitive array of any element type.
 
-ghost use Rattle.std.specs.Prelude.{◌≡◌, ◌+◌, ◌≤◌, ◌↔◌, [], length, count_by, option_copied, IsTrue, ◌<◌, not, slice_index_or};
+ghost use Rattle.std.specs.Prelude.{◌≡◌, ◌+◌, ◌≤◌, ◌↔◌, [], length, count_by, option_copied, IfOk, IsTrue, ◌<◌, not, slice_index_or};
 ghost use Rattle.std.specs.Cmp.{partial_equiv_from_equiv, on_equiv};
 ghost use Rattle.arrow_types.specs.Carried.{IsCarried};
 ghost use Rattle.arrow_types.specs.Physical.{physical_type_of};
@@ -11,6 +11,7 @@ ghost use Rattle.arrow_types.specs.declared.datatypes.physical_type.PhysicalType
 ghost use Rattle.arrow_memory.specs.Sliced.{sliced};
 ghost use Rattle.arrow_flat.specs.AnyPrimitive.{any_parts, any_type, any_rows, any_meaning, element_of};
 ghost use Rattle.arrow_flat.specs.Parts.{MarksNulls, meaning_code};
+ghost use Rattle.arrow_flat.specs.declared.array.any_primitive.AnyPrimitive.TheVariants as variants;
 ghost use Rattle.arrow_types.specs.Slot.{Null};
 
 use crate::array::{PrimitiveArray, validity};
@@ -73,26 +74,6 @@ macro_rules! of_both {
             (AnyPrimitive::DaysMs($left), AnyPrimitive::DaysMs($right)) => $result,
             (AnyPrimitive::MonthDayNano($left), AnyPrimitive::MonthDayNano($right)) => $result,
             _ => unreachable!(),
-        }
-    };
-}
-
-/// An array of the same element type that an expression makes of it.
-macro_rules! map_any {
-    ($any:expr, $array:ident => $result:expr) => {
-        match $any {
-            AnyPrimitive::Int8($array) => AnyPrimitive::Int8($result),
-            AnyPrimitive::Int16($array) => AnyPrimitive::Int16($result),
-            AnyPrimitive::Int32($array) => AnyPrimitive::Int32($result),
-            AnyPrimitive::Int64($array) => AnyPrimitive::Int64($result),
-            AnyPrimitive::Int128($array) => AnyPrimitive::Int128($result),
-            AnyPrimitive::Int256($array) => AnyPrimitive::Int256($result),
-            AnyPrimitive::UInt8($array) => AnyPrimitive::UInt8($result),
-            AnyPrimitive::UInt16($array) => AnyPrimitive::UInt16($result),
-            AnyPrimitive::UInt32($array) => AnyPrimitive::UInt32($result),
-            AnyPrimitive::UInt64($array) => AnyPrimitive::UInt64($result),
-            AnyPrimitive::DaysMs($array) => AnyPrimitive::DaysMs($result),
-            AnyPrimitive::MonthDayNano($array) => AnyPrimitive::MonthDayNano($result),
         }
     };
 }
@@ -210,8 +191,96 @@ impl Clone for AnyPrimitive {
     ghost is_clone = { λ array copy. copy ≡ array };
 
     fn clone(&self) -> Result<AnyPrimitive, AllocError> {
-        Ok(map_any!(self, array => array.clone()?))
+        match self {
+            AnyPrimitive::Int8(array) => clone_int8(array),
+            AnyPrimitive::Int16(array) => clone_int16(array),
+            AnyPrimitive::Int32(array) => clone_int32(array),
+            AnyPrimitive::Int64(array) => clone_int64(array),
+            AnyPrimitive::Int128(array) => clone_int128(array),
+            AnyPrimitive::Int256(array) => clone_int256(array),
+            AnyPrimitive::UInt8(array) => clone_uint8(array),
+            AnyPrimitive::UInt16(array) => clone_uint16(array),
+            AnyPrimitive::UInt32(array) => clone_uint32(array),
+            AnyPrimitive::UInt64(array) => clone_uint64(array),
+            AnyPrimitive::DaysMs(array) => clone_days_ms(array),
+            AnyPrimitive::MonthDayNano(array) => clone_month_day_nano(array),
+        }
     }
+}
+
+// A clone of an array of one element type. Each has room for an array of that type alone: one function for all would clear
+// room for an array of each type at every call.
+
+fn clone_int8(array: &PrimitiveArray<i8>) -> Result<AnyPrimitive, AllocError>
+    ensures { IfOk result (λ copy. copy ≡ variants.Int8 array.now) }
+{
+    Ok(AnyPrimitive::Int8(array.clone()?))
+}
+
+fn clone_int16(array: &PrimitiveArray<i16>) -> Result<AnyPrimitive, AllocError>
+    ensures { IfOk result (λ copy. copy ≡ variants.Int16 array.now) }
+{
+    Ok(AnyPrimitive::Int16(array.clone()?))
+}
+
+fn clone_int32(array: &PrimitiveArray<i32>) -> Result<AnyPrimitive, AllocError>
+    ensures { IfOk result (λ copy. copy ≡ variants.Int32 array.now) }
+{
+    Ok(AnyPrimitive::Int32(array.clone()?))
+}
+
+fn clone_int64(array: &PrimitiveArray<i64>) -> Result<AnyPrimitive, AllocError>
+    ensures { IfOk result (λ copy. copy ≡ variants.Int64 array.now) }
+{
+    Ok(AnyPrimitive::Int64(array.clone()?))
+}
+
+fn clone_int128(array: &PrimitiveArray<i128>) -> Result<AnyPrimitive, AllocError>
+    ensures { IfOk result (λ copy. copy ≡ variants.Int128 array.now) }
+{
+    Ok(AnyPrimitive::Int128(array.clone()?))
+}
+
+fn clone_int256(array: &PrimitiveArray<i256>) -> Result<AnyPrimitive, AllocError>
+    ensures { IfOk result (λ copy. copy ≡ variants.Int256 array.now) }
+{
+    Ok(AnyPrimitive::Int256(array.clone()?))
+}
+
+fn clone_uint8(array: &PrimitiveArray<u8>) -> Result<AnyPrimitive, AllocError>
+    ensures { IfOk result (λ copy. copy ≡ variants.UInt8 array.now) }
+{
+    Ok(AnyPrimitive::UInt8(array.clone()?))
+}
+
+fn clone_uint16(array: &PrimitiveArray<u16>) -> Result<AnyPrimitive, AllocError>
+    ensures { IfOk result (λ copy. copy ≡ variants.UInt16 array.now) }
+{
+    Ok(AnyPrimitive::UInt16(array.clone()?))
+}
+
+fn clone_uint32(array: &PrimitiveArray<u32>) -> Result<AnyPrimitive, AllocError>
+    ensures { IfOk result (λ copy. copy ≡ variants.UInt32 array.now) }
+{
+    Ok(AnyPrimitive::UInt32(array.clone()?))
+}
+
+fn clone_uint64(array: &PrimitiveArray<u64>) -> Result<AnyPrimitive, AllocError>
+    ensures { IfOk result (λ copy. copy ≡ variants.UInt64 array.now) }
+{
+    Ok(AnyPrimitive::UInt64(array.clone()?))
+}
+
+fn clone_days_ms(array: &PrimitiveArray<days_ms>) -> Result<AnyPrimitive, AllocError>
+    ensures { IfOk result (λ copy. copy ≡ variants.DaysMs array.now) }
+{
+    Ok(AnyPrimitive::DaysMs(array.clone()?))
+}
+
+fn clone_month_day_nano(array: &PrimitiveArray<months_days_ns>) -> Result<AnyPrimitive, AllocError>
+    ensures { IfOk result (λ copy. copy ≡ variants.MonthDayNano array.now) }
+{
+    Ok(AnyPrimitive::MonthDayNano(array.clone()?))
 }
 
 /// Two arrays are equal where their data types and their rows are, whatever is stored beneath nulls.
