@@ -1,7 +1,7 @@
 -- A flat array under construction: what is stored and its bits, one part behind the other.
 use Rattle.std.proofs.Common.{arith, ◌≡◌, ◌+◌, ◌≤◌, ◌<◌, ◌^◌, ℕ, Bool, false, List, [], ◌∷◌, ◌++◌, length, map, get_or, ap, sym, ◌∙◌}
 use Rattle.std.specs.List.{All}
-use Rattle.std.proofs.lemmas.List.{length-append, get_or-map}
+use Rattle.std.proofs.lemmas.List.{length-append, get_or-map, take_all}
 use Rattle.arrow_types.specs.ArrowType.{ArrowType}
 use Rattle.arrow_types.specs.Carried.{IsCarried}
 use Rattle.arrow_types.specs.Fits.{Fits}
@@ -10,6 +10,8 @@ use Rattle.arrow_types.specs.Slot.{Slot}
 use Rattle.arrow_arrays.specs.Layout.{Layout, type_of_layout}
 use Rattle.arrow_types.proofs.FitsLemmas.{Fits-nil}
 use Rattle.arrow_types.proofs.RowsLemmas.{length-mask}
+use Rattle.arrow_memory.specs.Sliced.{sliced}
+use Rattle.arrow_memory.proofs.SlicedLemmas.{length-sliced}
 use Rattle.arrow_flat_growable.specs.Flat.{IsGrownFlat}
 use Rattle.arrow_flat_growable.specs.FlatLaws.{fits_count}
 use Rattle.arrow_flat_growable.specs.Grown.{first_type, source_at}
@@ -48,3 +50,13 @@ too_many t xs more len n fits count many over =
 pub first_is : {A : Type 0} (f : A → Layout) (arrays : List A) (x : A) → 0 < length arrays → x ≡ get_or arrays 0 x → first_type (map f arrays) ≡ type_of_layout (f x)
 first_is f [] x some read = absurd (omega (arith, some))
 first_is f (y ∷ arrays) x some read = ap (λ z. type_of_layout (f z)) (sym read)
+
+-- rows under a mask: a row for each bit
+pub length-under : (own : List Bool) (all : List Slot) (start : ℕ) → start + length own ≤ length all → length (mask own (sliced all start (length own))) ≡ length own
+length-under own all start within =
+    let many = length-sliced all start (length own) within in
+    length-mask own (sliced all start (length own)) (sym many) ∙ many
+
+pub whole_part : (own : List Bool) (all part : List Slot) (n start : ℕ) → start + length own ≤ length all → n ≡ length own → part ≡ mask own (sliced all start (length own)) → sliced part 0 n ≡ mask own (sliced all start (length own))
+whole_part own all part n start within count is =
+    take_all n part (omega (arith, ap length is, length-under own all start within, count)) ∙ is

@@ -1,10 +1,13 @@
 -- Rows under a mask of bits.
-use Rattle.std.proofs.Common.{arith, ◌≡◌, ◌≤◌, ℕ, Bool, true, false, not, List, [], ◌∷◌, Option, Some, None, length, Bor, refl, ap, sym, subst}
+use Rattle.std.proofs.Common.{arith, ◌≡◌, ◌≤◌, ℕ, Bool, true, false, not, List, [], ◌∷◌, Option, Some, None, length, suc, Bor, refl, ap, sym, subst}
 use Rattle.std.specs.Prelude.{cond, count_by, option_copied, IfSome}
 use Rattle.std.proofs.lemmas.List.Sums.{sum_by-cons}
-use Rattle.arrow_types.specs.Rows.{mask}
-use Rattle.arrow_types.specs.Slot.{Slot}
+use Rattle.std.specs.Prelude.{if◌then◌else◌}
+use Rattle.arrow_types.specs.Rows.{mask, masked}
+use Rattle.arrow_types.specs.Slot.{Slot, Null}
+use Rattle.arrow_memory.specs.Bits.{both_bits}
 use Rattle.arrow_flat.specs.Parts.{FitsRows}
+use Rattle.arrow_flat_growable.specs.Validity.{valid_in_both}
 
 -- bits none of which is not set leave the rows as they are
 pub mask-all : (bits : List Bool) (xs : List Slot) → length xs ≡ length bits → count_by not bits ≡ 0 → mask bits xs ≡ xs
@@ -21,3 +24,30 @@ lent_within None v n k same fits within = tt
 lent_within (Some bits) v n k same fits within =
     let counted : length bits.now ≡ n = subst (λ w. FitsRows w n) (sym same) fits in
     omega (arith, counted, within)
+
+-- rows under two validities
+mask_none : (bits : List Bool) → mask bits [] ≡ []
+mask_none [] = refl
+mask_none (b ∷ bits) = refl
+
+mask_both : (own bits : List Bool) (xs : List Slot) → mask (both_bits own bits) xs ≡ mask bits (mask own xs)
+mask_both [] bits xs = sym (mask_none bits)
+mask_both (o ∷ own) [] xs = refl
+mask_both (o ∷ own) (b ∷ bits) [] = refl
+mask_both (true ∷ own) (b ∷ bits) (x ∷ xs) = ap (λ ys. (if b then x else Null) ∷ ys) (mask_both own bits xs)
+mask_both (false ∷ own) (true ∷ bits) (x ∷ xs) = ap (λ ys. Null ∷ ys) (mask_both own bits xs)
+mask_both (false ∷ own) (false ∷ bits) (x ∷ xs) = ap (λ ys. Null ∷ ys) (mask_both own bits xs)
+
+pub rows_under : (own : Option (List Bool)) (bits : List Bool) (xs : List Slot) → mask (valid_in_both own bits) xs ≡ mask bits (masked own xs)
+rows_under None bits xs = refl
+rows_under (Some own) bits xs = mask_both own bits xs
+
+long_both : (own bits : List Bool) → length own ≡ length bits → length (both_bits own bits) ≡ length bits
+long_both [] [] same = refl
+long_both [] (b ∷ bits) same = absurd (omega (arith, same))
+long_both (o ∷ own) [] same = refl
+long_both (o ∷ own) (b ∷ bits) same = ap suc (long_both own bits (omega (arith, same)))
+
+pub bits_under : (own : Option (List Bool)) (bits : List Bool) → FitsRows own (length bits) → length (valid_in_both own bits) ≡ length bits
+bits_under None bits fits = refl
+bits_under (Some own) bits fits = long_both own bits fits

@@ -1,5 +1,6 @@
 -- The validity that a growable keeps: a bit for each row, stored only once some bit is not set ("Validity bitmaps").
 use Rattle.std.specs.Prelude.{ℕ, ◌≡◌, ◌+◌, Bool, true, List, Option, Some, None, length, replicate, IfSome, ◌++◌}
+use Rattle.arrow_memory.specs.Bits.{both_bits}
 
 -- the bits of so many rows: all set where none is stored
 abbrev pub bits_by : Option (List Bool) → ℕ → List Bool
@@ -13,3 +14,8 @@ AreSameBits old new n = (bits_by new n ≡ bits_by old n) × IfSome new (λ bits
 -- more bits come behind those of so many rows
 abbrev pub AppendsValidity : Option (List Bool) → Option (List Bool) → ℕ → List Bool → Type 0
 AppendsValidity old new n more = (bits_by new (n + length more) ≡ bits_by old n ++ more) × IfSome new (λ bits. length bits ≡ n + length more)
+
+-- the bits of a validity that are set in another one too, which may be absent
+abbrev pub valid_in_both : Option (List Bool) → List Bool → List Bool
+valid_in_both None bits = bits
+valid_in_both (Some own) bits = both_bits own bits

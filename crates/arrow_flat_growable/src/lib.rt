@@ -3,3 +3,4 @@
 #![tactic(auto)]
 
 pub mod growable;
+pub mod under;

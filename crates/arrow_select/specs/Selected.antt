@@ -5,7 +5,6 @@ use Rattle.std.specs.List.{All}
 use Rattle.arrow_types.specs.Fits.{Fits}
 use Rattle.arrow_types.specs.Rows.{masked, select}
 use Rattle.arrow_types.specs.Slot.{Slot, Null, null_slot}
-use Rattle.arrow_memory.specs.Bits.{both_bits}
 use Rattle.arrow_memory.specs.Words.{low_bits}
 use Rattle.arrow_arrays.specs.declared.array.any.AnyArray.{AnyArray}
 use Rattle.arrow_arrays.specs.Any.{any_array_rows, any_array_type}
@@ -19,11 +18,6 @@ selected_rows mask column = select mask (rows column)
 abbrev pub FirstDoesNotFit : List Bool → List Layout → Type 0
 FirstDoesNotFit mask columns =
     (k : ℕ) × (column : Layout) × (slice_get columns k ≡ Some column) × All (λ c. Fits (type_of_layout c) (selected_rows mask c)) (take k columns) × (Fits (type_of_layout column) (selected_rows mask column) → ⊥)
-
--- the bits of a validity that are set in another one too, which may be absent
-abbrev pub valid_in_both : Option (List Bool) → List Bool → List Bool
-valid_in_both None bits = bits
-valid_in_both (Some own) bits = both_bits own bits
 
 -- those of rows under a validity
 abbrev pub kept_rows_under : List Bool → Option (List Bool) → List Slot → List Slot

@@ -13,6 +13,7 @@ ghost use Rattle.arrow_flat_growable.specs.FlatLaws.{is_counted, fits_unmasked, 
 ghost use Rattle.arrow_flat_growable.specs.MaskLaws.{mask-part};
 
 use crate::growable::flat::{FlatGrowable, GrowableValues};
+use crate::under::part_under;
 use arrow_arrays::array::AnyArray;
 use arrow_flat::array::BooleanArray;
 use arrow_memory::bitmap::{Bitmap, MutableBitmap};
@@ -102,6 +103,15 @@ impl GrowableValues for GrowableBits {
     ) -> Result<BooleanArray, Error> {
         let values = self.bits.into_bitmap()?;
         Ok(BooleanArray::new(data_type, values, validity))
+    }
+
+    fn part_under(
+        alloc: Global,
+        array: &BooleanArray,
+        start: usize,
+        own: &Bitmap,
+    ) -> Result<BooleanArray, Error> {
+        part_under(alloc, array, start, own)
     }
 
     fn of_any(array: &AnyArray) -> &BooleanArray {

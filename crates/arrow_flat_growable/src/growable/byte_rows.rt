@@ -15,6 +15,7 @@ ghost use Rattle.arrow_flat_growable.specs.Bytes.{BeginsWith, IsBytesType, Spare
 ghost use Rattle.arrow_flat_growable.specs.GrownRows.{AreEmptyNulls, filled, total, valid_values};
 
 use crate::growable::flat::GrowableValues;
+use crate::under::part_under;
 use arrow_arrays::array::{AnyArray, AnyOffset, AnyRows};
 use arrow_flat::array::{ByteKind, ByteRows, FlatArray};
 use arrow_memory::bitmap::{Bitmap, WORD_BITS};
@@ -504,6 +505,15 @@ impl<O: AnyOffset, K: GrowableKind> GrowableValues for GrowableBytes<O, K> {
         let offsets = offsets.into_buffer()?;
         let bytes = Buffer::from_vec(alloc, bytes)?;
         Ok(FlatArray::<ByteRows<O, K>>::new(data_type, offsets, bytes, validity))
+    }
+
+    fn part_under(
+        alloc: Global,
+        array: &FlatArray<ByteRows<O, K>>,
+        start: usize,
+        own: &Bitmap,
+    ) -> Result<FlatArray<ByteRows<O, K>>, Error> {
+        part_under(alloc, array, start, own)
     }
 
     fn of_any(array: &AnyArray) -> &FlatArray<ByteRows<O, K>> {

@@ -16,6 +16,7 @@ ghost use Rattle.arrow_flat_growable.specs.MaskLaws.{mask-part};
 
 use crate::growable::flat::{FlatGrowable, GrowableValues};
 use crate::growable::primitive::append_part;
+use crate::under::part_under;
 use arrow_arrays::array::AnyArray;
 use arrow_flat::array::{FixedRows, FixedSizeBinaryArray};
 use arrow_memory::bitmap::Bitmap;
@@ -151,6 +152,15 @@ impl GrowableValues for GrowableFixedRows {
         let alloc = *self.bytes.allocator();
         let bytes = Buffer::from_vec(alloc, self.bytes)?;
         Ok(FixedSizeBinaryArray::new(data_type, bytes, validity))
+    }
+
+    fn part_under(
+        alloc: Global,
+        array: &FixedSizeBinaryArray,
+        start: usize,
+        own: &Bitmap,
+    ) -> Result<FixedSizeBinaryArray, Error> {
+        part_under(alloc, array, start, own)
     }
 
     fn of_any(array: &AnyArray) -> &FixedSizeBinaryArray {

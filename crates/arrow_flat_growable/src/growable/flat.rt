@@ -1,6 +1,6 @@
 //! Flat arrays under construction.
 
-ghost use Rattle.std.specs.Prelude.{◌≡◌, ◌+◌, ◌<◌, ◌≤◌, ◌++◌, ◌↔◌, ◌^◌, [], Bool, List, ℕ, Option, length, map, replicate, true, false, Err, Some, IfOk, IfErr, OnOk, IsOkUnless, option_copied};
+ghost use Rattle.std.specs.Prelude.{◌≡◌, ◌+◌, ◌<◌, ◌≤◌, ◌++◌, ◌↔◌, ◌^◌, [], Bool, List, ℕ, Option, length, map, replicate, true, false, Err, Some, IfOk, IfErr, OnErr, OnOk, IsOkUnless, option_copied};
 ghost use Rattle.arrow_types.specs.declared.error.Error.{Error};
 ghost use Rattle.arrow_types.specs.ArrowType.{ArrowType};
 ghost use Rattle.arrow_types.specs.Carried.{IsCarried};
@@ -14,7 +14,7 @@ ghost use Rattle.arrow_flat.specs.Parts.{FitsRows, bits_of_slice};
 ghost use Rattle.arrow_arrays.specs.Any.{Kind, kind_of, layout_of};
 ghost use Rattle.arrow_arrays.specs.Layout.{flat};
 ghost use Rattle.arrow_flat_growable.specs.Flat.{Covers, flat_layout};
-ghost use Rattle.arrow_flat_growable.specs.Grown.{Grown, AreOfOneType, IsFailedOrMemory, bound_to};
+ghost use Rattle.arrow_flat_growable.specs.Grown.{Grown, AreOfOneType, FitsItself, FitsWith, HasFailed, IsFailedOrMemory, IsRefusal, NamesRows, appended, bound_to, named_rows};
 
 use crate::growable::Growable;
 use crate::growable::validity::GrowableValidity;
@@ -29,7 +29,7 @@ use std::mem;
 /// What the rows of a flat array are stored in while it grows.
 pub trait GrowableValues: Drop {
     /// The array that they become.
-    type Array;
+    type Array: Drop;
 
     // of an array: its type, its validity, and what is stored for each row, null rows too
     ghost type_in: { Self.Array → ArrowType };
@@ -112,6 +112,22 @@ pub trait GrowableValues: Drop {
         ensures kind { IfOk result (λ array. type_in array ≡ type_of data_type) }
         ensures rows { IfOk result (λ array. masked (bits_in array) (stored_in array)
             ≡ masked validity (slots self)) }
+        ensures err { IsOkUnless result Error.OutOfMemory };
+
+    /// Rows of an array from row `start` on, a row for each bit of a mask: null where the bit is not set.
+    ///
+    /// # Requires
+    /// `start` and the count of bits are at most the count of its rows.
+    fn part_under(
+        alloc: Global,
+        array: &Self::Array,
+        start: usize,
+        own: &Bitmap,
+    ) -> Result<Self::Array, Error>
+        requires { start + length own.now ≤ length (masked (bits_in array.now) (stored_in array.now)) }
+        ensures same { IfOk result (λ part. type_in part ≡ type_in array.now) }
+        ensures rows { IfOk result (λ part. masked (bits_in part) (stored_in part)
+            ≡ mask own.now (sliced (masked (bits_in array.now) (stored_in array.now)) start (length own.now))) }
         ensures err { IsOkUnless result Error.OutOfMemory };
 
     /// An array of any type as one whose rows are stored so.
@@ -272,6 +288,42 @@ impl<'a, G: GrowableValues> FlatGrowable<'a, G> {
             has_failed: _,
         } = self;
         finish(data_type, values, validity)
+    }
+
+    /// Appends rows of bound array `index` from row `start` on, a row for each bit of a mask: null where the bit is not set.
+    ///
+    /// # Requires
+    /// `index` is that of a bound array, and `start` and the count of bits are at most the count of its rows.
+    ///
+    /// # Errors
+    /// `Failed` where an earlier call refused; `Overflow` only where the rows do not fit the type; `OutOfMemory` where
+    /// memory is refused.
+    pub fn extend_masked(&mut self, index: usize, start: usize, own: &Bitmap) -> Result<(), Error>
+        requires { NamesRows self.old index start (length own.now) }
+        ensures ok { OnOk result (self.new
+            ≡ appended self.old (mask own.now (named_rows self.old index start (length own.now)))) }
+        ensures fits { OnOk result (FitsItself self.new) }
+        ensures err { OnErr result (HasFailed self.old self.new) }
+        ensures failed { (result ≡ Err Error.Failed) ↔ (self.old.failed ≡ true) }
+        ensures overflow { result ≡ Err Error.Overflow → FitsWith self.old
+            (mask own.now (named_rows self.old index start (length own.now))) → ⊥ }
+        ensures null { null_slot self.old.arrow_type ≡ Null }
+        ensures others { IfErr result IsRefusal }
+    {
+        if self.has_failed {
+            return Err(Error::Failed);
+        }
+        let array: &'a G::Array = self.arrays[index];
+        self.has_failed = true;
+        let len = own.len();
+        let Some(total) = self.len.checked_add(len) else {
+            return Err(Error::Overflow);
+        };
+        let part = G::part_under(self.validity.allocator(), array, start, own)?;
+        append(&mut self.values, &mut self.validity, &part, 0, len)?;
+        self.len = total;
+        self.has_failed = false;
+        Ok(())
     }
 }
 

@@ -13,6 +13,7 @@ ghost use Rattle.arrow_flat_growable.specs.FlatLaws.{is_counted, fits_unmasked, 
 ghost use Rattle.arrow_flat_growable.specs.MaskLaws.{mask-part};
 
 use crate::growable::flat::{FlatGrowable, GrowableValues};
+use crate::under::part_under;
 use arrow_arrays::array::AnyArray;
 use arrow_flat::array::{AnyElement, PrimitiveArray};
 use arrow_memory::bitmap::Bitmap;
@@ -109,6 +110,15 @@ impl<T: AnyElement> GrowableValues for Vec<T> {
         let alloc = *self.allocator();
         let values = Buffer::from_vec(alloc, self)?;
         Ok(PrimitiveArray::new(data_type, values, validity))
+    }
+
+    fn part_under(
+        alloc: Global,
+        array: &PrimitiveArray<T>,
+        start: usize,
+        own: &Bitmap,
+    ) -> Result<PrimitiveArray<T>, Error> {
+        part_under(alloc, array, start, own)
     }
 
     fn of_any(array: &AnyArray) -> &PrimitiveArray<T> {

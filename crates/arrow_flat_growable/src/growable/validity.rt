@@ -55,6 +55,11 @@ impl GrowableValidity {
         })
     }
 
+    /// The allocator of its bits.
+    pub fn allocator(&self) -> Global {
+        self.alloc
+    }
+
     /// Appends the bits of `len` rows of an array from row `start` on, a word at a time: all set where it
     /// has no validity.
     ///

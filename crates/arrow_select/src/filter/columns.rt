@@ -8,7 +8,7 @@ ghost use Rattle.arrow_flat.specs.AnyPrimitive.{any_rows, any_type};
 ghost use Rattle.arrow_flat.specs.ByteRows.{byte_slots};
 ghost use Rattle.arrow_flat.specs.Parts.{FitsRows, boolean_rows, rows_by};
 ghost use Rattle.arrow_arrays.specs.Any.{any_array_rows};
-ghost use Rattle.arrow_select.specs.Selected.{KeptUnder, kept_rows_under, valid_in_both};
+ghost use Rattle.arrow_select.specs.Selected.{KeptUnder, kept_rows_under};
 ghost use Rattle.arrow_select.specs.Selection.{mask_in};
 
 use crate::filter::boolean::filter_boolean;
@@ -18,6 +18,7 @@ use crate::filter::selection::Selection;
 use arrow_arrays::array::AnyArray;
 use arrow_flat::array::{AnyPrimitive, BooleanArray, ByteRows, FlatArray, PrimitiveArray, Values};
 use arrow_flat_growable::growable::GrowableKind;
+use arrow_flat_growable::under::under;
 use arrow_memory::bitmap::Bitmap;
 use arrow_types::error::Error;
 use arrow_types::types::{NativeType, Offset};
@@ -183,40 +184,4 @@ fn bytes_under<O: Offset, K: GrowableKind>(
 {
     let values = under(alloc, array, validity)?;
     Ok(filter_bytes(alloc, &values, selection, count)?)
-}
-
-// The same array, null also where a bit of the validity is not set.
-fn under<V: Values>(
-    alloc: Global,
-    array: &FlatArray<V>,
-    validity: Option<&Bitmap>,
-) -> Result<FlatArray<V>, Error>
-    requires { FitsRows (option_copied validity) (length (rows_by V.slots array.now)) }
-    ensures array_type { IfOk result (λ made. made.arrow_type ≡ array.now.arrow_type) }
-    ensures rows { IfOk result (λ made. rows_by V.slots made
-        ≡ masked (option_copied validity.entry) (rows_by V.slots array.now)) }
-    ensures count { IfOk result (λ made. length (rows_by V.slots made) ≡ length (rows_by V.slots array.now)) }
-    ensures err { IsOkUnless result Error.OutOfMemory }
-{
-    // There is a row for each of the values.
-    let _ = array.len();
-    match validity {
-        None => Ok(array.clone()?),
-        Some(bits) => {
-            let both = both_valid(alloc, array.validity(), bits)?;
-            Ok(array.clone()?.with_validity(Some(both)))
-        }
-    }
-}
-
-// The bits that are set, as far as a validity is set too.
-fn both_valid(alloc: Global, own: Option<&Bitmap>, bits: &Bitmap) -> Result<Bitmap, Error>
-    requires { FitsRows (option_copied own) (length bits.now) }
-    ensures ok { IfOk result (λ both. both ≡ valid_in_both (option_copied own.entry) bits.now) }
-    ensures err { IsOkUnless result Error.OutOfMemory }
-{
-    match own {
-        None => Ok(bits.clone()?),
-        Some(own) => own.and(alloc, bits),
-    }
 }

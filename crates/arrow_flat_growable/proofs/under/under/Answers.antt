@@ -3,8 +3,8 @@ use Rattle.std.specs.Prelude.{option_copied}
 use Rattle.arrow_types.specs.Rows.{masked}
 use Rattle.arrow_flat.specs.Parts.{FitsRows, rows_by, with_bits}
 use Rattle.arrow_flat.proofs.PartsLemmas.{length-masked}
-use Rattle.arrow_select.proofs.KeptFields.{bits_under, rows_under}
-use Rattle.arrow_select.proofs.filter.columns.under.Goals as goal
+use Rattle.arrow_flat_growable.proofs.MaskLemmas.{bits_under, rows_under}
+use Rattle.arrow_flat_growable.proofs.under.under.Goals as goal
 
 pub both_valid-requires : goal.both_valid-requires
 both_valid-requires g c =
