@@ -21,6 +21,7 @@ pub mod SpreadLemmas
 pub mod StepLemmas
 pub mod UnionBoundLemmas
 pub mod UnionChildLemmas
+pub mod UnionFieldLemmas
 pub mod UnionFinishLemmas
 pub mod UnionGrowLemmas
 pub mod UnionLoopLemmas

@@ -12,18 +12,19 @@ use Rattle.arrow_types.proofs.FitsLemmas.{Fits-beginning}
 use Rattle.arrow_memory.specs.Sliced.{sliced}
 use Rattle.arrow_memory.proofs.SlicedLemmas.{length-sliced, sliced-cut}
 use Rattle.arrow_arrays.specs.Crowded.{CrowdedRow, child_at}
-use Rattle.arrow_arrays.specs.Layout.{Layout, field_ids, rows, variant_at}
-use Rattle.arrow_arrays.specs.TypeParts.{mode_in}
-use Rattle.arrow_arrays.specs.UnionParts.{UnionParts, child_rows_of, mode_by, rows_of_field, union_layout, union_rows}
+use Rattle.arrow_arrays.specs.Layout.{Layout, field_ids, rows, type_of_layout, variant_at}
+use Rattle.arrow_arrays.specs.TypeParts.{field_types, mode_in}
+use Rattle.arrow_arrays.specs.UnionParts.{SpansRows, UnionParts, child_rows_of, mode_by, rows_of_field, union_layout, union_rows}
 use Rattle.arrow_arrays.proofs.TypeLemmas.{union_has_field}
 use Rattle.arrow_flat_growable.specs.Grown.{Grown, AreCrowded, CannotHold, FitsWith, RefusedBy, named_rows, null_rows_of, rows_among, source_at}
 use Rattle.arrow_growable.specs.Child.{AreBoundAs, BindsRows, bound_rows, source_rows}
+use Rattle.arrow_growable.specs.Fields.{BindsFields}
 use Rattle.arrow_growable.specs.GrownUnion.{AreFew, GrowsVariants, HoldsVariants, IsBoundUnion, IsUnionOver, NullsRefused, RunRefused, absent, nth_grown, places_by, variant_rows}
 use Rattle.arrow_growable.specs.Nested.{rows_of_all}
 use Rattle.arrow_growable.specs.UnionRuns.{IsRun}
-use Rattle.arrow_growable.specs.Variants.{field_part, run_rows, variant_type}
+use Rattle.arrow_growable.specs.Variants.{IsSparse, field_part, run_rows, variant_type}
 use Rattle.arrow_growable.proofs.UnionGrowLemmas.{as_many, chosen_refused, column_is, others_refused, places_refused, type_there}
-use Rattle.arrow_growable.proofs.UnionRunLemmas.{child_rows_are, run_crowded}
+use Rattle.arrow_growable.proofs.UnionRunLemmas.{child_rows_are, none_there, run_crowded}
 use Rattle.arrow_growable.proofs.UnionTypeLemmas.{FitsPlaces, fits_variants, null_variant}
 
 -- children that are bound as before
@@ -120,6 +121,30 @@ module _ (layouts : List Layout) (index : ℕ) (p : UnionParts) (bounded : index
   pub child_rows : (g : Grown) (f row j n : ℕ) → g.sources ≡ Some (map (child_at f) layouts) → IsRun p row f j n → bound_rows g index ≡ rows_of_field p.children f
   child_rows g f row j n sources run =
       ap (λ s. source_rows s index) sources ∙ (ap rows (source_child f) ∙ child_rows_are p f run.field)
+
+  -- and the rows of a sparse union lie in each
+  pub binds_fields : (t : ArrowType) (offsets : Option (List ℤ)) (gs : List Grown) → p.arrow_type ≡ t → IsSparse p → IsBoundUnion layouts t offsets gs → BindsFields p index gs
+  binds_fields t offsets gs type_is sparse bound =
+      let width : length gs ≡ length p.children = as_many t gs bound.over.types ∙ (ap (λ u. length (field_types u)) (sym type_is) ∙ (ap length (sym sparse.fields) ∙ length-map p.children type_of_layout)) in
+      let spans = subst (λ r. SpansRows r p.start (length p.types) p.children) sparse.child_rows sparse.spans in
+      record {
+        width = width;
+        types = λ f within. type_there t gs f bound.over.types within ∙ ap (λ u. variant_type u f) (sym type_is);
+        binds =
+            λ f within.
+            let among : f < length p.children = omega (arith, within, width) in
+            let long = ap length (ap rows (source_child f) ∙ child_rows_are p f among) in
+            let read = ap length (get_or-map rows p.children f none_there [] among) in
+            record {
+              layouts = map (child_at f) layouts;
+              sources = bound.sources f within;
+              bound = omega (arith, bounded, length-map layouts (child_at f));
+              within = omega (arith, spans f none_there among, long, read);
+            };
+        rows =
+            λ f within.
+            ap (λ s. source_rows s index) (bound.sources f within) ∙ (ap rows (source_child f) ∙ child_rows_are p f (omega (arith, within, width)));
+      }
 
   -- a row of a child that is crowded is that of a row of the run
   crowded_in_run : (f row j n : ℕ) → IsRun p row f j n → row + n ≤ length p.types → AreCrowded (Some (map (child_at f) layouts)) index j n → AreCrowded (Some layouts) index row n

@@ -62,7 +62,7 @@ with_others_there (suc f) (suc g) n (h ∷ gs) within other =
 pub column_is : (gs : List Grown) (g : ℕ) → g < length gs → get_or (rows_of_all gs) g [] ≡ (nth_grown gs g).rows
 column_is gs g within = get_or-map (λ (h : Grown). h.rows) gs g absent [] within
 
-columns_long : (gs : List Grown) → length (rows_of_all gs) ≡ length gs
+pub columns_long : (gs : List Grown) → length (rows_of_all gs) ≡ length gs
 columns_long gs = length-map gs (λ (h : Grown). h.rows)
 
 run_long : (offsets : Option (List ℤ)) (f : ℕ) (more : List Slot) (n : ℕ) (gs : List Grown) → length (with_run offsets f more n gs) ≡ length gs
@@ -91,7 +91,7 @@ other_rows t (Some os) f g n more gs mode type_is within other =
     ap (λ h. h.rows) (with_rows_there f g more gs other) ∙ (sym (append-nil (nth_grown gs g).rows) ∙ (λ j. (nth_grown gs g).rows ++ others_part (sym mode j) (variant_type t g) n))
 
 -- numbers behind numbers
-range-append : (a m n : ℕ) → range_with_len a (m + n) ≡ range_with_len a m ++ range_with_len (a + m) n
+pub range-append : (a m n : ℕ) → range_with_len a (m + n) ≡ range_with_len a m ++ range_with_len (a + m) n
 range-append a zero n =
     let none : zero + n ≡ n = omega arith in
     let at : a ≡ a + zero = omega arith in

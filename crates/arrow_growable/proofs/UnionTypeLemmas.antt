@@ -1,12 +1,16 @@
 -- What the type of a union says: ids that differ, null slots, and which rows fit by what each child holds of them.
-use Rattle.std.proofs.Common.{arith, ◌≡◌, ◌+◌, ◌<◌, ◌≤◌, ◌^◌, ◌⊎◌, inl, inr, ℕ, zero, suc, ℤ, pos, Option, Some, None, List, [], ◌∷◌, length, map, get_or, refl, ap, sym, subst, ◌∙◌}
+use Rattle.std.proofs.Common.{arith, ◌≡◌, ◌+◌, ◌<◌, ◌≤◌, ◌^◌, ◌⊎◌, inl, inr, ℕ, zero, suc, ℤ, pos, Option, Some, None, List, [], ◌∷◌, length, map, get_or, Vec, Global, refl, ap, sym, subst, ◌∙◌}
 use Rattle.std.specs.Prelude.{slice_index_or}
 use Rattle.std.proofs.lemmas.List.{length-map}
 use Rattle.arrow_types.specs.declared.datatypes.physical_type.PhysicalType.TheVariants as physical
+use Rattle.arrow_types.specs.declared.datatypes.DataType.{DataType, Union}
+use Rattle.arrow_types.specs.declared.datatypes.Field.{Field}
 use Rattle.arrow_types.specs.declared.datatypes.UnionMode.{UnionMode}
 use Rattle.arrow_types.specs.declared.datatypes.UnionMode.TheVariants.{Dense, Sparse}
 use Rattle.arrow_types.specs.ArrowType.{ArrowType, ArrowFields, plain, list, struct, union, dictionary, extension, null, field, no_fields, more_fields, type_in, from_fields}
-use Rattle.arrow_types.specs.Carried.{AreTypeIds, IsCarried}
+use Rattle.arrow_types.specs.Carried.{AreTypeIds, IsCarried, IsTypeId}
+use Rattle.arrow_types.specs.TypeOf.{fields_of, ids_of, type_of}
+use Rattle.arrow_types.proofs.TypeLemmas.{type_of-Union}
 use Rattle.arrow_types.specs.Fits.{Fits, FitsDense, FitsSparse, dense_part, sparse_part}
 use Rattle.arrow_types.specs.Physical.{physical_type_of}
 use Rattle.arrow_types.specs.Slot.{Slot, Variant, id_at, null_slot}
@@ -55,6 +59,21 @@ ids_of_union (extension name metadata t) carried kind = ids_of_union t carried k
 
 pub ids_apart : (t : ArrowType) → IsCarriedAs physical.Union t → AreApart (field_ids t) (length (field_types t))
 ids_apart t kind = ids_of_union t kind.0 kind.1
+
+-- an id that a data type lists
+
+told : (ids : List ℤ) (fs : ArrowFields) (f : ℕ) (id : ℤ) → AreTypeIds (Some ids) (length (from_fields fs)) → f < length (map type_in (from_fields fs)) → id ≡ get_or ids f id → (id_at (Some ids) f ≡ id) × IsTypeId id
+told ids fs f id are within read =
+    let inside : f < length ids = omega (arith, within, are.0, length-map (from_fields fs) type_in) in
+    (id_given ids f id inside ∙ sym read, subst IsTypeId (sym read) (are.1.1 f id inside))
+
+pub id_told : (t : DataType) (fields : Vec Field Global) (ids : Option (Vec ℤ Global)) (mode : UnionMode) (given_ids : Vec ℤ Global) (f : ℕ) (id : ℤ) → IsCarriedAs physical.Union (type_of t) → t ≡ Union fields ids mode → ids ≡ Some given_ids → f < length (field_types (type_of t)) → id ≡ get_or given_ids.items f id → (id_at (field_ids (type_of t)) f ≡ id) × IsTypeId id
+id_told t fields ids mode given_ids f id kind is some within read =
+    let seen : type_of t ≡ union mode (Some given_ids.items) (fields_of fields.items) = ap type_of is ∙ (type_of-Union fields ids mode ∙ ap (λ o. union mode (ids_of o) (fields_of fields.items)) some) in
+    let carried = subst IsCarried seen kind.0 in
+    let inside = subst (λ u. f < length (field_types u)) seen within in
+    let is_told = told given_ids.items (fields_of fields.items) f id carried.0 inside read in
+    (ap (λ u. id_at (field_ids u) f) seen ∙ is_told.0, is_told.1)
 
 -- a null slot is one of the first field
 

@@ -31,3 +31,17 @@ grown_of (FixedSizeBinary g) = g
 grown_of (Nested g) = g
 grown_of (Dictionary g) = g
 grown_of (Union g) = g
+
+-- one without children, whose null slots are null
+abbrev pub IsFlat : AnyGrowable → Type 0
+IsFlat (Null g) = ⊥
+IsFlat (Boolean g) = Unit {0}
+IsFlat (Primitive g) = Unit {0}
+IsFlat (Utf8 g) = Unit {0}
+IsFlat (LargeUtf8 g) = Unit {0}
+IsFlat (Binary g) = Unit {0}
+IsFlat (LargeBinary g) = Unit {0}
+IsFlat (FixedSizeBinary g) = Unit {0}
+IsFlat (Nested g) = ⊥
+IsFlat (Dictionary g) = ⊥
+IsFlat (Union g) = ⊥

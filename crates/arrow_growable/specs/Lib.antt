@@ -3,6 +3,7 @@ pub mod Bound
 pub mod Child
 pub mod Dictionary
 pub mod Falls
+pub mod Fields
 pub mod Form
 pub mod FormLaws
 pub mod Growing

@@ -1,14 +1,17 @@
 -- Rows of unions, and what the child of each field holds of them ("Union Layout").
-use Rattle.std.specs.Prelude.{ℕ, ℤ, ◌≡◌, ◌<◌, List, [], length, map, slice_index_or}
+use Rattle.std.specs.Prelude.{ℕ, ℤ, ◌≡◌, ◌<◌, Bool, None, List, [], length, map, slice_index_or}
 use Rattle.std.specs.List.{All, zip}
+use Rattle.std.specs.Ordering.{int_eq}
 use Rattle.arrow_types.specs.declared.datatypes.UnionMode.{UnionMode}
 use Rattle.arrow_types.specs.declared.datatypes.UnionMode.TheVariants.{Dense, Sparse}
+use Rattle.arrow_types.specs.declared.datatypes.physical_type.PhysicalType.TheVariants as physical
 use Rattle.arrow_types.specs.ArrowType.{ArrowType, plain, null}
 use Rattle.arrow_types.specs.Fits.{dense_part, sparse_part}
 use Rattle.arrow_types.specs.Slot.{Slot, Variant, id_at}
-use Rattle.arrow_arrays.specs.Layout.{column_of_id, field_ids, union_items}
+use Rattle.arrow_flat.specs.Faults.{IsCarriedAs}
+use Rattle.arrow_arrays.specs.Layout.{column_of_id, field_ids, type_of_layout, union_items}
 use Rattle.arrow_arrays.specs.TypeParts.{field_types, mode_in}
-use Rattle.arrow_arrays.specs.UnionParts.{IsKnown}
+use Rattle.arrow_arrays.specs.UnionParts.{IsKnown, SpansRows, UnionParts}
 
 -- the type of field f
 abbrev pub variant_type : ArrowType → ℕ → ArrowType
@@ -33,3 +36,17 @@ pub record HoldsColumns (t : ArrowType) (types : List ℤ) (places : List ℕ) (
   pub known : All (IsKnown (field_ids t) (length columns)) types
   pub placed : All (λ row. row.1 < length (column_of_id (field_ids t) 0 row.0 columns)) (zip types places)
   pub parts : (f : ℕ) → f < length columns → slice_index_or columns f [] ≡ field_part t f (union_items (field_ids t) columns types places)
+
+-- of which rows a type id is this one
+abbrev pub have_id : ℤ → List ℤ → List Bool
+have_id id types = map (int_eq id) types
+
+-- what is known of the parts of a sparse union
+pub record IsSparse (p : UnionParts) : Type 0 where
+  pub kind : IsCarriedAs physical.Union p.arrow_type
+  pub mode : mode_in p.arrow_type ≡ Sparse
+  pub child_rows : p.child_rows ≡ None
+  pub fields : map type_of_layout p.children ≡ field_types p.arrow_type
+  pub some : 0 < length p.children
+  pub spans : SpansRows p.child_rows p.start (length p.types) p.children
+  pub known : All (IsKnown (field_ids p.arrow_type) (length p.children)) p.types

@@ -4,6 +4,7 @@ mod any;
 mod bound;
 mod children;
 mod dictionary;
+pub mod fields;
 mod finish;
 mod grown_spans;
 mod join;

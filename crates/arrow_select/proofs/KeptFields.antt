@@ -28,7 +28,9 @@ use Rattle.arrow_arrays.proofs.StructLemmas.{length-struct_rows}
 use Rattle.arrow_growable.specs.Variants.{variant_type}
 use Rattle.arrow_select.specs.Laws.{places_from, true_places}
 use Rattle.arrow_select.specs.Selected.{KeptColumns, KeptUnder, at_set, kept_rows_under, valid_in_both}
-use Rattle.arrow_take.specs.SparseUnions.{HasPart, IsSparse, have_id, taken_id}
+use Rattle.arrow_take.specs.SparseUnions.{HasPart, taken_id}
+use Rattle.arrow_growable.specs.Variants.{IsSparse}
+use Rattle.arrow_growable.specs.Variants.{have_id}
 use Rattle.arrow_take.specs.Taken.{MarksTaken, is_taken_valid, named_bit, taken_rows, valid_index}
 use Rattle.arrow_growable.proofs.FieldColumns.{column_long}
 use Rattle.arrow_take.proofs.IndexLemmas.{Stores, length-gather, map-agree, row_taken}
@@ -80,40 +82,6 @@ kept_marks None kept mask is fits =
     subst (MarksTaken None (true_places mask)) (sym is) (refl, All-map IsValue (λ k. Number (pos k)) (places_from 0 mask) (λ k d within. refl))
 kept_marks (Some bits) kept mask is fits =
     subst (MarksTaken (Some bits) (true_places mask)) (sym is) (set_at_places bits mask false (sym fits) ∙ sym (map-map (named_bit bits) (λ k. Number (pos k)) (places_from 0 mask)))
-
--- rows under two validities
-mask_none : (bits : List Bool) → mask bits [] ≡ []
-mask_none [] = refl
-mask_none (b ∷ bits) = refl
-
-mask_both : (own bits : List Bool) (xs : List Slot) → mask (both_bits own bits) xs ≡ mask bits (mask own xs)
-mask_both [] bits xs = sym (mask_none bits)
-mask_both (o ∷ own) [] xs = refl
-mask_both (o ∷ own) (b ∷ bits) [] = refl
-mask_both (true ∷ own) (b ∷ bits) (x ∷ xs) = ap (λ ys. (if b then x else Null) ∷ ys) (mask_both own bits xs)
-mask_both (false ∷ own) (true ∷ bits) (x ∷ xs) = ap (λ ys. Null ∷ ys) (mask_both own bits xs)
-mask_both (false ∷ own) (false ∷ bits) (x ∷ xs) = ap (λ ys. Null ∷ ys) (mask_both own bits xs)
-
-pub rows_under : (own : Option (List Bool)) (bits : List Bool) (xs : List Slot) → mask (valid_in_both own bits) xs ≡ mask bits (masked own xs)
-rows_under None bits xs = refl
-rows_under (Some own) bits xs = mask_both own bits xs
-
-long_both : (own bits : List Bool) → length own ≡ length bits → length (both_bits own bits) ≡ length bits
-long_both [] [] same = refl
-long_both [] (b ∷ bits) same = absurd (omega (arith, same))
-long_both (o ∷ own) [] same = refl
-long_both (o ∷ own) (b ∷ bits) same = ap suc (long_both own bits (omega (arith, same)))
-
-pub bits_under : (own : Option (List Bool)) (bits : List Bool) → FitsRows own (length bits) → length (valid_in_both own bits) ≡ length bits
-bits_under None bits fits = refl
-bits_under (Some own) bits fits = long_both own bits fits
-
--- which rows have an id, by a bit each
-pub bits_of_id : (answered : ℕ → Bool → Type 0) (types : List ℤ) (id : ℤ) (bits : List Bool) → AnswersBits answered (length types) bits → ((row : ℕ) (bit : Bool) → row < length types → answered row bit → bit ≡ int_eq id (get_or types row id)) → bits ≡ have_id id types
-bits_of_id answered types id bits answers each =
-    same_lists _ _ (answers.count ∙ sym (length-map types (int_eq id))) (λ i d within.
-    let inside : i < length types = omega (arith, within, answers.count) in
-    get_or_default bits i d false within ∙ (each i (get_or bits i false) inside (answers.each i inside) ∙ sym (get_or-map (int_eq id) types i id d inside)))
 
 -- a type that is no union has a validity
 pub no_union : {k : Kind} (t : ArrowType) → kind_in (physical_type_of t) ≡ k → (k ≡ union_kind → ⊥) → null_slot t ≡ Null

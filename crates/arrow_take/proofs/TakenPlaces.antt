@@ -25,7 +25,8 @@ use Rattle.arrow_growable.specs.Variants.{field_part, part_of_id, variant_type}
 use Rattle.arrow_growable.proofs.UnionTypeLemmas.{ids_apart, null_variant}
 use Rattle.arrow_growable.proofs.VariantColumns.{AreApart}
 use Rattle.arrow_take.specs.DenseUnions.{ArePlaces, HasUnionParts, IsPlace, NamesPart, NamesRows, kept}
-use Rattle.arrow_take.specs.SparseUnions.{have_id, taken_id}
+use Rattle.arrow_take.specs.SparseUnions.{taken_id}
+use Rattle.arrow_growable.specs.Variants.{have_id}
 use Rattle.arrow_take.proofs.KeptLemmas.{kept_all, kept_gathered}
 use Rattle.arrow_take.proofs.TakenVariants.{union_depth}
 

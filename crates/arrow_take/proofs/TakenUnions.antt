@@ -24,7 +24,9 @@ use Rattle.arrow_arrays.proofs.ShapeLemmas.{list_shaped, plain_shape}
 use Rattle.arrow_growable.proofs.UnionTypeLemmas.{variant_fits}
 use Rattle.arrow_growable.proofs.VariantLemmas.{naturals_back}
 use Rattle.arrow_take.specs.DenseUnions.{ArePlaces, HasOffsets, HasUnionParts, NamesPart, SomeRankPasses, ranks}
-use Rattle.arrow_take.specs.SparseUnions.{HasPart, HaveParts, IsSparse, PartDoesNotFit, SomePartDoesNotFit, have_id, taken_id}
+use Rattle.arrow_take.specs.SparseUnions.{HasPart, HaveParts, PartDoesNotFit, SomePartDoesNotFit, taken_id}
+use Rattle.arrow_growable.specs.Variants.{IsSparse}
+use Rattle.arrow_growable.specs.Variants.{have_id}
 use Rattle.arrow_take.specs.Taken.{valid_index}
 use Rattle.arrow_take.proofs.DenseRows.{dense_fit, dense_known, dense_placed, dense_rows, dense_typed, ranks_long, ranks_pass}
 use Rattle.arrow_take.proofs.SparseRows.{arrays_fit, arrays_known, arrays_long, arrays_rows, arrays_typed}

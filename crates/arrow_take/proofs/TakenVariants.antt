@@ -43,7 +43,9 @@ use Rattle.arrow_growable.proofs.UnionRunLemmas.{rows_are}
 use Rattle.arrow_growable.proofs.UnionTypeLemmas.{ids_apart, null_variant}
 use Rattle.arrow_growable.proofs.VariantColumns.{AreApart, own_column}
 use Rattle.arrow_take.specs.Taken.{named_bit, valid_index}
-use Rattle.arrow_take.specs.SparseUnions.{IsSparse, have_id, taken_id}
+use Rattle.arrow_take.specs.SparseUnions.{taken_id}
+use Rattle.arrow_growable.specs.Variants.{IsSparse}
+use Rattle.arrow_growable.specs.Variants.{have_id}
 use Rattle.arrow_take.proofs.IndexLemmas.{each_index, map-agree}
 use Rattle.arrow_take.proofs.SparseRows.{item_at}
 use Rattle.arrow_take.proofs.TakenFields.{valid_keys}
@@ -72,25 +74,6 @@ union_depth u types (Some child_rows) start children = refl
 pub no_rows : (child_rows : Option (List ℕ)) → None ≡ option_map (map pos) child_rows → child_rows ≡ None
 no_rows None is = refl
 no_rows (Some child_rows) is = cc
-
--- the type ids that a union gives its fields
-given : (ids : List ℤ) (f : ℕ) (d : ℤ) → f < length ids → id_at (Some ids) f ≡ get_or ids f d
-given [] f d within = absurd (omega (arith, within))
-given (id ∷ ids) zero d within = refl
-given (id ∷ ids) (suc f) d within = given ids f d (omega (arith, within))
-
-told : (ids : List ℤ) (fs : ArrowFields) (f : ℕ) (id : ℤ) → AreTypeIds (Some ids) (length (from_fields fs)) → f < length (map type_in (from_fields fs)) → id ≡ get_or ids f id → (id_at (Some ids) f ≡ id) × IsTypeId id
-told ids fs f id are within read =
-    let inside : f < length ids = omega (arith, within, are.0, length-map (from_fields fs) type_in) in
-    (given ids f id inside ∙ sym read, subst IsTypeId (sym read) (are.1.1 f id inside))
-
-pub id_told : (t : DataType) (fields : Vec Field Global) (ids : Option (Vec ℤ Global)) (mode : UnionMode) (given_ids : Vec ℤ Global) (f : ℕ) (id : ℤ) → IsCarriedAs physical.Union (type_of t) → t ≡ Union fields ids mode → ids ≡ Some given_ids → f < length (field_types (type_of t)) → id ≡ get_or given_ids.items f id → (id_at (field_ids (type_of t)) f ≡ id) × IsTypeId id
-id_told t fields ids mode given_ids f id kind is some within read =
-    let seen : type_of t ≡ union mode (Some given_ids.items) (fields_of fields.items) = ap type_of is ∙ (type_of-Union fields ids mode ∙ ap (λ o. union mode (ids_of o) (fields_of fields.items)) some) in
-    let carried = subst IsCarried seen kind.0 in
-    let inside = subst (λ u. f < length (field_types u)) seen within in
-    let is_told = told given_ids.items (fields_of fields.items) f id carried.0 inside read in
-    (ap (λ u. id_at (field_ids u) f) seen ∙ is_told.0, is_told.1)
 
 -- a bit that was answered
 pub answered_bit : (answered : ℕ → Bool → Type 0) (count : ℕ) (bits : List Bool) → AnswersBits answered count bits → (bit_at : ℕ → Bool) → ((row : ℕ) (bit : Bool) → row < count → answered row bit → bit ≡ bit_at row) → (i : ℕ) → i < count → get_or bits i false ≡ bit_at i

@@ -16,16 +16,6 @@ use Rattle.arrow_arrays.specs.TypeParts.{field_types, mode_in}
 use Rattle.arrow_arrays.specs.UnionParts.{IsKnown, SpansRows, UnionParts}
 use Rattle.arrow_growable.specs.Variants.{field_part, variant_type}
 
--- what is known of the parts of a sparse union
-pub record IsSparse (p : UnionParts) : Type 0 where
-  pub kind : IsCarriedAs physical.Union p.arrow_type
-  pub mode : mode_in p.arrow_type ≡ Sparse
-  pub child_rows : p.child_rows ≡ None
-  pub fields : map type_of_layout p.children ≡ field_types p.arrow_type
-  pub some : 0 < length p.children
-  pub spans : SpansRows p.child_rows p.start (length p.types) p.children
-  pub known : All (IsKnown (field_ids p.arrow_type) (length p.children)) p.types
-
 -- the type id at a place, and another one where there is no place
 abbrev pub id_or : ℤ → List ℤ → Option ℕ → ℤ
 id_or first types None = first
@@ -34,10 +24,6 @@ id_or first types (Some n) = slice_index_or types n first
 -- the type id of the row that an index names, and that of the first field where it is null
 abbrev pub taken_id : UnionParts → Slot → ℤ
 taken_id p index = id_or (id_at (field_ids p.arrow_type) 0) p.types (key_in index)
-
--- of which rows a type id is this one
-abbrev pub have_id : ℤ → List ℤ → List Bool
-have_id id types = map (int_eq id) types
 
 -- an array of what a field has of rows of a union, which fits
 pub record HasPart (t : ArrowType) (xs : List Slot) (f : ℕ) (array : AnyArray) : Type 0 where

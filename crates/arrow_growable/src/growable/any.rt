@@ -1,12 +1,18 @@
 //! Arrays of any type under construction.
 
-ghost use Rattle.arrow_growable.specs.AnyGrowable.{grown_of, primitive_grown_of};
+ghost use Rattle.std.specs.Prelude.{◌≡◌, ◌↔◌, true, Err, IfErr, IsTrue, OnErr, OnOk, length};
+ghost use Rattle.arrow_types.specs.declared.error.Error.{Error};
+ghost use Rattle.arrow_types.specs.Rows.{mask};
+ghost use Rattle.arrow_types.specs.Slot.{Null, null_slot};
+ghost use Rattle.arrow_flat_growable.specs.Grown.{FitsItself, FitsWith, HasFailed, IsRefusal, NamesRows, appended, named_rows};
+ghost use Rattle.arrow_growable.specs.AnyGrowable.{IsFlat, grown_of, primitive_grown_of};
 
 use crate::growable::{
     BoundNulls, Growable, GrowableBinary, GrowableBoolean, GrowableDictionary,
     GrowableFixedSizeBinary, GrowableNested, GrowablePrimitive, GrowableUnion, GrowableUtf8,
 };
 use arrow_arrays::array::AnyArray;
+use arrow_memory::bitmap::Bitmap;
 use arrow_types::error::Error;
 use arrow_types::types::{days_ms, i256, months_days_ns};
 
@@ -92,6 +98,70 @@ impl Drop for AnyGrowable<'_> {
     #[cycle(growables)]
     fn drop(self) {
         of_any!(self, _growable => {})
+    }
+}
+
+impl AnyGrowablePrimitive<'_> {
+    // As of a growable of one element type.
+    fn extend_masked(&mut self, index: usize, start: usize, own: &Bitmap) -> Result<(), Error>
+        requires { NamesRows (primitive_grown_of self.old) index start (length own.now) }
+        ensures ok { OnOk result (primitive_grown_of self.new ≡ appended (primitive_grown_of self.old)
+            (mask own.now (named_rows (primitive_grown_of self.old) index start (length own.now)))) }
+        ensures fits { OnOk result (FitsItself (primitive_grown_of self.new)) }
+        ensures err { OnErr result (HasFailed (primitive_grown_of self.old) (primitive_grown_of self.new)) }
+        ensures failed { (result ≡ Err Error.Failed) ↔ ((primitive_grown_of self.old).failed ≡ true) }
+        ensures overflow { result ≡ Err Error.Overflow → FitsWith (primitive_grown_of self.old)
+            (mask own.now (named_rows (primitive_grown_of self.old) index start (length own.now))) → ⊥ }
+        ensures null { null_slot (primitive_grown_of self.old).arrow_type ≡ Null }
+        ensures others { IfErr result IsRefusal }
+    {
+        of_primitive!(self, growable => growable.extend_masked(index, start, own))
+    }
+}
+
+impl AnyGrowable<'_> {
+    // Whether it has no children, and its null slots are null.
+    pub(crate) fn is_flat(&self) -> bool
+        ensures { IsTrue result → IsFlat self.now }
+    {
+        match self {
+            AnyGrowable::Boolean(_) | AnyGrowable::Primitive(_) => true,
+            AnyGrowable::Utf8(_) | AnyGrowable::LargeUtf8(_) => true,
+            AnyGrowable::Binary(_) | AnyGrowable::LargeBinary(_) => true,
+            AnyGrowable::FixedSizeBinary(_) => true,
+            _ => false,
+        }
+    }
+
+    // Appends rows of bound array `index` from row `start` on, a row for each bit of a mask: null where the bit is not set.
+    pub(crate) fn extend_masked(
+        &mut self,
+        index: usize,
+        start: usize,
+        own: &Bitmap,
+    ) -> Result<(), Error>
+        requires flat { IsFlat self.old }
+        requires there { NamesRows (grown_of self.old) index start (length own.now) }
+        ensures ok { OnOk result (grown_of self.new ≡ appended (grown_of self.old)
+            (mask own.now (named_rows (grown_of self.old) index start (length own.now)))) }
+        ensures fits { OnOk result (FitsItself (grown_of self.new)) }
+        ensures err { OnErr result (HasFailed (grown_of self.old) (grown_of self.new)) }
+        ensures failed { (result ≡ Err Error.Failed) ↔ ((grown_of self.old).failed ≡ true) }
+        ensures overflow { result ≡ Err Error.Overflow → FitsWith (grown_of self.old)
+            (mask own.now (named_rows (grown_of self.old) index start (length own.now))) → ⊥ }
+        ensures null { null_slot (grown_of self.old).arrow_type ≡ Null }
+        ensures others { IfErr result IsRefusal }
+    {
+        match self {
+            AnyGrowable::Boolean(growable) => growable.extend_masked(index, start, own),
+            AnyGrowable::Primitive(growable) => growable.extend_masked(index, start, own),
+            AnyGrowable::Utf8(growable) => growable.extend_masked(index, start, own),
+            AnyGrowable::LargeUtf8(growable) => growable.extend_masked(index, start, own),
+            AnyGrowable::Binary(growable) => growable.extend_masked(index, start, own),
+            AnyGrowable::LargeBinary(growable) => growable.extend_masked(index, start, own),
+            AnyGrowable::FixedSizeBinary(growable) => growable.extend_masked(index, start, own),
+            _ => unreachable!(),
+        }
     }
 }
 

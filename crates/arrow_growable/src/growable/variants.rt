@@ -20,6 +20,7 @@ ghost use Rattle.arrow_growable.specs.GrownUnion.{AreFew, GrowsVariants, HoldsVa
 use crate::growable::Growable;
 use crate::growable::any::AnyGrowable;
 use crate::growable::children::{extend_all_nulls, extend_nulls};
+use crate::growable::fields::{append_ids, extend_by_fields, go_by_fields};
 use crate::growable::union_runs::run_of;
 use arrow_arrays::array::UnionArray;
 use arrow_types::datatypes::DataType;
@@ -28,7 +29,7 @@ use arrow_types::error::Error;
 /// The most rows that a child of a dense union has, since an offset has 32 bits.
 const MOST: usize = 2_147_483_648;
 
-// Appends `len` rows of bound array `index`, from row `start` on, a run of one field at a time.
+// Appends `len` rows of bound array `index`, from row `start` on, field by field or a run of one field at a time.
 #[cycle(extend)]
 pub(crate) fn extend_variants(
     types: &mut Vec<i8>,
@@ -63,6 +64,9 @@ pub(crate) fn extend_variants(
     let array: &UnionArray = arrays[index];
     // So many rows fit a `usize`.
     let _ = array.len();
+    if go_by_fields(children, array, start, len) {
+        return extend_by_fields(types, children, array, index, start, len);
+    }
     let end = start + len;
     let mut row = start;
     while row < end {
@@ -301,20 +305,6 @@ fn extend_first_nulls(
     let place = children[0].len();
     append_places(offsets, place, count)?;
     extend_nulls(&mut children[0], count)
-}
-
-// Appends the type ids of `count` rows of an array, from row `row` on.
-fn append_ids(
-    types: &mut Vec<i8>,
-    array: &UnionArray,
-    row: usize,
-    count: usize,
-) -> Result<(), Error>
-    requires { row + count ≤ length array.now.types }
-    ensures ok { OnOk result (types.new.items ≡ types.old.items ++ sliced array.now.types row count) }
-    ensures err { IsOkUnless result Error.OutOfMemory }
-{
-    Ok(types.extend_from_slice(&array.types().as_slice()[row..row + count])?)
 }
 
 // Appends the type id of the first field so often.

@@ -10,14 +10,15 @@ ghost use Rattle.arrow_arrays.specs.TypeParts.{field_types};
 ghost use Rattle.arrow_arrays.specs.UnionParts.{union_rows};
 ghost use Rattle.arrow_take.specs.Answers.{Gives};
 ghost use Rattle.arrow_select.specs.Selection.{mask_in};
-ghost use Rattle.arrow_take.specs.SparseUnions.{HasPart, HaveParts, IsSparse, have_id};
+ghost use Rattle.arrow_take.specs.SparseUnions.{HasPart, HaveParts};
+ghost use Rattle.arrow_growable.specs.Variants.{IsSparse};
+ghost use Rattle.arrow_growable.specs.Variants.{have_id};
 
 use crate::filter::columns::{are_flat, kept_under};
 use crate::filter::selection::{Selection, kept_rows};
 use arrow_arrays::array::{AnyArray, UnionArray};
-use arrow_memory::bitmap::Bitmap;
+use arrow_growable::growable::fields::{id_of_field, rows_of_id};
 use arrow_memory::buffer::Buffer;
-use arrow_take::take::union::id_of_field;
 use arrow_types::error::Error;
 use std::alloc::Global;
 
@@ -100,21 +101,4 @@ fn kept_field(
         return Ok(None);
     };
     Ok(Some(kept))
-}
-
-// Of which rows a type id is this one.
-fn rows_of_id(alloc: Global, types: &[i8], id: i8) -> Result<Bitmap, Error>
-    ensures ok { IfOk result (λ own. own ≡ have_id id types.now) }
-    ensures err { IsOkUnless result Error.OutOfMemory }
-{
-    let own = Bitmap::collect_bool(alloc, types.len(), |row| has_id(types, id, row))?;
-    Ok(own)
-}
-
-// Whether a row has a type id.
-fn has_id(types: &[i8], id: i8, row: usize) -> bool
-    requires { row < length types.now }
-    ensures { result ≡ int_eq id (slice_index_or types.now row id) }
-{
-    types[row] == id
 }

@@ -11,7 +11,7 @@ ghost use Rattle.arrow_memory.specs.Grown.{IsGrowthError};
 ghost use Rattle.arrow_flat.specs.Parts.{FitsRows, rows_by};
 ghost use Rattle.arrow_arrays.specs.TypeParts.{mode_in};
 ghost use Rattle.arrow_take.specs.Taken.{AreIndices};
-ghost use Rattle.arrow_take.specs.SparseUnions.{have_id};
+ghost use Rattle.arrow_growable.specs.Variants.{have_id};
 ghost use Rattle.arrow_take.specs.DenseUnions.{AreFew, HasOffsets, ArePlaces, CanName, HasUnionParts, IsPlace, NamesRows, SomeRankPasses, kept, ranks};
 
 use crate::take::indices::index_at;

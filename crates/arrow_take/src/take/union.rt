@@ -16,7 +16,8 @@ ghost use Rattle.arrow_arrays.specs.TypeParts.{field_types};
 ghost use Rattle.arrow_arrays.specs.UnionParts.{union_layout, union_rows};
 ghost use Rattle.arrow_flat_growable.specs.Grown.{bound_to};
 ghost use Rattle.arrow_take.specs.Taken.{AnswersUnions, AreIndices, valid_index};
-ghost use Rattle.arrow_take.specs.SparseUnions.{HasPart, HaveParts, PartDoesNotFit, SomePartDoesNotFit, have_id, id_or, taken_id};
+ghost use Rattle.arrow_take.specs.SparseUnions.{HasPart, HaveParts, PartDoesNotFit, SomePartDoesNotFit, id_or, taken_id};
+ghost use Rattle.arrow_growable.specs.Variants.{have_id};
 ghost use Rattle.arrow_take.specs.DenseUnions.{ArePlaces, CanName, HasUnionParts, NamesPart};
 
 use crate::take::append::append_taken;
@@ -26,6 +27,7 @@ use crate::validity::is_valid;
 use arrow_arrays::array::{AnyArray, UnionArray};
 use arrow_flat::array::PrimitiveArray;
 use arrow_growable::growable::GrowableUnion;
+use arrow_growable::growable::fields::id_of_field;
 use arrow_memory::bitmap::Bitmap;
 use arrow_memory::buffer::Buffer;
 use arrow_types::datatypes::DataType;
@@ -147,25 +149,6 @@ fn type_at(types: &[i8], first: i8, place: Option<usize>) -> i8
     match place {
         None => first,
         Some(n) => types[n],
-    }
-}
-
-/// The type id of a field of a union, by its number.
-///
-/// # Requires
-/// The data type is carried and that of a union or of an extension of one, and it has such a field.
-pub fn id_of_field(data_type: &DataType, f: usize) -> i8
-    requires kind { IsCarriedAs physical.Union (type_of data_type.now) }
-    requires field { f < length (field_types (type_of data_type.now)) }
-    ensures { result ≡ id_at (field_ids (type_of data_type.now)) f }
-{
-    match data_type {
-        DataType::Union(_, ids, _) => match ids {
-            None => f as i8,
-            Some(ids) => ids[f] as i8,
-        },
-        DataType::Extension(_, inner, _) => id_of_field(inner, f),
-        _ => unreachable!(),
     }
 }
 

@@ -9,7 +9,7 @@ use Rattle.arrow_memory.specs.Sliced.{sliced}
 use Rattle.arrow_memory.proofs.SlicedLemmas.{length-sliced}
 use Rattle.arrow_flat.specs.Parts.{bits_of_slice}
 use Rattle.arrow_types.specs.ArrowType.{ArrowType}
-use Rattle.arrow_arrays.specs.Layout.{Layout, rows}
+use Rattle.arrow_arrays.specs.Layout.{Layout, rows, type_of_layout}
 use Rattle.arrow_arrays.specs.UnionParts.{union_layout}
 use Rattle.arrow_growable.specs.declared.growable.any.AnyGrowable.{AnyGrowable}
 use Rattle.arrow_arrays.specs.TypeDepth.{deepest, type_depth}
@@ -33,9 +33,9 @@ use Rattle.arrow_growable.proofs.LoopLemmas.{as_many_items, bound_after, deepest
 use Rattle.arrow_growable.proofs.SpreadLemmas.{spread_all}
 use Rattle.arrow_growable.proofs.StepLemmas.{Step, all_well, binds_all, bits_counted, bound_map, children_cannot, failed_parts, fits_step, lies_with, names_of, rises_in, spans_lie, spread_part, step}
 use Rattle.arrow_growable.proofs.UnionChildLemmas.{as_many_types, binds_names, named_are, nth_read, on_both, place_is, same_after, set_bound, set_rows, set_well}
-use Rattle.arrow_growable.proofs.UnionBoundLemmas.{bound_next}
+use Rattle.arrow_growable.proofs.UnionBoundLemmas.{binds_fields, bound_next}
 use Rattle.arrow_growable.proofs.UnionGrowLemmas.{with_others_here}
-use Rattle.arrow_growable.proofs.UnionLoopLemmas.{among, run_binds, run_more, run_stops}
+use Rattle.arrow_growable.proofs.UnionLoopLemmas.{among, run_binds, run_more, run_stops, union_type}
 use Rattle.arrow_growable.proofs.UnionStructLemmas.{failed_union, grown_fits, grown_union, held_counted}
 use Rattle.arrow_growable.proofs.growable.+extend.Goals as goal
 use Rattle.arrow_growable.proofs.growable.+extend.Goals.{nested::GrowableNestedGrowable::extend-After-self-4-1}
@@ -334,6 +334,18 @@ pub variants::extend_dense-append_places-requires : goal.variants::extend_dense-
 variants::extend_dense-append_places-requires t c =
     let place = place_is c.args.children.now c.args.field c.len-place.result c.index-children-field.result c.requires.field c.requires.well c.len-place.ensures.count c.len-place.ensures.rows in
     omega (arith, place, c.requires.few)
+
+pub variants::extend_variants-extend_by_fields-requires-clause-bound : goal.variants::extend_variants-extend_by_fields-requires-clause-bound
+variants::extend_variants-extend_by_fields-requires-clause-bound t c =
+    let array = c.index-arrays-index.result in
+    let layouts = map (λ (r : Bor _). union_layout r.now) c.args.arrays.now in
+    let source = source_is (λ (r : Bor _). union_layout r.now) c.args.arrays.now c.args.index array c.requires.index c.index-arrays-index.is in
+    let bounded : c.args.index < length layouts = omega (arith, c.requires.index, length-map c.args.arrays.now (λ (r : Bor _). union_layout r.now)) in
+    binds_fields layouts c.args.index array.now bounded source (source_type layouts c.args.index) (offsets_in c.args.offsets.now) (map grown_of c.args.children.now) (sym (union_type array.now) ∙ ap type_of_layout (sym source)) (c.if-go_by_fields.ensures.sparse refl) c.requires.bound
+
+pub variants::extend_variants-returns-then-go_by_fields-clause-bound : goal.variants::extend_variants-returns-then-go_by_fields-clause-bound
+variants::extend_variants-returns-then-go_by_fields-clause-bound t c =
+    bound_next _ _ _ _ _ _ c.requires.bound c.extend_by_fields.ensures.kept refl
 
 pub variants::extend_variants-loop-row-preserved : goal.variants::extend_variants-loop-row-preserved
 variants::extend_variants-loop-row-preserved t c =

@@ -11,7 +11,8 @@ use Rattle.arrow_arrays.specs.SliceOf.{slice_of}
 use Rattle.arrow_select.specs.Laws.{true_places}
 use Rattle.arrow_select.specs.Selected.{KeptUnder}
 use Rattle.arrow_select.specs.Selection.{mask_in}
-use Rattle.arrow_take.specs.SparseUnions.{HasPart, have_id}
+use Rattle.arrow_take.specs.SparseUnions.{HasPart}
+use Rattle.arrow_growable.specs.Variants.{have_id}
 use Rattle.arrow_select.proofs.KeptFields.{field_kept, made_is, names_rows}
 use Rattle.arrow_take.proofs.TakenVariants.{part_long, q_rows, q_type, spans_rows}
 use Rattle.arrow_select.proofs.filter.union.kept_field.Goals as goal

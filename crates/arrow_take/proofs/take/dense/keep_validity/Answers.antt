@@ -5,7 +5,7 @@ use Rattle.std.proofs.lemmas.List.{append-nil, get_or-map, get_or_default, lengt
 use Rattle.std.proofs.lemmas.Option.{get_or_from_slice_get}
 use Rattle.arrow_flat.specs.Parts.{FitsRows}
 use Rattle.arrow_take.specs.DenseUnions.{kept}
-use Rattle.arrow_take.specs.SparseUnions.{have_id}
+use Rattle.arrow_growable.specs.Variants.{have_id}
 use Rattle.arrow_take.proofs.KeptLemmas.{kept-more, one_kept}
 use Rattle.arrow_take.proofs.take.dense.keep_validity.Goals as goal
 use Rattle.arrow_take.proofs.take.dense.keep_validity.Goals.{then-has_id+in_ok-push, else-has_id}

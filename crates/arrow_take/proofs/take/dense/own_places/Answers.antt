@@ -5,7 +5,7 @@ use Rattle.std.proofs.lemmas.List.{length-map}
 use Rattle.arrow_flat.specs.Parts.{FitsRows, rows_by}
 use Rattle.arrow_flat.proofs.PartsLemmas.{length-masked}
 use Rattle.arrow_take.specs.DenseUnions.{kept}
-use Rattle.arrow_take.specs.SparseUnions.{have_id}
+use Rattle.arrow_growable.specs.Variants.{have_id}
 use Rattle.arrow_take.proofs.KeptLemmas.{kept_fits, kept_rows}
 use Rattle.arrow_take.proofs.take.dense.own_places.Goals as goal
 

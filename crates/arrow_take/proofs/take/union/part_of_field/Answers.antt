@@ -9,7 +9,8 @@ use Rattle.arrow_arrays.specs.Any.{any_array_rows, layout_of}
 use Rattle.arrow_arrays.specs.Layout.{field_ids}
 use Rattle.arrow_arrays.specs.SliceOf.{slice_of}
 use Rattle.arrow_take.specs.DenseUnions.{ArePlaces, NamesPart, kept}
-use Rattle.arrow_take.specs.SparseUnions.{have_id, taken_id}
+use Rattle.arrow_take.specs.SparseUnions.{taken_id}
+use Rattle.arrow_growable.specs.Variants.{have_id}
 use Rattle.arrow_take.specs.Taken.{valid_index}
 use Rattle.arrow_take.proofs.TakenPlaces.{places_name}
 use Rattle.arrow_take.proofs.TakenUnions.{sliced_names, sparse_by}

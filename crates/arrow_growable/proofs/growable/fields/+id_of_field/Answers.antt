@@ -1,7 +1,7 @@
 use Rattle.std.proofs.Common.{◌∙◌, ap, arith, of_z, sym, to_z, w8, w32}
 use Rattle.std.proofs.lemmas.Int.{ints, to_z-of_z}
-use Rattle.arrow_take.proofs.TakenVariants.{id_told}
-use Rattle.arrow_take.proofs.take.union.+id_of_field.Goals as goal
+use Rattle.arrow_growable.proofs.UnionTypeLemmas.{id_told}
+use Rattle.arrow_growable.proofs.growable.fields.+id_of_field.Goals as goal
 
 pub returns-in-Some : goal.returns-in-Some
 returns-in-Some t c =
