@@ -1,4 +1,4 @@
-use Rattle.std.proofs.Common.{arith, ◌≡◌, ◌+◌, ◌<◌, length, slice_index, w64, ap, ◌∙◌}
+use Rattle.std.proofs.Common.{arith, ◌≡◌, ◌+◌, ◌<◌, slice_index, w64}
 use Rattle.std.specs.Int.{trailing_zeros}
 use Rattle.arrow_flat_growable.proofs.EmptyNullLemmas.{lowest_set, one_done, others_left, others_less}
 use Rattle.arrow_flat_growable.proofs.growable.byte_rows.are_empty.Goals as goal

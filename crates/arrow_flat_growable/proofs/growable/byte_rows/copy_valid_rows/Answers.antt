@@ -1,4 +1,4 @@
-use Rattle.std.proofs.Common.{arith, rules, ◌≡◌, ◌∙◌, ◌+◌, ◌++◌, ap}
+use Rattle.std.proofs.Common.{arith, rules, ◌∙◌, ◌+◌, ◌++◌, ap}
 use Rattle.arrow_flat_growable.specs.GrownRows.{AreEmptyNulls}
 use Rattle.arrow_flat_growable.proofs.EmptyNullLemmas.{same_count, same_offsets, same_values}
 use Rattle.arrow_flat_growable.proofs.ResultLemmas.{on_ok}
