@@ -1,5 +1,5 @@
 -- Rows by index: what is stored by index, under the validity by index.
-use Rattle.std.proofs.Common.{arith, ◌≡◌, ◌/◌, ◌^◌, ◌==◌, ℕ, suc, ◌<◌, ℤ, pos, negsuc, Bool, true, false, not, Option, Some, None, List, [], ◌∷◌, ◌++◌, ◌+◌, ◌≤◌, ◌&&◌, length, map, take, take-add, get_or, nat_eq, bit_and, replicate, if◌then◌else◌, refl, ap, sym, subst, ◌∙◌, append_assoc}
+use Rattle.std.proofs.Common.{arith, ◌≡◌, ◌/◌, ◌^◌, ◌==◌, ℕ, suc, ◌<◌, ℤ, pos, negsuc, Bool, true, false, not, Option, Some, None, List, [], ◌∷◌, ◌++◌, ◌+◌, ◌≤◌, length, map, take, take-add, get_or, nat_eq, bit_and, replicate, if◌then◌else◌, refl, ap, sym, subst, ◌∙◌, append_assoc}
 use Rattle.std.specs.Prelude.{IfSome, slice_get, slice_index_or, option_map, unwrap_or}
 use Rattle.std.specs.Int.{bit_at}
 use Rattle.std.specs.List.{All}
@@ -8,7 +8,6 @@ use Rattle.std.proofs.lemmas.Simd.{map-map}
 use Rattle.std.proofs.lemmas.Nat.Bits.{shr_and_one}
 use Rattle.std.proofs.lemmas.Option.{get_or_from_slice_get, slice_get-get_or, slice_get-map, slice_get_read, slice_get_within}
 use Rattle.arrow_types.specs.ArrowType.{ArrowType}
-use Rattle.arrow_types.specs.Relation.{is_null}
 use Rattle.arrow_types.specs.Rows.{gather, gathered, mask, masked, valid_at}
 use Rattle.arrow_types.specs.Slot.{Slot, Null, Boolean, Number, DayTime, MonthDayNano, Bytes, Text, Items, Parts as fields, Dict, Variant, null_slot}
 use Rattle.arrow_types.proofs.RowsLemmas.{slice_get-mask, take_at_read}
@@ -18,7 +17,7 @@ use Rattle.arrow_flat.proofs.PartsLemmas.{bit_within, length-masked, row_at}
 use Rattle.arrow_flat.proofs.PieceLemmas.{slot_of_row}
 use Rattle.arrow_arrays.specs.KeyedParts.{AreKeys, IsKey, key_in}
 use Rattle.arrow_arrays.proofs.KeyLemmas.{null_row, number_row}
-use Rattle.arrow_take.specs.Taken.{MarksTaken, is_taken_valid, named_bit, picked, place_in, valid_index}
+use Rattle.arrow_take.specs.Taken.{MarksTaken, is_taken_valid, named_bit, picked, valid_index}
 
 -- functions that agree on each member
 pub map-agree : {A B : Type 0} (P : A → Type 0) (f g : A → B) → ((x : A) → P x → f x ≡ g x) → (xs : List A) → All P xs → map f xs ≡ map g xs
@@ -229,11 +228,6 @@ no_bits (s ∷ indices) keys =
     let first = each_index 0 (λ s. false ≡ named_bit [] s) refl (λ n none. absurd (omega (arith, none))) s (keys 0 s (omega arith)) in
     let rest = no_bits indices (λ k d within. keys (suc k) d (omega (arith, within))) in
     λ i. first i ∷ rest i
-
--- the bit that an index names, by whether it is null
-pub named_by : (bits : List Bool) (count : ℕ) (s : Slot) (b : Bool) → IsKey count s → count ≡ length bits → 0 < count → slice_get bits (place_in s) ≡ Some b → not (is_null s) && b ≡ named_bit bits s
-named_by bits count s b key same some read =
-    each_index count (λ s. slice_get bits (place_in s) ≡ Some b → not (is_null s) && b ≡ named_bit bits s) (λ at. refl) (λ n within at. sym (get_or_from_slice_get bits n b false at)) s key read
 
 -- as many rows as indices that are stored
 pub length-masked_slots : {I : Type 0} (slot : I → Slot) (v : Option (List Bool)) (keys : List I) → FitsRows v (length keys) → length (masked v (map slot keys)) ≡ length keys

@@ -1,5 +1,5 @@
 -- Sparse unions by index: what each field has of the rows that are named, and the rows by that.
-use Rattle.std.proofs.Common.{arith, ◌≡◌, ◌+◌, ◌*◌, ◌<◌, ◌≤◌, ℕ, zero, suc, max, ℤ, pos, Bool, true, false, not, Option, Some, None, List, [], ◌∷◌, drop, length, map, get_or, Vec, Global, if◌then◌else◌, refl, ap, sym, subst, ◌∙◌}
+use Rattle.std.proofs.Common.{arith, ◌≡◌, ◌+◌, ◌*◌, ◌<◌, ◌≤◌, ℕ, suc, max, ℤ, pos, Bool, true, false, not, Option, Some, None, List, [], drop, length, map, get_or, if◌then◌else◌, refl, ap, sym, subst, ◌∙◌}
 use Rattle.std.specs.Prelude.{◌&&◌, option_map, unwrap_or}
 use Rattle.std.specs.List.{All, range_with_len, zip}
 use Rattle.std.specs.Ordering.{int_eq}
@@ -10,22 +10,17 @@ use Rattle.std.proofs.lemmas.List.FromFn.{get_or-range_with_len, length-range_wi
 use Rattle.std.proofs.lemmas.Option.{slice_get-get_or}
 use Rattle.std.proofs.lemmas.Simd.{map-map}
 use Rattle.std.proofs.lemmas.Slice.Zip.{length-zip}
-use Rattle.arrow_types.specs.declared.datatypes.UnionMode.{UnionMode}
-use Rattle.arrow_types.specs.declared.datatypes.DataType.{DataType, Union}
-use Rattle.arrow_types.specs.declared.datatypes.Field.{Field}
+use Rattle.arrow_types.specs.declared.datatypes.DataType.{Union}
 use Rattle.arrow_types.specs.declared.datatypes.physical_type.PhysicalType.TheVariants as physical
-use Rattle.arrow_types.specs.ArrowType.{ArrowFields, ArrowType, from_fields, null, plain, type_in, union}
-use Rattle.arrow_types.specs.Carried.{AreTypeIds, IsCarried, IsTypeId}
+use Rattle.arrow_types.specs.ArrowType.{ArrowType, null, plain, union}
 use Rattle.arrow_types.specs.Fits.{sparse_part}
 use Rattle.arrow_types.specs.Relation.{is_null}
 use Rattle.arrow_types.specs.Rows.{gather, gathered, valid_at}
 use Rattle.arrow_types.specs.Slot.{Slot, Null, Number, Variant, id_at, null_slot}
-use Rattle.arrow_types.specs.TypeOf.{fields_of, ids_of, type_of}
-use Rattle.arrow_types.proofs.TypeLemmas.{type_of-Union}
+use Rattle.arrow_types.specs.TypeOf.{type_of}
 use Rattle.arrow_memory.specs.Gathered.{AnswersBits}
 use Rattle.arrow_memory.specs.Sliced.{sliced}
 use Rattle.arrow_memory.proofs.SlicedLemmas.{length-sliced}
-use Rattle.arrow_flat.specs.Faults.{IsCarriedAs}
 use Rattle.arrow_flat.specs.Laws.{marked_row}
 use Rattle.arrow_flat.specs.Parts.{MarksNulls}
 use Rattle.arrow_arrays.specs.declared.array.any.AnyArray.{AnyArray}

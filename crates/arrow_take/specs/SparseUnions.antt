@@ -1,19 +1,16 @@
 -- Sparse unions: what is known of their parts, the type ids of rows by index, and what each field has of rows ("Sparse Union").
-use Rattle.std.specs.Prelude.{◌≡◌, ℕ, ◌<◌, ℤ, Bool, Option, None, Some, List, length, map, slice_index_or}
-use Rattle.std.specs.List.{All}
-use Rattle.std.specs.Ordering.{int_eq}
+use Rattle.std.specs.Prelude.{◌≡◌, ℕ, ◌<◌, ℤ, Option, None, Some, List, length, slice_index_or}
 use Rattle.arrow_types.specs.declared.datatypes.UnionMode.TheVariants.{Sparse}
 use Rattle.arrow_types.specs.declared.datatypes.physical_type.PhysicalType.TheVariants as physical
 use Rattle.arrow_types.specs.ArrowType.{ArrowType}
 use Rattle.arrow_types.specs.Fits.{Fits}
 use Rattle.arrow_types.specs.Slot.{Slot, id_at}
-use Rattle.arrow_flat.specs.Faults.{IsCarriedAs}
 use Rattle.arrow_arrays.specs.declared.array.any.AnyArray.{AnyArray}
 use Rattle.arrow_arrays.specs.Any.{any_array_rows, any_array_type}
 use Rattle.arrow_arrays.specs.KeyedParts.{key_in}
-use Rattle.arrow_arrays.specs.Layout.{field_ids, type_of_layout}
-use Rattle.arrow_arrays.specs.TypeParts.{field_types, mode_in}
-use Rattle.arrow_arrays.specs.UnionParts.{IsKnown, SpansRows, UnionParts}
+use Rattle.arrow_arrays.specs.Layout.{field_ids}
+use Rattle.arrow_arrays.specs.TypeParts.{field_types}
+use Rattle.arrow_arrays.specs.UnionParts.{UnionParts}
 use Rattle.arrow_growable.specs.Variants.{field_part, variant_type}
 
 -- the type id at a place, and another one where there is no place

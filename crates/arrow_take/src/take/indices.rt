@@ -6,7 +6,7 @@ ghost use Rattle.std.specs.Vec.{vec_len, vec_capacity};
 ghost use Rattle.arrow_types.specs.declared.error.Error.{Error};
 ghost use Rattle.arrow_types.specs.Rows.{masked, valid_at};
 ghost use Rattle.arrow_types.specs.Slot.{Null};
-ghost use Rattle.arrow_flat.specs.Parts.{FitsRows, MarksNulls, rows_by};
+ghost use Rattle.arrow_flat.specs.Parts.{FitsRows, rows_by};
 ghost use Rattle.arrow_memory.specs.Sliced.{sliced};
 ghost use Rattle.arrow_memory.specs.Words.{low_bits};
 ghost use Rattle.arrow_arrays.specs.KeyedParts.{IsKeyIn, key_in};
@@ -165,8 +165,6 @@ fn append_bits<I: Index>(
     requires some { 0 < length bits.now }
     requires none { taken.old ≡ [] }
     requires fits { FitsRows (option_copied validity) (length stored.now) }
-    requires marks { MarksNulls (option_copied validity)
-        (masked (option_copied validity) (map I.slot stored.now)) }
     requires inside { AreIndices (length bits.now) (masked (option_copied validity) (map I.slot stored.now)) }
     ensures ok { OnOk result (taken.new
         ≡ map (named_bit bits.now) (masked (option_copied validity.entry) (map I.slot stored.now))) }
@@ -175,52 +173,47 @@ fn append_bits<I: Index>(
     let mut row = 0;
     while row < stored.len() {
         let count = WORD_BITS.min(stored.len() - row);
-        let word = bits_at(bits, stored, validity, row, count);
+        let word = bits_at(bits, stored, validity, row / WORD_BITS, count);
         taken.push_word(word, count)?;
         row += count;
     }
     Ok(())
 }
 
-// The bits that `count` indices from `row` on name, as a word.
+// The bits that `count` indices from index `64 * j` on name, as a word: no branch depends on a bit.
 fn bits_at<I: Index>(
     bits: &Bitmap,
     stored: &[I],
     validity: Option<&Bitmap>,
-    row: usize,
+    j: usize,
     count: usize,
 ) -> u64
     requires some { 0 < length bits.now }
     requires fits { FitsRows (option_copied validity) (length stored.now) }
-    requires marks { MarksNulls (option_copied validity)
-        (masked (option_copied validity) (map I.slot stored.now)) }
-    requires within { row + count ≤ length stored.now }
+    requires within { 64 * j + count ≤ length stored.now }
     requires in_word { count ≤ 64 }
     requires inside { AreIndices (length bits.now) (masked (option_copied validity) (map I.slot stored.now)) }
     ensures { low_bits result count
         ≡ map (named_bit bits.now)
-        (sliced (masked (option_copied validity.entry) (map I.slot stored.now)) row count) }
+        (sliced (masked (option_copied validity.entry) (map I.slot stored.now)) (64 * j) count) }
 {
+    let valid = valid_word(validity, j);
+    let start = WORD_BITS * j;
     let mut word = 0;
     for k in 0..count {
-        word |= u64::from(bit_at(bits, stored, validity, row + k)) << k;
+        word |= u64::from(bit_at(bits, stored[start + k], valid >> k & 1 == 1)) << k;
     }
     word
 }
 
-// The bit that index `row` names, and one that is not set where it is null.
-fn bit_at<I: Index>(bits: &Bitmap, stored: &[I], validity: Option<&Bitmap>, row: usize) -> bool
+// The bit that an index names, and one that is not set where it is null.
+fn bit_at<I: Index>(bits: &Bitmap, index: I, is_valid: bool) -> bool
     requires some { 0 < length bits.now }
-    requires fits { FitsRows (option_copied validity) (length stored.now) }
-    requires marks { MarksNulls (option_copied validity)
-        (masked (option_copied validity) (map I.slot stored.now)) }
-    requires within { row < length stored.now }
-    requires inside { AreIndices (length bits.now) (masked (option_copied validity) (map I.slot stored.now)) }
-    ensures { result ≡ named_bit bits.now
-        (slice_index_or (masked (option_copied validity.entry) (map I.slot stored.now)) row Null) }
+    requires inside { IsIndex (length bits.now) (if is_valid then I.slot index else Null) }
+    ensures { result ≡ named_bit bits.now (if is_valid then I.slot index else Null) }
 {
-    let bit = bits.get_bit(index_at(stored, validity, row).unwrap_or(0));
-    is_valid(validity, row) & bit
+    let index = if is_valid { index } else { I::default() };
+    is_valid & bits.get_bit(index.to_usize())
 }
 
 // The validity of the rows that the indices name, where theirs is `validity`: a row is null where the index is, or the

@@ -1,4 +1,4 @@
-use Rattle.std.proofs.Common.{◌+◌, ◌≤◌, ◌++◌, ◌∙◌, arith, ap, length, map, take, take-add, sym}
+use Rattle.std.proofs.Common.{◌≡◌, ◌+◌, ◌*◌, ◌/◌, ◌++◌, ◌∙◌, arith, ap, length, map, take, take-add, sym}
 use Rattle.std.specs.Prelude.{option_copied}
 use Rattle.std.proofs.lemmas.List.{map-append, take_all}
 use Rattle.arrow_types.specs.Rows.{masked}
@@ -13,11 +13,17 @@ loop-row-preserved g c =
     let named = named_bit c.args.bits.now in
     let row = c.loop-row.row in
     let count = c.min-count.result in
-    let within : row + count ≤ length c.args.stored.now = omega (arith, c.loop-row-test.true, c.min-count.ensures) in
-    (within, c.in_ok-push_word.ensures.ok ∙ ((λ i. c.loop-row.invariant.1 i ++ c.bits_at-word.ensures i) ∙ (sym (map-append named (take row rows) (sliced rows row count)) ∙ ap (map named) (sym (take-add row count rows)))))
+    let aligned = c.loop-row.invariant.aligned c.loop-row-test.true in
+    let here : 64 * (row / 64) ≡ row = omega (arith, aligned) in
+    let word = c.bits_at-word.ensures ∙ ap (λ k. map named (sliced rows k count)) here in
+    record {
+      within = omega (arith, c.loop-row-test.true, c.min-count.ensures);
+      aligned = λ left. omega (arith, c.min-count.ensures, aligned, left);
+      bits = c.in_ok-push_word.ensures.ok ∙ ((λ i. c.loop-row.invariant.bits i ++ word i) ∙ (sym (map-append named (take row rows) (sliced rows row count)) ∙ ap (map named) (sym (take-add row count rows))));
+    }
 
 pub returns-clause-ok : goal.returns-clause-ok
 returns-clause-ok g c =
     let rows = masked (option_copied c.args.validity) (map g.I.NativeType.slot c.args.stored.now) in
     let all = length-masked_slots g.I.NativeType.slot _ c.args.stored.now c.requires.fits in
-    c.loop-row.invariant.1 ∙ ap (map (named_bit c.args.bits.now)) (take_all c.loop-row.row rows (omega (arith, all, c.loop-row-test.false)))
+    c.loop-row.invariant.bits ∙ ap (map (named_bit c.args.bits.now)) (take_all c.loop-row.row rows (omega (arith, all, c.loop-row-test.false)))
