@@ -1,9 +1,9 @@
 -- Rows that a mask keeps of structs and of sparse unions: each field by itself, null where a row is not its own.
-use Rattle.std.proofs.Common.{arith, ◌≡◌, ◌+◌, ◌<◌, ◌≤◌, ◌^◌, ℕ, suc, ℤ, pos, Bool, true, false, Option, Some, None, List, [], ◌∷◌, ◌++◌, length, map, get_or, if◌then◌else◌, refl, ap, sym, subst, ◌∙◌, append_assoc}
+use Rattle.std.proofs.Common.{arith, ◌≡◌, ◌+◌, ◌<◌, ◌≤◌, ◌^◌, ℕ, pos, Bool, true, false, Option, Some, None, List, [], ◌∷◌, ◌++◌, length, map, get_or, if◌then◌else◌, refl, ap, sym, subst, ◌∙◌, append_assoc}
 use Rattle.std.specs.Prelude.{option_map, unwrap_or}
 use Rattle.std.specs.List.{All}
 use Rattle.std.specs.Ordering.{int_eq}
-use Rattle.std.proofs.lemmas.List.{get_or-map, get_or_default, length-append, length-map, same_lists}
+use Rattle.std.proofs.lemmas.List.{length-append, length-map}
 use Rattle.std.proofs.lemmas.List.Elements.{All-cons, All-map, All-nil}
 use Rattle.std.proofs.lemmas.Option.{slice_get-get_or}
 use Rattle.std.proofs.lemmas.Simd.{map-map}
@@ -13,8 +13,6 @@ use Rattle.arrow_types.specs.Fits.{Fits}
 use Rattle.arrow_types.specs.Physical.{physical_type_of}
 use Rattle.arrow_types.proofs.SlotLemmas.{null_slot-no_union}
 use Rattle.arrow_types.specs.Rows.{gather, gathered, mask, masked, select}
-use Rattle.arrow_memory.specs.Bits.{both_bits}
-use Rattle.arrow_memory.specs.Gathered.{AnswersBits}
 use Rattle.arrow_types.specs.Slot.{Slot, Null, Number, id_at, null_slot}
 use Rattle.arrow_flat.specs.Parts.{FitsRows, IsValue}
 use Rattle.arrow_flat.proofs.PartsLemmas.{length-masked}
@@ -27,7 +25,7 @@ use Rattle.arrow_arrays.specs.UnionParts.{UnionParts, union_rows}
 use Rattle.arrow_arrays.proofs.StructLemmas.{length-struct_rows}
 use Rattle.arrow_growable.specs.Variants.{variant_type}
 use Rattle.arrow_select.specs.Laws.{places_from, true_places}
-use Rattle.arrow_select.specs.Selected.{KeptColumns, KeptUnder, at_set, kept_rows_under, valid_in_both}
+use Rattle.arrow_select.specs.Selected.{KeptColumns, KeptUnder, at_set, kept_rows_under}
 use Rattle.arrow_take.specs.SparseUnions.{HasPart, taken_id}
 use Rattle.arrow_growable.specs.Variants.{IsSparse}
 use Rattle.arrow_growable.specs.Variants.{have_id}

@@ -1,5 +1,5 @@
 -- Rows of columns that a mask keeps, and values and bits at which a mask is set.
-use Rattle.std.specs.Prelude.{◌≡◌, ◌+◌, ◌<◌, ◌≤◌, ℕ, Bool, List, Option, None, [], ◌∷◌, Some, length, map, slice_get, take, if◌then◌else◌}
+use Rattle.std.specs.Prelude.{◌≡◌, ◌+◌, ◌<◌, ◌≤◌, ℕ, Bool, List, Option, [], ◌∷◌, Some, length, map, slice_get, take, if◌then◌else◌}
 use Rattle.std.specs.Int.{bit_at}
 use Rattle.std.specs.List.{All}
 use Rattle.arrow_types.specs.Fits.{Fits}
