@@ -180,8 +180,48 @@ fn append_bits<I: Index>(
     Ok(())
 }
 
-// The bits that `count` indices from index `64 * j` on name, as a word: no branch depends on a bit.
+// The bits that `count` indices from index `64 * j` on name, as a word.
 fn bits_at<I: Index>(
+    bits: &Bitmap,
+    stored: &[I],
+    validity: Option<&Bitmap>,
+    j: usize,
+    count: usize,
+) -> u64
+    requires some { 0 < length bits.now }
+    requires fits { FitsRows (option_copied validity) (length stored.now) }
+    requires within { 64 * j + count ≤ length stored.now }
+    requires in_word { count ≤ 64 }
+    requires inside { AreIndices (length bits.now) (masked (option_copied validity) (map I.slot stored.now)) }
+    ensures { low_bits result count
+        ≡ map (named_bit bits.now)
+        (sliced (masked (option_copied validity.entry) (map I.slot stored.now)) (64 * j) count) }
+{
+    match validity {
+        None => all_bits_at(bits, stored, j, count),
+        Some(_) => valid_bits_at(bits, stored, validity, j, count),
+    }
+}
+
+// The same where no index is null.
+fn all_bits_at<I: Index>(bits: &Bitmap, stored: &[I], j: usize, count: usize) -> u64
+    requires some { 0 < length bits.now }
+    requires within { 64 * j + count ≤ length stored.now }
+    requires in_word { count ≤ 64 }
+    requires inside { AreIndices (length bits.now) (map I.slot stored.now) }
+    ensures { low_bits result count
+        ≡ map (named_bit bits.now) (sliced (map I.slot stored.now) (64 * j) count) }
+{
+    let start = WORD_BITS * j;
+    let mut word = 0;
+    for k in 0..count {
+        word |= u64::from(bit_at(bits, stored[start + k], true)) << k;
+    }
+    word
+}
+
+// The same where some may be: no branch depends on a bit.
+fn valid_bits_at<I: Index>(
     bits: &Bitmap,
     stored: &[I],
     validity: Option<&Bitmap>,

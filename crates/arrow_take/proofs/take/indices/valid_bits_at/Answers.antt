@@ -10,7 +10,7 @@ use Rattle.arrow_memory.proofs.BitLemmas.{bits_of_word, word_more}
 use Rattle.arrow_arrays.specs.KeyedParts.{IsKey}
 use Rattle.arrow_take.specs.Taken.{named_bit}
 use Rattle.arrow_take.proofs.IndexLemmas.{gives_next, length-masked_slots, row_by_bit, row_within}
-use Rattle.arrow_take.proofs.take.indices.bits_at.Goals as goal
+use Rattle.arrow_take.proofs.take.indices.valid_bits_at.Goals as goal
 
 pub bit_at-requires-clause-inside : goal.bit_at-requires-clause-inside
 bit_at-requires-clause-inside g c =
