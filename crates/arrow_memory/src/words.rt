@@ -131,6 +131,7 @@ pub(crate) fn equal_bits(count: usize, bit: bool) -> u64
 }
 
 // Puts the `count` bits of a word behind the first `place` ones. What the last word holds behind them is zeros.
+#[inline(always)]
 pub(crate) fn append_word(words: &mut Vec<u64>, place: usize, word: u64, count: usize)
     requires full { length words.old.items ≡ div_ceil place 64 }
     requires in_word { count ≤ 64 }
@@ -147,18 +148,6 @@ pub(crate) fn append_word(words: &mut Vec<u64>, place: usize, word: u64, count: 
     if words.len() < (place + count).div_ceil(WORD_BITS) {
         words.push_reserved(word >> ((WORD_BITS - used) % WORD_BITS));
     }
-}
-
-// The same where the last word has room for the bits.
-#[inline(always)]
-pub(crate) fn append_within(words: &mut Vec<u64>, place: usize, word: u64, count: usize)
-    requires full { length words.old.items ≡ div_ceil place 64 }
-    requires begun { 0 < place % 64 }
-    requires within { place % 64 + count ≤ 64 }
-    ensures full { length words.new.items ≡ div_ceil (place + count) 64 }
-    ensures appended { AppendsWord words.old.items words.new.items place word count }
-{
-    words[place / WORD_BITS] |= word << (place % WORD_BITS);
 }
 
 // Puts `count` words of the bits from place `from` of others behind those that are there, with zeros past the

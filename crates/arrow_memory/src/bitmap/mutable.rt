@@ -9,7 +9,7 @@ ghost use Rattle.arrow_memory.specs.Sliced.{sliced};
 ghost use Rattle.arrow_memory.specs.Words.{low_bits};
 
 use crate::bitmap::Bitmap;
-use crate::words::{WORD_BITS, append_equal, append_within, append_word, equal_bits, low_word};
+use crate::words::{WORD_BITS, append_equal, append_word, equal_bits, low_word};
 use arrow_types::error::Error;
 use std::alloc::Global;
 use std::marker::Model;
@@ -151,25 +151,10 @@ impl MutableBitmap {
         ensures others { IfErr result IsGrowthError }
         ensures err { OnErr result (self.new ≡ self.old) }
     {
-        let used = self.len % WORD_BITS;
-        if used == 0 || used + len >= WORD_BITS {
-            return self.push_across(word, len);
-        }
-        append_within(&mut self.words, self.len, low_word(word, len), len);
-        self.len += len;
-        Ok(())
-    }
-
-    /// The same of any bits: those that the last word has no room for begin another.
-    #[inline(never)]
-    fn push_across(&mut self, word: u64, len: usize) -> Result<(), Error>
-        requires { len ≤ 64 }
-        ensures ok { OnOk result (self.new ≡ self.old ++ low_bits word len) }
-        ensures overflow { (result ≡ Err Error.Overflow) ↔ (2 ^ 64 ≤ length self.old + len) }
-        ensures others { IfErr result IsGrowthError }
-        ensures err { OnErr result (self.new ≡ self.old) }
-    {
-        let total = reserve(&mut self.words, self.len, len)?;
+        let Some(total) = self.len.checked_add(len) else {
+            return Err(Error::Overflow);
+        };
+        reserve_word(&mut self.words, total)?;
         append_word(&mut self.words, self.len, low_word(word, len), len);
         self.len = total;
         Ok(())
@@ -202,4 +187,18 @@ fn reserve(words: &mut Vec<u64>, len: usize, more: usize) -> Result<usize, Error
     };
     words.reserve(total.div_ceil(WORD_BITS) - words.len())?;
     Ok(total)
+}
+
+// Makes room for one word more, where so many bits need it.
+#[inline(always)]
+fn reserve_word(words: &mut Vec<u64>, total: usize) -> Result<(), Error>
+    requires { div_ceil total 64 ≤ length words.old.items + 1 }
+    ensures unchanged { words.new.items ≡ words.old.items }
+    ensures ok { OnOk result (div_ceil total 64 ≤ vec_capacity words.new) }
+    ensures err { IsOkUnless result Error.OutOfMemory }
+{
+    if words.len() < total.div_ceil(WORD_BITS) {
+        words.reserve(1)?;
+    }
+    Ok(())
 }
