@@ -1,7 +1,8 @@
 -- A flat array under construction: what is stored and its bits, one part behind the other.
 use Rattle.std.proofs.Common.{arith, ◌≡◌, ◌+◌, ◌≤◌, ◌<◌, ◌^◌, ℕ, Bool, false, List, [], ◌∷◌, ◌++◌, length, map, get_or, ap, sym, ◌∙◌}
+use Rattle.std.specs.Borrow.{Bor}
 use Rattle.std.specs.List.{All}
-use Rattle.std.proofs.lemmas.List.{length-append, get_or-map, take_all}
+use Rattle.std.proofs.lemmas.List.{length-append, get_or-map}
 use Rattle.arrow_types.specs.ArrowType.{ArrowType}
 use Rattle.arrow_types.specs.Carried.{IsCarried}
 use Rattle.arrow_types.specs.Fits.{Fits}
@@ -12,7 +13,7 @@ use Rattle.arrow_types.proofs.FitsLemmas.{Fits-nil}
 use Rattle.arrow_types.proofs.RowsLemmas.{length-mask}
 use Rattle.arrow_memory.specs.Sliced.{sliced}
 use Rattle.arrow_memory.proofs.SlicedLemmas.{length-sliced}
-use Rattle.arrow_flat_growable.specs.Flat.{IsGrownFlat}
+use Rattle.arrow_flat_growable.specs.Flat.{BindsAll, IsGrownFlat, KeepsBound}
 use Rattle.arrow_flat_growable.specs.FlatLaws.{fits_count}
 use Rattle.arrow_flat_growable.specs.Grown.{first_type, source_at}
 use Rattle.arrow_flat_growable.specs.MaskLaws.{mask-append}
@@ -31,14 +32,18 @@ pub appended_lengths : (bits more : List Bool) (stored part : List Slot) (n : �
 appended_lengths bits more stored part n same bits_more part_more =
     omega (arith, same, bits_more, part_more, length-append bits more, length-append stored part)
 
+-- arrays that are bound, and stay so
+pub stay_bound : {A : Type 0} {old new : ℕ → A → Type 0} (arrays : List (Bor A)) → KeepsBound old new → BindsAll old arrays → BindsAll new arrays
+stay_bound arrays keeps bound = λ i r within at. keeps i r.now (bound i r within at)
+
 -- what is stored in one without rows
-pub sound_empty : {G : Type 0} (slots : G → List Slot) (are_of : G → ArrowType → Type 0) (spares : List Bool → List Slot → Type 0) (values : G) (bits : List Bool) (layouts : List Layout) (t : ArrowType) → IsCarried t → All (λ l. type_of_layout l ≡ t) layouts → are_of values t → slots values ≡ [] → bits ≡ [] → spares [] [] → IsGrownFlat slots are_of spares values bits 0 layouts t false
-sound_empty slots are_of spares values bits layouts t carried one_type kind stored none spared =
-    record { carried = carried; one_type = one_type; kind = kind; counted = λ sound. ap length none; covers = λ sound. record { covered = ap length none ∙ sym (ap length stored); spared = rw (none, stored) spared }; fits = λ sound. rw stored (Fits-nil t) }
+pub sound_empty : {G A : Type 0} (slots : G → List Slot) (are_of : G → ArrowType → Type 0) (spares : List Bool → List Slot → Type 0) (binds : ℕ → A → Type 0) (values : G) (bits : List Bool) (arrays : List (Bor A)) (layouts : List Layout) (t : ArrowType) → IsCarried t → All (λ l. type_of_layout l ≡ t) layouts → are_of values t → BindsAll binds arrays → slots values ≡ [] → bits ≡ [] → spares [] [] → IsGrownFlat slots are_of spares binds values bits 0 arrays layouts t false
+sound_empty slots are_of spares binds values bits arrays layouts t carried one_type kind bound stored none spared =
+    record { carried = carried; one_type = one_type; kind = kind; bound = bound; counted = λ sound. ap length none; covers = λ sound. record { covered = ap length none ∙ sym (ap length stored); spared = rw (none, stored) spared }; fits = λ sound. rw stored (Fits-nil t) }
 
 -- one that has not failed counts its rows
-pub counts_rows : {G : Type 0} (slots : G → List Slot) (are_of : G → ArrowType → Type 0) (spares : List Bool → List Slot → Type 0) (values : G) (bits : List Bool) (len : ℕ) (layouts : List Layout) (t : ArrowType) (failed : Bool) → IsGrownFlat slots are_of spares values bits len layouts t failed → failed ≡ false → len ≡ length (mask bits (slots values))
-counts_rows slots are_of spares values bits len layouts t failed sound well =
+pub counts_rows : {G A : Type 0} {slots : G → List Slot} {are_of : G → ArrowType → Type 0} {spares : List Bool → List Slot → Type 0} {binds : ℕ → A → Type 0} {values : G} {bits : List Bool} {len : ℕ} {arrays : List (Bor A)} {layouts : List Layout} {t : ArrowType} {failed : Bool} → IsGrownFlat slots are_of spares binds values bits len arrays layouts t failed → failed ≡ false → len ≡ length (mask bits (slots values))
+counts_rows {slots = slots} {values = values} {bits = bits} sound well =
     sym (length-mask bits (slots values) ((sound.covers well).covered) ∙ (sym ((sound.covers well).covered) ∙ sound.counted well))
 
 -- rows that fit are not more than can be counted
@@ -56,7 +61,3 @@ pub length-under : (own : List Bool) (all : List Slot) (start : ℕ) → start +
 length-under own all start within =
     let many = length-sliced all start (length own) within in
     length-mask own (sliced all start (length own)) (sym many) ∙ many
-
-pub whole_part : (own : List Bool) (all part : List Slot) (n start : ℕ) → start + length own ≤ length all → n ≡ length own → part ≡ mask own (sliced all start (length own)) → sliced part 0 n ≡ mask own (sliced all start (length own))
-whole_part own all part n start within count is =
-    take_all n part (omega (arith, ap length is, length-under own all start within, count)) ∙ is

@@ -6,8 +6,10 @@ pub mod FlatLemmas
 pub mod GrownKeyLemmas
 pub mod GrownRowLemmas
 pub mod MaskLemmas
+pub mod MaskedLemmas
 pub mod MovedLemmas
 pub mod NullLemmas
+pub mod PartRowLemmas
 pub mod ResultLemmas
 pub mod StoreLemmas
 pub mod ValidRowLemmas

@@ -1,13 +1,16 @@
 -- Rows under a mask of bits.
-use Rattle.std.proofs.Common.{arith, ◌≡◌, ◌≤◌, ℕ, Bool, true, false, not, List, [], ◌∷◌, Option, Some, None, length, suc, Bor, refl, ap, sym, subst}
+use Rattle.std.proofs.Common.{arith, ◌≡◌, ◌+◌, ◌≤◌, ◌∙◌, ℕ, Bool, true, false, not, List, [], ◌∷◌, Option, Some, None, length, suc, Bor, refl, ap, sym, subst}
 use Rattle.std.specs.Prelude.{cond, count_by, option_copied, IfSome}
 use Rattle.std.proofs.lemmas.List.Sums.{sum_by-cons}
 use Rattle.std.specs.Prelude.{if◌then◌else◌}
 use Rattle.arrow_types.specs.Rows.{mask, masked}
 use Rattle.arrow_types.specs.Slot.{Slot, Null}
 use Rattle.arrow_memory.specs.Bits.{both_bits}
+use Rattle.arrow_memory.specs.Sliced.{sliced}
+use Rattle.arrow_memory.proofs.SlicedLemmas.{length-sliced}
 use Rattle.arrow_flat.specs.Parts.{FitsRows}
-use Rattle.arrow_flat_growable.specs.Validity.{valid_in_both}
+use Rattle.arrow_flat.proofs.PartsLemmas.{masked-sliced}
+use Rattle.arrow_flat_growable.specs.Validity.{part_in_both, valid_in_both}
 
 -- bits none of which is not set leave the rows as they are
 pub mask-all : (bits : List Bool) (xs : List Slot) → length xs ≡ length bits → count_by not bits ≡ 0 → mask bits xs ≡ xs
@@ -51,3 +54,10 @@ long_both (o ∷ own) (b ∷ bits) same = ap suc (long_both own bits (omega (ari
 pub bits_under : (own : Option (List Bool)) (bits : List Bool) → FitsRows own (length bits) → length (valid_in_both own bits) ≡ length bits
 bits_under None bits fits = refl
 bits_under (Some own) bits fits = long_both own bits fits
+
+-- a mask and the validity of a part, as one: a bit for each row, and the part's rows under the mask
+pub part_under : (v : Option (List Bool)) (stored : List Slot) (start : ℕ) (own : List Bool) → FitsRows v (length stored) → start + length own ≤ length stored → (length (part_in_both v start own) ≡ length own) × (mask (part_in_both v start own) (sliced stored start (length own)) ≡ mask own (sliced (masked v stored) start (length own)))
+part_under None stored start own fits within = (refl, refl)
+part_under (Some bits) stored start own fits within =
+    let many = length-sliced bits start (length own) (omega (arith, fits, within)) in
+    (long_both (sliced bits start (length own)) own many, mask_both (sliced bits start (length own)) own (sliced stored start (length own)) ∙ ap (mask own) (masked-sliced (Some bits) stored start (length own)))

@@ -42,6 +42,11 @@ module _ {A : Type 0} (slot : A → Slot) where
   constant_too_many t seen old n s old_is many fits =
       omega (arith, many, ap length old_is, constant_fits t seen n s fits)
 
+-- a part behind rows of a type that fit by their count, where there is room for it
+pub part_fits : (t : ArrowType) → is_only_counted (physical_type_of t) ≡ true → (seen part new : List Slot) (n : ℕ) → new ≡ seen ++ part → length part ≡ n → length seen + n < 2 ^ 64 → Fits t new
+part_fits t kind seen part new n is many room =
+    fits_only_counted t new kind (omega (arith, ap length is, length-append seen part, many, room))
+
 -- what is appended without overflow is counted
 pub counted_on_ok : {T E X : Type 0} (r : Result T E) (e : E) (old more new : List X) (n : ℕ) → length more ≡ n → (2 ^ 64 ≤ length old + n → r ≡ Err e) → OnOk r (new ≡ old ++ more) → OnOk r (length new < 2 ^ 64)
 counted_on_ok (Ok x) e old more new n long full is =

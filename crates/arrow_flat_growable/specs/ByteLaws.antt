@@ -1,5 +1,5 @@
 -- Rows of bytes that grow, as the laws of what stores them ask.
-use Rattle.std.proofs.Common.{arith, ◌≡◌, ◌+◌, ◌*◌, ◌<◌, ◌≤◌, ◌^◌, ℕ, Bool, true, false, List, [], ◌∷◌, ◌++◌, Option, length, map, replicate, refl, ap, sym, subst, ◌∙◌}
+use Rattle.std.proofs.Common.{arith, ◌≡◌, ◌+◌, ◌*◌, ◌<◌, ◌≤◌, ◌^◌, ℕ, Bool, true, false, List, [], ◌∷◌, ◌++◌, length, map, replicate, refl, ap, sym, subst, ◌∙◌}
 use Rattle.std.specs.Prelude.{sum_by}
 use Rattle.std.proofs.lemmas.List.{length-map, length-replicate}
 use Rattle.std.proofs.lemmas.List.Folds.{sum_by-replicate}
@@ -9,17 +9,16 @@ use Rattle.arrow_types.specs.ArrowType.{ArrowType, ListForm, plain, list, struct
 use Rattle.arrow_types.specs.Fits.{Fits, byte_count}
 use Rattle.arrow_types.specs.Greatest.{greatest_offset}
 use Rattle.arrow_types.specs.Physical.{physical_type_of, list_physical_type}
-use Rattle.arrow_types.specs.Rows.{mask, masked}
+use Rattle.arrow_types.specs.Rows.{mask}
 use Rattle.arrow_types.specs.Slot.{Slot, Null, null_slot}
 use Rattle.arrow_types.proofs.RowsLemmas.{length-mask}
 use Rattle.arrow_memory.specs.Sliced.{sliced}
 use Rattle.arrow_memory.proofs.OffsetLemmas.{map_sliced}
 use Rattle.arrow_memory.proofs.SlicedLemmas.{length-sliced}
 use Rattle.arrow_flat.specs.ByteRows.{ByteParts, byte_slots, row_bytes}
-use Rattle.arrow_flat.specs.Parts.{FitsRows, bits_of_slice}
-use Rattle.arrow_flat_growable.specs.Bytes.{IsBytesType, SparesBytes, stored_rows}
+use Rattle.arrow_flat_growable.specs.Bytes.{IsBytesType, SparesBytes}
 use Rattle.arrow_flat_growable.specs.GrownRows.{filled, total}
-use Rattle.arrow_flat_growable.specs.MaskLaws.{mask-append, mask-filled, mask-part, mask-unset, length-bits_of_slice, length-filled}
+use Rattle.arrow_flat_growable.specs.MaskLaws.{mask-append, mask-filled, mask-unset, length-filled}
 
 -- what is stored beneath a null has no bytes
 spares-filled : (slot : List ℕ → Slot) → ((bytes : List ℕ) → byte_count (slot bytes) ≡ length bytes) → (bits : List Bool) (rows : List (List ℕ)) → length bits ≡ length rows → SparesBytes bits (map slot (filled bits rows))
@@ -33,33 +32,32 @@ spares-filled slot counts (false ∷ bits) (row ∷ rows) same =
     let rest = spares-filled slot counts bits rows (omega (arith, same)) in
     sum_by-cons byte_count Null (mask bits (map slot (filled bits rows))) ∙ ((λ i. sym (counts []) i + rest i) ∙ sym (sum_by-cons byte_count (slot []) (map slot (filled bits rows))))
 
--- the bits of a part and its rows are as many
-module _ (slot : List ℕ → Slot) (v : Option (List Bool)) (xs : ByteParts) (start len : ℕ) (fits : FitsRows v (length (byte_slots slot xs))) (within : start + len ≤ length (byte_slots slot xs)) where
+-- a part of the rows, with as many bits
+module _ (slot : List ℕ → Slot) (bits : List Bool) (xs : ByteParts) (start len : ℕ) (many : length bits ≡ len) (within : start + len ≤ length (byte_slots slot xs)) where
   part_within : start + len ≤ length (row_bytes xs)
   part_within = omega (arith, within, length-map (row_bytes xs) slot)
 
-  same_count : length (bits_of_slice v start len) ≡ length (sliced (row_bytes xs) start len)
-  same_count = length-bits_of_slice v (length (byte_slots slot xs)) start len fits within ∙ sym (length-sliced (row_bytes xs) start len part_within)
+  same_count : length bits ≡ length (sliced (row_bytes xs) start len)
+  same_count = many ∙ sym (length-sliced (row_bytes xs) start len part_within)
 
-  pub rows_of_slice : mask (bits_of_slice v start len) (map slot (stored_rows v xs start len)) ≡ sliced (masked v (byte_slots slot xs)) start len
-  rows_of_slice =
-      mask-filled slot (bits_of_slice v start len) (sliced (row_bytes xs) start len) ∙ (ap (mask (bits_of_slice v start len)) (map_sliced slot (row_bytes xs) start len) ∙ mask-part v (byte_slots slot xs) start len within)
+  pub rows_of_slice : mask bits (map slot (filled bits (sliced (row_bytes xs) start len))) ≡ mask bits (sliced (byte_slots slot xs) start len)
+  rows_of_slice = mask-filled slot bits (sliced (row_bytes xs) start len) ∙ ap (mask bits) (map_sliced slot (row_bytes xs) start len)
 
-  pub length_of_slice : length (map slot (stored_rows v xs start len)) ≡ len
+  pub length_of_slice : length (map slot (filled bits (sliced (row_bytes xs) start len))) ≡ len
   length_of_slice =
-      length-map (stored_rows v xs start len) slot ∙ (length-filled (bits_of_slice v start len) (sliced (row_bytes xs) start len) same_count ∙ length-sliced (row_bytes xs) start len part_within)
+      length-map (filled bits (sliced (row_bytes xs) start len)) slot ∙ (length-filled bits (sliced (row_bytes xs) start len) same_count ∙ length-sliced (row_bytes xs) start len part_within)
 
-  part_spares : ((bytes : List ℕ) → byte_count (slot bytes) ≡ length bytes) → SparesBytes (bits_of_slice v start len) (map slot (stored_rows v xs start len))
-  part_spares counts = spares-filled slot counts (bits_of_slice v start len) (sliced (row_bytes xs) start len) same_count
+  part_spares : ((bytes : List ℕ) → byte_count (slot bytes) ≡ length bytes) → SparesBytes bits (map slot (filled bits (sliced (row_bytes xs) start len)))
+  part_spares counts = spares-filled slot counts bits (sliced (row_bytes xs) start len) same_count
 
 -- rows that come behind others
 spares-append : (bits more : List Bool) (stored ys : List Slot) → SparesBytes bits stored → length bits ≡ length stored → SparesBytes more ys → SparesBytes (bits ++ more) (stored ++ ys)
 spares-append bits more stored ys spares same behind =
     ap (sum_by byte_count) (mask-append bits more stored ys same) ∙ (sum_by-append byte_count (mask bits stored) (mask more ys) ∙ ((λ i. spares i + behind i) ∙ sym (sum_by-append byte_count stored ys)))
 
-pub spares_slice : (slot : List ℕ → Slot) → ((bytes : List ℕ) → byte_count (slot bytes) ≡ length bytes) → (bits : List Bool) (stored : List Slot) (v : Option (List Bool)) (xs : ByteParts) (start len : ℕ) → FitsRows v (length (byte_slots slot xs)) → start + len ≤ length (byte_slots slot xs) → SparesBytes bits stored → length bits ≡ length stored → SparesBytes (bits ++ bits_of_slice v start len) (stored ++ map slot (stored_rows v xs start len))
-spares_slice slot counts bits stored v xs start len fits within spares same =
-    spares-append bits (bits_of_slice v start len) stored (map slot (stored_rows v xs start len)) spares same (part_spares slot v xs start len fits within counts)
+pub spares_slice : (slot : List ℕ → Slot) → ((bytes : List ℕ) → byte_count (slot bytes) ≡ length bytes) → (bits : List Bool) (stored : List Slot) (more : List Bool) (xs : ByteParts) (start len : ℕ) → length more ≡ len → start + len ≤ length (byte_slots slot xs) → SparesBytes bits stored → length bits ≡ length stored → SparesBytes (bits ++ more) (stored ++ map slot (filled more (sliced (row_bytes xs) start len)))
+spares_slice slot counts bits stored more xs start len many within spares same =
+    spares-append bits more stored (map slot (filled more (sliced (row_bytes xs) start len))) spares same (part_spares slot more xs start len many within counts)
 
 pub spares_blanks : (blank : Slot) → byte_count blank ≡ 0 → (bits : List Bool) (stored : List Slot) (n : ℕ) → SparesBytes bits stored → length bits ≡ length stored → SparesBytes (bits ++ replicate n false) (stored ++ replicate n blank)
 spares_blanks blank none bits stored n spares same =

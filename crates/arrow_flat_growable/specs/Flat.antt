@@ -1,5 +1,6 @@
 -- A flat array under construction.
-use Rattle.std.specs.Prelude.{ℕ, ◌≡◌, Bool, false, Option, List, length}
+use Rattle.std.specs.Borrow.{Bor}
+use Rattle.std.specs.Prelude.{ℕ, ◌≡◌, ◌<◌, Bool, false, Option, List, length, slice_index_or}
 use Rattle.std.specs.List.{All}
 use Rattle.arrow_types.specs.ArrowType.{ArrowType}
 use Rattle.arrow_types.specs.Carried.{IsCarried}
@@ -17,11 +18,20 @@ pub record Covers (spares : List Bool → List Slot → Type 0) (bits : List Boo
   pub covered : length bits ≡ length stored
   pub spared : spares bits stored
 
--- the parts of a growable: a carried type, that of all arrays, whose rows are stored so, and, where it has not failed, as many bits and rows as it counts, which fit
-pub record IsGrownFlat {G : Type 0} (slots : G → List Slot) (are_of : G → ArrowType → Type 0) (spares : List Bool → List Slot → Type 0) (values : G) (bits : List Bool) (len : ℕ) (layouts : List Layout) (t : ArrowType) (failed : Bool) : Type 0 where
+-- each of some arrays is bound under its place
+abbrev pub BindsAll : {A : Type 0} → (ℕ → A → Type 0) → List (Bor A) → Type 0
+BindsAll binds arrays = (i : ℕ) (r : Bor _) → i < length arrays → r ≡ slice_index_or arrays i r → binds i r.now
+
+-- arrays that are bound stay so
+abbrev pub KeepsBound : {A : Type 0} → (ℕ → A → Type 0) → (ℕ → A → Type 0) → Type 0
+KeepsBound old new = (i : ℕ) (array : _) → old i array → new i array
+
+-- the parts of a growable: a carried type, that of all arrays, which are bound, whose rows are stored so, and, where it has not failed, as many bits and rows as it counts, which fit
+pub record IsGrownFlat {G : Type 0} (slots : G → List Slot) (are_of : G → ArrowType → Type 0) (spares : List Bool → List Slot → Type 0) {A : Type 0} (binds : ℕ → A → Type 0) (values : G) (bits : List Bool) (len : ℕ) (arrays : List (Bor A)) (layouts : List Layout) (t : ArrowType) (failed : Bool) : Type 0 where
   pub carried : IsCarried t
   pub one_type : All (λ l. type_of_layout l ≡ t) layouts
   pub kind : are_of values t
+  pub bound : BindsAll binds arrays
   pub counted : failed ≡ false → length bits ≡ len
   pub covers : failed ≡ false → Covers spares bits (slots values)
   pub fits : failed ≡ false → Fits t (slots values)

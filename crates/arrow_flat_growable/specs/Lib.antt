@@ -5,6 +5,7 @@ pub mod Examples
 pub mod Flat
 pub mod FlatLaws
 pub mod Grown
+pub mod GrownParts
 pub mod GrownRows
 pub mod Keys
 pub mod MaskLaws

@@ -1,6 +1,7 @@
 -- The validity that a growable keeps: a bit for each row, stored only once some bit is not set ("Validity bitmaps").
 use Rattle.std.specs.Prelude.{ℕ, ◌≡◌, ◌+◌, Bool, true, List, Option, Some, None, length, replicate, IfSome, ◌++◌}
 use Rattle.arrow_memory.specs.Bits.{both_bits}
+use Rattle.arrow_memory.specs.Sliced.{sliced}
 
 -- the bits of so many rows: all set where none is stored
 abbrev pub bits_by : Option (List Bool) → ℕ → List Bool
@@ -19,3 +20,8 @@ AppendsValidity old new n more = (bits_by new (n + length more) ≡ bits_by old 
 abbrev pub valid_in_both : Option (List Bool) → List Bool → List Bool
 valid_in_both None bits = bits
 valid_in_both (Some own) bits = both_bits own bits
+
+-- the bits of a validity from a place on, which may be absent, that are set in a mask too
+abbrev pub part_in_both : Option (List Bool) → ℕ → List Bool → List Bool
+part_in_both None start own = own
+part_in_both (Some bits) start own = both_bits (sliced bits start (length own)) own

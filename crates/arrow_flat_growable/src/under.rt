@@ -1,11 +1,10 @@
 //! Flat arrays under a validity besides their own.
 
-ghost use Rattle.std.specs.Prelude.{◌≡◌, ◌+◌, ◌≤◌, length, option_copied, IfOk, IsOkUnless};
+ghost use Rattle.std.specs.Prelude.{◌≡◌, ◌+◌, ◌≤◌, length, option_copied, IfOk, IfSome, IsOkUnless};
 ghost use Rattle.arrow_types.specs.declared.error.Error.{Error};
-ghost use Rattle.arrow_types.specs.Rows.{mask, masked};
-ghost use Rattle.arrow_memory.specs.Sliced.{sliced};
+ghost use Rattle.arrow_types.specs.Rows.{masked};
 ghost use Rattle.arrow_flat.specs.Parts.{FitsRows, rows_by};
-ghost use Rattle.arrow_flat_growable.specs.Validity.{valid_in_both};
+ghost use Rattle.arrow_flat_growable.specs.Validity.{part_in_both, valid_in_both};
 
 use arrow_flat::array::{FlatArray, Values};
 use arrow_memory::bitmap::Bitmap;
@@ -54,19 +53,20 @@ fn both_valid(alloc: Global, own: Option<&Bitmap>, bits: &Bitmap) -> Result<Bitm
     }
 }
 
-// Rows of an array from row `start` on, a row for each bit of a mask: null where the bit is not set.
-pub(crate) fn part_under<V: Values>(
+// Which of some rows from row `start` on are valid, a row for each bit of a mask: those whose bit is set, as far as a validity is set
+// there too.
+pub(crate) fn part_under(
     alloc: Global,
-    array: &FlatArray<V>,
+    validity: Option<&Bitmap>,
     start: usize,
     own: &Bitmap,
-) -> Result<FlatArray<V>, Error>
-    requires { start + length own.now ≤ length (rows_by V.slots array.now) }
-    ensures same { IfOk result (λ part. part.arrow_type ≡ array.now.arrow_type) }
-    ensures rows { IfOk result (λ part. rows_by V.slots part
-        ≡ mask own.now (sliced (rows_by V.slots array.now) start (length own.now))) }
+) -> Result<Bitmap, Error>
+    requires { IfSome validity (λ bits. start + length own.now ≤ length bits.now) }
+    ensures ok { IfOk result (λ both. both ≡ part_in_both (option_copied validity.entry) start own.now) }
     ensures err { IsOkUnless result Error.OutOfMemory }
 {
-    let part = array.clone()?.sliced(start, own.len());
-    under(alloc, &part, Some(own))
+    match validity {
+        None => Ok(own.clone()?),
+        Some(bits) => bits.clone()?.sliced(start, own.len()).and(alloc, own),
+    }
 }

@@ -20,7 +20,7 @@ pub use any::{AnyGrowable, AnyGrowablePrimitive};
 pub use arrow_flat_growable::growable::{
     BoundNulls, FlatGrowable, Growable, GrowableBinary, GrowableBits, GrowableBoolean,
     GrowableBytes, GrowableFixedRows, GrowableFixedSizeBinary, GrowableKeys, GrowableKind,
-    GrowableNull, GrowablePrimitive, GrowableUtf8, GrowableValidity, GrowableValues,
+    GrowableNull, GrowableParts, GrowablePrimitive, GrowableUtf8, GrowableValidity, GrowableValues,
 };
 pub use bound::NestedArray;
 pub use dictionary::GrowableDictionary;

@@ -1,6 +1,6 @@
 //! Boolean arrays under construction.
 
-ghost use Rattle.std.specs.Prelude.{◌≡◌, ◌<◌, List, Bool, length, map, replicate, false};
+ghost use Rattle.std.specs.Prelude.{◌≡◌, ◌<◌, List, Bool, length, map, replicate, false, refl};
 ghost use Rattle.std.proofs.Common.{ap};
 ghost use Rattle.std.proofs.lemmas.List.{length-replicate};
 ghost use Rattle.arrow_types.specs.Physical.{physical_type_of};
@@ -10,10 +10,8 @@ ghost use Rattle.arrow_memory.specs.Sliced.{sliced};
 ghost use Rattle.arrow_memory.proofs.SlicedLemmas.{length-sliced};
 ghost use Rattle.arrow_arrays.specs.Any.{boolean_kind};
 ghost use Rattle.arrow_flat_growable.specs.FlatLaws.{is_counted, fits_unmasked, fits_mask, null_of_counted};
-ghost use Rattle.arrow_flat_growable.specs.MaskLaws.{mask-part};
 
 use crate::growable::flat::{FlatGrowable, GrowableValues};
-use crate::under::part_under;
 use arrow_arrays::array::AnyArray;
 use arrow_flat::array::BooleanArray;
 use arrow_memory::bitmap::{Bitmap, MutableBitmap};
@@ -55,7 +53,9 @@ impl GrowableValues for GrowableBits {
 
     ghost kind = { boolean_kind };
 
-    ghost stored_slice = { λ array start len. sliced (map Boolean array.values) start len };
+    ghost binds = { λ x i array. Unit {0} };
+
+    ghost stored_slice = { λ array bits start len. sliced (map Boolean array.values) start len };
 
     ghost blanks = { λ bits n. replicate n (Boolean false) };
 
@@ -72,6 +72,7 @@ impl GrowableValues for GrowableBits {
     fn with_capacity(
         alloc: Global,
         array: &BooleanArray,
+        _arrays: &[&BooleanArray],
         capacity: usize,
     ) -> Result<GrowableBits, Error> {
         // That rows of the type are stored so follows from the array.
@@ -88,8 +89,24 @@ impl GrowableValues for GrowableBits {
         })
     }
 
-    fn extend(&mut self, array: &BooleanArray, start: usize, len: usize) -> Result<(), Error> {
+    fn extend(
+        &mut self,
+        _index: usize,
+        array: &BooleanArray,
+        start: usize,
+        len: usize,
+    ) -> Result<(), Error> {
         self.bits.extend_from_bitmap(array.values(), start, len)
+    }
+
+    fn extend_under(
+        &mut self,
+        index: usize,
+        array: &BooleanArray,
+        start: usize,
+        bits: &Bitmap,
+    ) -> Result<(), Error> {
+        self.extend(index, array, start, bits.len())
     }
 
     fn extend_nulls(&mut self, additional: usize) -> Result<(), Error> {
@@ -105,15 +122,6 @@ impl GrowableValues for GrowableBits {
         Ok(BooleanArray::new(data_type, values, validity))
     }
 
-    fn part_under(
-        alloc: Global,
-        array: &BooleanArray,
-        start: usize,
-        own: &Bitmap,
-    ) -> Result<BooleanArray, Error> {
-        part_under(alloc, array, start, own)
-    }
-
     fn of_any(array: &AnyArray) -> &BooleanArray {
         match array {
             AnyArray::Boolean(array) => array,
@@ -125,10 +133,9 @@ impl GrowableValues for GrowableBits {
         Ok(AnyArray::Boolean(array))
     }
 
-    ghost rows_of_slice = { λ array start len fits within. mask-part array.validity
-        (map Boolean array.values) start len within };
+    ghost rows_of_slice = { λ array bits start len many within. refl };
 
-    ghost length_of_slice = { λ array start len fits within. length-sliced (map Boolean array.values) start
+    ghost length_of_slice = { λ array bits start len many within. length-sliced (map Boolean array.values) start
         len within };
 
     ghost length_of_blanks = { λ bits n. length-replicate n (Boolean false) };
@@ -137,7 +144,7 @@ impl GrowableValues for GrowableBits {
 
     ghost spares_none = { tt };
 
-    ghost spares_slice = { λ bits stored array start len fits within spared same. tt };
+    ghost spares_slice = { λ bits stored array more start len many within spared same. tt };
 
     ghost spares_blanks = { λ bits stored x n spared same. tt };
 

@@ -12,10 +12,11 @@ ghost use Rattle.arrow_memory.specs.Sliced.{sliced};
 ghost use Rattle.arrow_flat.specs.ByteRows.{byte_slots, row_bytes};
 ghost use Rattle.arrow_flat.specs.Pieces.{pieces};
 ghost use Rattle.arrow_flat_growable.specs.Bytes.{BeginsWith, IsBytesType, SparesBytes, stored_rows};
+ghost use Rattle.arrow_flat_growable.specs.GrownParts.{IsBound};
 ghost use Rattle.arrow_flat_growable.specs.GrownRows.{AreEmptyNulls, filled, total, valid_values};
 
 use crate::growable::flat::GrowableValues;
-use crate::under::part_under;
+use crate::growable::parts::{GrowableParts, Part, copy_all};
 use arrow_arrays::array::{AnyArray, AnyOffset, AnyRows};
 use arrow_flat::array::{ByteKind, ByteRows, FlatArray};
 use arrow_memory::bitmap::{Bitmap, WORD_BITS};
@@ -47,40 +48,49 @@ pub trait GrowableKind: AnyRows {
 #[derive(Drop)]
 pub struct GrowableBytes<O: Offset, K: ByteKind> {
     offsets: Offsets<O>,
-    bytes: Vec<u8>,
+    bytes: GrowableParts<u8>,
     kind: PhantomData<K>,
 }
 
 impl<O: Offset, K: ByteKind> Model for GrowableBytes<O, K> {
     ghost use Rattle.arrow_flat.specs.ByteRows.{ByteParts, byte_parts_code};
+    ghost use Rattle.std.specs.Coded.{coded_list, coded×, coded_ℕ};
+    ghost use Rattle.std.specs.Prelude.{ℕ, List};
     ghost use Rattle.arrow_flat_growable.specs.Bytes.{AreGrownBytes};
 
-    ghost Value = { ByteParts };
+    // the bytes of the arrays that are bound, and the rows
+    ghost Value = { List (List ℕ) × ByteParts };
 
-    ghost coded = { byte_parts_code };
+    ghost coded = { coded× (coded_list (coded_list coded_ℕ)) byte_parts_code };
 
-    ghost view = { λ a. record { offsets = a.offsets; bytes = a.bytes.items } };
+    ghost view = { λ a. (a.bytes.0, record { offsets = a.offsets; bytes = a.bytes.1 }) };
 
-    ghost invariant = { λ a. AreGrownBytes K.Allows (record { offsets = a.offsets; bytes = a.bytes.items }) };
+    ghost invariant = { λ a. AreGrownBytes K.Allows (record { offsets = a.offsets; bytes = a.bytes.1 }) };
 }
 
 impl<O: Offset, K: GrowableKind> GrowableBytes<O, K> {
     /// No rows, and room for so many, but for their bytes.
-    fn empty(alloc: Global, capacity: usize) -> Result<GrowableBytes<O, K>, Error>
-        ensures ok { IfOk result (λ rows. row_bytes rows ≡ []) }
+    fn empty(
+        alloc: Global,
+        bytes: GrowableParts<u8>,
+        capacity: usize,
+    ) -> Result<GrowableBytes<O, K>, Error>
+        requires { bytes.1 ≡ [] }
+        ensures bytes { IfOk result (λ rows. rows.0 ≡ bytes.0) }
+        ensures ok { IfOk result (λ rows. row_bytes rows.1 ≡ []) }
         ensures err { IsOkUnless result Error.OutOfMemory }
     {
         Ok(GrowableBytes {
             offsets: Offsets::with_capacity(alloc, capacity)?,
-            bytes: Vec::new(alloc),
+            bytes,
             kind: PhantomData,
         })
     }
 
     /// How many rows there are.
     fn len(&self) -> usize
-        ensures rows { result ≡ length (row_bytes self.now) }
-        ensures bytes { total (row_bytes self.now) ≤ O.greatest }
+        ensures rows { result ≡ length (row_bytes self.now.1) }
+        ensures bytes { total (row_bytes self.now.1) ≤ O.greatest }
     {
         // The last offset is the count of all bytes, and at most the greatest of its type.
         let _ = self.offsets.last().to_usize();
@@ -89,7 +99,8 @@ impl<O: Offset, K: GrowableKind> GrowableBytes<O, K> {
 
     /// Appends so many rows of no bytes.
     fn append_empty(&mut self, additional: usize) -> Result<(), Error>
-        ensures ok { OnOk result (row_bytes self.new ≡ row_bytes self.old ++ replicate additional []) }
+        ensures same { self.new.0 ≡ self.old.0 }
+        ensures ok { OnOk result (row_bytes self.new.1 ≡ row_bytes self.old.1 ++ replicate additional []) }
         ensures err { IsOkUnless result Error.OutOfMemory }
     {
         prove!(0 < self.offsets.len());
@@ -99,45 +110,60 @@ impl<O: Offset, K: GrowableKind> GrowableBytes<O, K> {
     /// Appends rows of an array, null or not, with their bytes.
     fn append_all(
         &mut self,
+        index: usize,
         array: &FlatArray<ByteRows<O, K>>,
         start: usize,
         len: usize,
     ) -> Result<(), Error>
         requires some { 0 < len }
+        requires bound { IsBound self.old.0 index array.now.values.bytes }
         requires part { start + len ≤ length (row_bytes array.now.values) }
-        ensures ok { OnOk result (row_bytes self.new
-            ≡ row_bytes self.old ++ sliced (row_bytes array.now.values) start len) }
+        ensures same { self.new.0 ≡ self.old.0 }
+        ensures ok { OnOk result (row_bytes self.new.1
+            ≡ row_bytes self.old.1 ++ sliced (row_bytes array.now.values) start len) }
         ensures overflow { result ≡ Err Error.Overflow
-            → O.greatest < total (row_bytes self.old ++ sliced (row_bytes array.now.values) start len) }
+            → O.greatest < total (row_bytes self.old.1 ++ sliced (row_bytes array.now.values) start len) }
         ensures others { IfErr result IsGrowthError }
     {
         let (rows, values) = parts(array);
-        copy_rows(&mut self.offsets, &mut self.bytes, rows, values, start, len)
+        copy_rows(
+            &mut self.offsets,
+            &mut self.bytes,
+            index,
+            rows,
+            values,
+            start,
+            len,
+        )
     }
 
-    /// Appends rows of an array under its validity: those that are null without bytes.
+    /// Appends rows that offsets name in bytes, under a validity: those that are null without bytes.
     fn append_valid(
         &mut self,
-        array: &FlatArray<ByteRows<O, K>>,
+        index: usize,
+        rows: &OffsetsBuffer<O>,
+        values: &[u8],
         validity: &Bitmap,
         start: usize,
         len: usize,
     ) -> Result<(), Error>
         requires some { 0 < len }
-        requires part { start + len ≤ length (row_bytes array.now.values) }
+        requires part { start + len ≤ length (pieces rows.now values.now) }
         requires covered { start + len ≤ length validity.now }
-        ensures ok { OnOk result (row_bytes self.new
-            ≡ row_bytes self.old ++ filled (sliced validity.now start len)
-            (sliced (row_bytes array.now.values) start len)) }
-        ensures overflow { result ≡ Err Error.Overflow
-            → O.greatest < total (row_bytes self.old
-            ++ filled (sliced validity.now start len) (sliced (row_bytes array.now.values) start len)) }
+        requires within { last_of rows.now ≤ length values.now }
+        requires allowed { All K.Allows (pieces rows.now values.now) }
+        requires bound { IsBound self.old.0 index values.now }
+        ensures same { self.new.0 ≡ self.old.0 }
+        ensures ok { OnOk result (row_bytes self.new.1 ≡ row_bytes self.old.1
+            ++ filled (sliced validity.now start len) (sliced (pieces rows.now values.now) start len)) }
+        ensures overflow { result ≡ Err Error.Overflow → O.greatest < total (row_bytes self.old.1
+            ++ filled (sliced validity.now start len) (sliced (pieces rows.now values.now) start len)) }
         ensures others { IfErr result IsGrowthError }
     {
-        let (rows, values) = parts(array);
         copy_valid_rows(
             &mut self.offsets,
             &mut self.bytes,
+            index,
             rows,
             values,
             validity,
@@ -146,18 +172,47 @@ impl<O: Offset, K: GrowableKind> GrowableBytes<O, K> {
         )
     }
 
+    /// Appends rows of an array from row `start` on, a row for each bit: those without bytes whose bit is not set.
+    fn append_under(
+        &mut self,
+        index: usize,
+        array: &FlatArray<ByteRows<O, K>>,
+        start: usize,
+        bits: &Bitmap,
+    ) -> Result<(), Error>
+        requires within { start + length bits.now ≤ length (row_bytes array.now.values) }
+        requires bound { IsBound self.old.0 index array.now.values.bytes }
+        ensures same { self.new.0 ≡ self.old.0 }
+        ensures ok { OnOk result (row_bytes self.new.1 ≡ row_bytes self.old.1
+            ++ filled bits.now (sliced (row_bytes array.now.values) start (length bits.now))) }
+        ensures overflow { result ≡ Err Error.Overflow → O.greatest < total (row_bytes self.old.1
+            ++ filled bits.now (sliced (row_bytes array.now.values) start (length bits.now))) }
+        ensures others { IfErr result IsGrowthError }
+    {
+        let len = bits.len();
+        if len == 0 {
+            return Ok(());
+        }
+        let (rows, values) = parts(array);
+        let part = part_of(rows, start, len)?;
+        self.append_valid(index, &part, values, bits, 0, len)
+    }
+
     /// Appends rows of an array, those that are null without bytes.
     fn append(
         &mut self,
+        index: usize,
         array: &FlatArray<ByteRows<O, K>>,
         start: usize,
         len: usize,
     ) -> Result<(), Error>
-        requires { start + len ≤ length (row_bytes array.now.values) }
-        ensures ok { OnOk result (row_bytes self.new
-            ≡ row_bytes self.old ++ stored_rows array.now.validity array.now.values start len) }
+        requires within { start + len ≤ length (row_bytes array.now.values) }
+        requires bound { IsBound self.old.0 index array.now.values.bytes }
+        ensures same { self.new.0 ≡ self.old.0 }
+        ensures ok { OnOk result (row_bytes self.new.1
+            ≡ row_bytes self.old.1 ++ stored_rows array.now.validity array.now.values start len) }
         ensures overflow { result ≡ Err Error.Overflow
-            → O.greatest < total (row_bytes self.old
+            → O.greatest < total (row_bytes self.old.1
             ++ stored_rows array.now.validity array.now.values start len) }
         ensures others { IfErr result IsGrowthError }
     {
@@ -166,8 +221,11 @@ impl<O: Offset, K: GrowableKind> GrowableBytes<O, K> {
         }
         prove!(len <= array.len());
         match array.validity() {
-            None => self.append_all(array, start, len),
-            Some(validity) => self.append_valid(array, validity, start, len),
+            None => self.append_all(index, array, start, len),
+            Some(validity) => {
+                let (rows, values) = parts(array);
+                self.append_valid(index, rows, values, validity, start, len)
+            }
         }
     }
 }
@@ -175,16 +233,35 @@ impl<O: Offset, K: GrowableKind> GrowableBytes<O, K> {
 // Where the rows of an array lie, and the bytes that they lie in.
 fn parts<O: Offset, K: ByteKind>(array: &FlatArray<ByteRows<O, K>>) -> (&OffsetsBuffer<O>, &[u8])
     ensures rows { row_bytes array.now.values ≡ pieces result.0.now result.1.now }
+    ensures bytes { result.1.now ≡ array.now.values.bytes }
     ensures within { last_of result.0.now ≤ length result.1.now }
     ensures allowed { All K.Allows (pieces result.0.now result.1.now) }
 {
     (array.offsets(), array.values().as_slice())
 }
 
+// The offsets of `len` rows from row `start` on, by themselves.
+fn part_of<O: Offset>(
+    rows: &OffsetsBuffer<O>,
+    start: usize,
+    len: usize,
+) -> Result<OffsetsBuffer<O>, Error>
+    requires { start + len < length rows.now }
+    ensures sound { IsOffsets rows.now }
+    ensures ok { IfOk result (λ part. part ≡ sliced rows.now start (len + 1)) }
+    ensures err { IsOkUnless result Error.OutOfMemory }
+{
+    prove!(start < rows.len());
+    let mut part = rows.clone()?;
+    part.slice(start, len + 1);
+    Ok(part)
+}
+
 // Appends rows that others name in their bytes. Where that is refused, all is as before.
 fn copy_rows<O: Offset>(
     offsets: &mut Offsets<O>,
-    bytes: &mut Vec<u8>,
+    bytes: &mut GrowableParts<u8>,
+    index: usize,
     rows: &OffsetsBuffer<O>,
     values: &[u8],
     start: usize,
@@ -193,24 +270,28 @@ fn copy_rows<O: Offset>(
     requires some { 0 < len }
     requires part { start + len < length rows.now }
     requires within { last_of rows.now ≤ length values.now }
+    requires bound { IsBound bytes.old.0 index values.now }
     ensures sound { IsOffsets offsets.old }
     ensures rows_sound { IsOffsets rows.now }
+    ensures same { bytes.new.0 ≡ bytes.old.0 }
     ensures ok { OnOk result ((offsets.new ≡ with_rows offsets.old rows.now start len)
-        × (bytes.new.items ≡ bytes.old.items
+        × (bytes.new.1 ≡ bytes.old.1
         ++ sliced values.now (slice_index rows.now start)
         (slice_index rows.now (start + len) - slice_index rows.now start))) }
     ensures overflow { result ≡ Err Error.Overflow
         → O.greatest < last_of offsets.old +
         (slice_index rows.now (start + len) - slice_index rows.now start) }
     ensures others { IfErr result IsGrowthError }
-    ensures unchanged { OnErr result ((offsets.new ≡ offsets.old) × (bytes.new.items ≡ bytes.old.items)) }
+    ensures unchanged { OnErr result ((offsets.new ≡ offsets.old) × (bytes.new.1 ≡ bytes.old.1)) }
 {
     prove!(0 < offsets.len());
     let (first, end) = rows.range(start, len);
-    let part = &values[first..end];
-    bytes.reserve(part.len())?;
+    // The bytes are those of the source.
+    let _ = values.len();
+    bytes.copy_many()?;
+    bytes.parts.reserve(1)?;
     offsets.try_extend_from_slice(rows, start, len)?;
-    let Ok(()) = bytes.extend_from_slice(part) else {
+    let Ok(()) = bytes.parts.push(Part::Of(index, first, end - first)) else {
         unreachable!();
     };
     Ok(())
@@ -220,7 +301,8 @@ fn copy_rows<O: Offset>(
 // refused, all is as before.
 fn copy_valid_rows<O: Offset>(
     offsets: &mut Offsets<O>,
-    bytes: &mut Vec<u8>,
+    bytes: &mut GrowableParts<u8>,
+    index: usize,
     rows: &OffsetsBuffer<O>,
     values: &[u8],
     validity: &Bitmap,
@@ -231,19 +313,21 @@ fn copy_valid_rows<O: Offset>(
     requires part { start + len < length rows.now }
     requires covered { start + len ≤ length validity.now }
     requires within { last_of rows.now ≤ length values.now }
+    requires bound { IsBound bytes.old.0 index values.now }
     ensures sound { IsOffsets offsets.old }
     ensures rows_sound { IsOffsets rows.now }
+    ensures same { bytes.new.0 ≡ bytes.old.0 }
     ensures ok { OnOk result ((offsets.new
         ≡ with_valid_rows offsets.old (sliced validity.now start len) rows.now start)
-        × (bytes.new.items ≡ bytes.old.items
+        × (bytes.new.1 ≡ bytes.old.1
         ++ valid_values (sliced validity.now start len) rows.now values.now start)) }
     ensures overflow { result ≡ Err Error.Overflow
         → O.greatest < last_of offsets.old + valid_items (sliced validity.now start len) rows.now start }
     ensures others { IfErr result IsGrowthError }
-    ensures unchanged { OnErr result ((offsets.new ≡ offsets.old) × (bytes.new.items ≡ bytes.old.items)) }
+    ensures unchanged { OnErr result ((offsets.new ≡ offsets.old) × (bytes.new.1 ≡ bytes.old.1)) }
 {
     if are_nulls_empty(rows, validity, start, len) {
-        return copy_rows(offsets, bytes, rows, values, start, len);
+        return copy_rows(offsets, bytes, index, rows, values, start, len);
     }
     copy_set_rows(offsets, bytes, rows, values, validity, start, len)
 }
@@ -308,6 +392,50 @@ fn are_empty<O: Offset>(rows: &OffsetsBuffer<O>, start: usize, word: u64) -> boo
 
 // The same, run by run.
 fn copy_set_rows<O: Offset>(
+    offsets: &mut Offsets<O>,
+    bytes: &mut GrowableParts<u8>,
+    rows: &OffsetsBuffer<O>,
+    values: &[u8],
+    validity: &Bitmap,
+    start: usize,
+    len: usize,
+) -> Result<(), Error>
+    requires some { 0 < len }
+    requires part { start + len < length rows.now }
+    requires covered { start + len ≤ length validity.now }
+    requires within { last_of rows.now ≤ length values.now }
+    ensures sound { IsOffsets offsets.old }
+    ensures rows_sound { IsOffsets rows.now }
+    ensures same { bytes.new.0 ≡ bytes.old.0 }
+    ensures ok { OnOk result ((offsets.new
+        ≡ with_valid_rows offsets.old (sliced validity.now start len) rows.now start)
+        × (bytes.new.1 ≡ bytes.old.1
+        ++ valid_values (sliced validity.now start len) rows.now values.now start)) }
+    ensures overflow { result ≡ Err Error.Overflow
+        → O.greatest < last_of offsets.old + valid_items (sliced validity.now start len) rows.now start }
+    ensures others { IfErr result IsGrowthError }
+    ensures unchanged { OnErr result ((offsets.new ≡ offsets.old) × (bytes.new.1 ≡ bytes.old.1)) }
+{
+    prove!(0 < offsets.len());
+    prove!(start < rows.len());
+    copy_all(
+        &mut bytes.values,
+        bytes.sources.as_slice(),
+        &mut bytes.parts,
+    )?;
+    append_set_rows(
+        offsets,
+        &mut bytes.values,
+        rows,
+        values,
+        validity,
+        start,
+        len,
+    )
+}
+
+// The same of bytes of which no part waits.
+fn append_set_rows<O: Offset>(
     offsets: &mut Offsets<O>,
     bytes: &mut Vec<u8>,
     rows: &OffsetsBuffer<O>,
@@ -429,6 +557,21 @@ fn append_bytes<O: Offset>(
     append_span(bytes, values, first, end, until, BLOCK)
 }
 
+// The bytes of each array, shared.
+fn bytes_of<O: Offset, K: ByteKind>(
+    alloc: Global,
+    arrays: &[&FlatArray<ByteRows<O, K>>],
+) -> Result<Vec<Buffer<u8>>, Error>
+    ensures ok { IfOk result (λ sources. sources.items ≡ map (λ r. r.now.values.bytes) arrays.now) }
+    ensures err { IsOkUnless result Error.OutOfMemory }
+{
+    let mut sources = Vec::with_capacity(alloc, arrays.len())?;
+    for array in arrays {
+        sources.push(array.values().clone()?)?;
+    }
+    Ok(sources)
+}
+
 impl<O: AnyOffset, K: GrowableKind> GrowableValues for GrowableBytes<O, K> {
     ghost use Rattle.std.proofs.lemmas.List.{length-replicate};
     ghost use Rattle.arrow_flat_growable.specs.ByteLaws as laws;
@@ -441,14 +584,16 @@ impl<O: AnyOffset, K: GrowableKind> GrowableValues for GrowableBytes<O, K> {
 
     ghost stored_in = { λ array. byte_slots K.slot array.values };
 
-    ghost slots = { byte_slots K.slot };
+    ghost slots = { λ rows. byte_slots K.slot rows.1 };
 
     ghost are_of = { λ rows t. physical_type_of t ≡ K.physical_type O.IS_LARGE };
 
     ghost kind = { K.any_kind O.IS_LARGE };
 
-    ghost stored_slice = { λ array start len. map K.slot
-        (stored_rows array.validity array.values start len) };
+    ghost binds = { λ rows i array. IsBound rows.0 i array.values.bytes };
+
+    ghost stored_slice = { λ array bits start len. map K.slot
+        (filled bits (sliced (row_bytes array.values) start len)) };
 
     ghost blanks = { λ rows n. replicate n (K.slot []) };
 
@@ -465,24 +610,41 @@ impl<O: AnyOffset, K: GrowableKind> GrowableValues for GrowableBytes<O, K> {
     fn with_capacity(
         alloc: Global,
         array: &FlatArray<ByteRows<O, K>>,
+        arrays: &[&FlatArray<ByteRows<O, K>>],
         capacity: usize,
     ) -> Result<GrowableBytes<O, K>, Error> {
         // That rows of the type are stored so follows from the array.
         let _ = array.data_type();
-        GrowableBytes::empty(alloc, capacity)
+        let sources = bytes_of(alloc, arrays)?;
+        let bytes = GrowableParts::with_capacity(alloc, sources, 0)?;
+        GrowableBytes::empty(alloc, bytes, capacity)
     }
 
     fn fresh(&self) -> Result<GrowableBytes<O, K>, Error> {
-        GrowableBytes::empty(*self.bytes.allocator(), 0)
+        GrowableBytes::empty(self.bytes.allocator(), self.bytes.without_values()?, 0)
     }
 
     fn extend(
         &mut self,
+        index: usize,
         array: &FlatArray<ByteRows<O, K>>,
         start: usize,
         len: usize,
     ) -> Result<(), Error> {
-        self.append(array, start, len)?;
+        self.append(index, array, start, len)?;
+        // The bytes are then at most the greatest offset, so the rows fit.
+        let _ = self.len();
+        Ok(())
+    }
+
+    fn extend_under(
+        &mut self,
+        index: usize,
+        array: &FlatArray<ByteRows<O, K>>,
+        start: usize,
+        bits: &Bitmap,
+    ) -> Result<(), Error> {
+        self.append_under(index, array, start, bits)?;
         // The bytes are then at most the greatest offset, so the rows fit.
         let _ = self.len();
         Ok(())
@@ -500,20 +662,11 @@ impl<O: AnyOffset, K: GrowableKind> GrowableValues for GrowableBytes<O, K> {
         data_type: DataType,
         validity: Option<Bitmap>,
     ) -> Result<FlatArray<ByteRows<O, K>>, Error> {
-        let alloc = *self.bytes.allocator();
+        let alloc = self.bytes.allocator();
         let GrowableBytes { offsets, bytes, .. } = self;
         let offsets = offsets.into_buffer()?;
-        let bytes = Buffer::from_vec(alloc, bytes)?;
+        let bytes = Buffer::from_vec(alloc, bytes.into_vec()?)?;
         Ok(FlatArray::<ByteRows<O, K>>::new(data_type, offsets, bytes, validity))
-    }
-
-    fn part_under(
-        alloc: Global,
-        array: &FlatArray<ByteRows<O, K>>,
-        start: usize,
-        own: &Bitmap,
-    ) -> Result<FlatArray<ByteRows<O, K>>, Error> {
-        part_under(alloc, array, start, own)
     }
 
     fn of_any(array: &AnyArray) -> &FlatArray<ByteRows<O, K>> {
@@ -524,11 +677,11 @@ impl<O: AnyOffset, K: GrowableKind> GrowableValues for GrowableBytes<O, K> {
         K::to_any(&array)
     }
 
-    ghost rows_of_slice = { λ a start len fits within. laws.rows_of_slice K.slot a.validity a.values start
-        len fits within };
+    ghost rows_of_slice = { λ a bits start len many within. laws.rows_of_slice K.slot bits a.values start
+        len many within };
 
-    ghost length_of_slice = { λ a start len fits within. laws.length_of_slice K.slot a.validity a.values
-        start len fits within };
+    ghost length_of_slice = { λ a bits start len many within. laws.length_of_slice K.slot bits a.values
+        start len many within };
 
     ghost length_of_blanks = { λ x n. length-replicate n (K.slot []) };
 
@@ -537,8 +690,8 @@ impl<O: AnyOffset, K: GrowableKind> GrowableValues for GrowableBytes<O, K> {
 
     ghost spares_none = { refl };
 
-    ghost spares_slice = { λ bits stored a start len fits within spares same. laws.spares_slice K.slot
-        K.counts bits stored a.validity a.values start len fits within spares same };
+    ghost spares_slice = { λ bits stored a more start len many within spares same. laws.spares_slice K.slot
+        K.counts bits stored more a.values start len many within spares same };
 
     ghost spares_blanks = { λ bits stored x n spares same. laws.spares_blanks (K.slot []) (K.counts []) bits
         stored n spares same };

@@ -1,6 +1,6 @@
 //! Arrays of bytes of a fixed size under construction.
 
-ghost use Rattle.std.specs.Prelude.{◌≡◌, ◌+◌, ◌*◌, ◌<◌, ◌^◌, replicate, IfOk, IfErr};
+ghost use Rattle.std.specs.Prelude.{◌≡◌, ◌+◌, ◌*◌, ◌<◌, ◌^◌, replicate, refl, IfOk, IfErr};
 ghost use Rattle.std.proofs.Common.{ap};
 ghost use Rattle.std.proofs.lemmas.List.{length-replicate};
 ghost use Rattle.arrow_types.specs.Physical.{physical_type_of};
@@ -12,11 +12,9 @@ ghost use Rattle.arrow_memory.proofs.SlicedLemmas.{length-sliced};
 ghost use Rattle.arrow_flat.specs.FixedRows.{fixed_slots, fixed_size_in};
 ghost use Rattle.arrow_arrays.specs.Any.{fixed_size_binary_kind};
 ghost use Rattle.arrow_flat_growable.specs.FlatLaws.{is_counted, fits_unmasked, fits_mask, null_of_counted};
-ghost use Rattle.arrow_flat_growable.specs.MaskLaws.{mask-part};
 
 use crate::growable::flat::{FlatGrowable, GrowableValues};
-use crate::growable::primitive::append_part;
-use crate::under::part_under;
+use crate::growable::parts::append_part;
 use arrow_arrays::array::AnyArray;
 use arrow_flat::array::{FixedRows, FixedSizeBinaryArray};
 use arrow_memory::bitmap::Bitmap;
@@ -83,7 +81,9 @@ impl GrowableValues for GrowableFixedRows {
 
     ghost kind = { fixed_size_binary_kind };
 
-    ghost stored_slice = { λ array start len. sliced (fixed_slots array.values) start len };
+    ghost binds = { λ x i array. Unit {0} };
+
+    ghost stored_slice = { λ array bits start len. sliced (fixed_slots array.values) start len };
 
     ghost blanks = { λ rows n. replicate n (Bytes (replicate rows.size 0)) };
 
@@ -100,6 +100,7 @@ impl GrowableValues for GrowableFixedRows {
     fn with_capacity(
         alloc: Global,
         array: &FixedSizeBinaryArray,
+        _arrays: &[&FixedSizeBinaryArray],
         capacity: usize,
     ) -> Result<GrowableFixedRows, Error> {
         // That rows of the type are stored so, and their size, follow from the array.
@@ -123,6 +124,7 @@ impl GrowableValues for GrowableFixedRows {
 
     fn extend(
         &mut self,
+        _index: usize,
         array: &FixedSizeBinaryArray,
         start: usize,
         len: usize,
@@ -135,6 +137,16 @@ impl GrowableValues for GrowableFixedRows {
         append_part(&mut self.bytes, bytes, start * size, len * size)?;
         self.count = count;
         Ok(())
+    }
+
+    fn extend_under(
+        &mut self,
+        index: usize,
+        array: &FixedSizeBinaryArray,
+        start: usize,
+        bits: &Bitmap,
+    ) -> Result<(), Error> {
+        self.extend(index, array, start, bits.len())
     }
 
     fn extend_nulls(&mut self, additional: usize) -> Result<(), Error> {
@@ -154,15 +166,6 @@ impl GrowableValues for GrowableFixedRows {
         Ok(FixedSizeBinaryArray::new(data_type, bytes, validity))
     }
 
-    fn part_under(
-        alloc: Global,
-        array: &FixedSizeBinaryArray,
-        start: usize,
-        own: &Bitmap,
-    ) -> Result<FixedSizeBinaryArray, Error> {
-        part_under(alloc, array, start, own)
-    }
-
     fn of_any(array: &AnyArray) -> &FixedSizeBinaryArray {
         match array {
             AnyArray::FixedSizeBinary(array) => array,
@@ -174,10 +177,9 @@ impl GrowableValues for GrowableFixedRows {
         Ok(AnyArray::FixedSizeBinary(array))
     }
 
-    ghost rows_of_slice = { λ array start len fits within. mask-part array.validity
-        (fixed_slots array.values) start len within };
+    ghost rows_of_slice = { λ array bits start len many within. refl };
 
-    ghost length_of_slice = { λ array start len fits within. length-sliced (fixed_slots array.values) start
+    ghost length_of_slice = { λ array bits start len many within. length-sliced (fixed_slots array.values) start
         len within };
 
     ghost length_of_blanks = { λ rows n. length-replicate n (Bytes (replicate rows.size 0)) };
@@ -186,7 +188,7 @@ impl GrowableValues for GrowableFixedRows {
 
     ghost spares_none = { tt };
 
-    ghost spares_slice = { λ bits stored array start len fits within spared same. tt };
+    ghost spares_slice = { λ bits stored array more start len many within spared same. tt };
 
     ghost spares_blanks = { λ bits stored x n spared same. tt };
 

@@ -13,11 +13,12 @@ ghost use Rattle.arrow_memory.specs.Sliced.{sliced};
 ghost use Rattle.arrow_flat.specs.Parts.{FitsRows, bits_of_slice};
 ghost use Rattle.arrow_arrays.specs.Any.{Kind, kind_of, layout_of};
 ghost use Rattle.arrow_arrays.specs.Layout.{flat};
-ghost use Rattle.arrow_flat_growable.specs.Flat.{Covers, flat_layout};
+ghost use Rattle.arrow_flat_growable.specs.Flat.{BindsAll, Covers, KeepsBound, flat_layout};
 ghost use Rattle.arrow_flat_growable.specs.Grown.{Grown, AreOfOneType, FitsItself, FitsWith, HasFailed, IsFailedOrMemory, IsRefusal, NamesRows, appended, bound_to, named_rows};
 
 use crate::growable::Growable;
 use crate::growable::validity::GrowableValidity;
+use crate::under::part_under;
 use arrow_arrays::array::AnyArray;
 use arrow_memory::bitmap::Bitmap;
 use arrow_types::datatypes::DataType;
@@ -47,8 +48,11 @@ pub trait GrowableValues: Drop {
     // the kind of arrays that are stored so
     ghost kind: { Kind };
 
-    // what is stored here of rows start to start + len of an array
-    ghost stored_slice: { Self.Array → ℕ → ℕ → List Slot };
+    // the array that is bound under a number
+    ghost binds: { Self → ℕ → Self.Array → Type 0 };
+
+    // what is stored here of rows start to start + len of an array, null where a bit is not set
+    ghost stored_slice: { Self.Array → List Bool → ℕ → ℕ → List Slot };
 
     // what is stored beneath so many nulls
     ghost blanks: { Self → ℕ → List Slot };
@@ -66,36 +70,82 @@ pub trait GrowableValues: Drop {
         ensures same { option_copied result ≡ bits_in array.now }
         ensures fits { FitsRows (bits_in array.now) (length (stored_in array.now)) };
 
-    /// No rows, and room for so many, stored as those of an array.
-    fn with_capacity(alloc: Global, array: &Self::Array, capacity: usize) -> Result<Self, Error>
+    /// No rows, and room for so many, stored as those of an array, which is one of those that are bound.
+    fn with_capacity(
+        alloc: Global,
+        array: &Self::Array,
+        arrays: &[&Self::Array],
+        capacity: usize,
+    ) -> Result<Self, Error>
         ensures empty { IfOk result (λ values. slots values ≡ []) }
         ensures kind { IfOk result (λ values. are_of values (type_in array.now)) }
+        ensures bound { IfOk result (λ values. BindsAll (binds values) arrays.now) }
         ensures err { IsOkUnless result Error.OutOfMemory };
 
     /// No rows, stored in the same way.
     fn fresh(&self) -> Result<Self, Error>
         ensures empty { IfOk result (λ values. slots values ≡ []) }
         ensures kind { IfOk result (λ values. (t : ArrowType) → are_of self.now t → are_of values t) }
+        ensures bound { IfOk result (λ values. KeepsBound (binds self.now) (binds values)) }
         ensures err { IsOkUnless result Error.OutOfMemory };
 
-    /// Appends what is stored of `len` rows of an array from row `start` on.
+    /// Appends what is stored of `len` rows of bound array `index` from row `start` on.
     ///
     /// # Requires
-    /// The array's data type is stored so, and `start + len` is at most the count of its rows.
-    fn extend(&mut self, array: &Self::Array, start: usize, len: usize) -> Result<(), Error>
+    /// The array's data type is stored so, `start + len` is at most the count of its rows, and there are fewer than 2^64 rows then.
+    fn extend(
+        &mut self,
+        index: usize,
+        array: &Self::Array,
+        start: usize,
+        len: usize,
+    ) -> Result<(), Error>
         requires kind { are_of self.old (type_in array.now) }
+        requires bound { binds self.old index array.now }
         requires within { start + len ≤ length (stored_in array.now) }
-        ensures ok { OnOk result (slots self.new ≡ slots self.old ++ stored_slice array.now start len) }
+        requires room { length (slots self.old) + len < 2 ^ 64 }
+        ensures ok { OnOk result (slots self.new ≡ slots self.old
+            ++ stored_slice array.now (bits_of_slice (bits_in array.now) start len) start len) }
         ensures kind { (t : ArrowType) → are_of self.old t → are_of self.new t }
+        ensures bound { KeepsBound (binds self.old) (binds self.new) }
+        ensures fits { (t : ArrowType) → are_of self.old t → OnOk result (Fits t (slots self.new)) }
+        ensures overflow { (t : ArrowType) → are_of self.old t → result ≡ Err Error.Overflow → Fits t (slots self.old
+            ++ stored_slice array.now (bits_of_slice (bits_in array.now) start len) start len) → ⊥ }
+        ensures others { IfErr result IsGrowthError };
+
+    /// The same of rows that are null where a bit is not set, a row for each bit.
+    ///
+    /// # Requires
+    /// As of `extend`.
+    fn extend_under(
+        &mut self,
+        index: usize,
+        array: &Self::Array,
+        start: usize,
+        bits: &Bitmap,
+    ) -> Result<(), Error>
+        requires kind { are_of self.old (type_in array.now) }
+        requires bound { binds self.old index array.now }
+        requires within { start + length bits.now ≤ length (stored_in array.now) }
+        requires room { length (slots self.old) + length bits.now < 2 ^ 64 }
+        ensures ok { OnOk result (slots self.new
+            ≡ slots self.old ++ stored_slice array.now bits.now start (length bits.now)) }
+        ensures kind { (t : ArrowType) → are_of self.old t → are_of self.new t }
+        ensures bound { KeepsBound (binds self.old) (binds self.new) }
         ensures fits { (t : ArrowType) → are_of self.old t → OnOk result (Fits t (slots self.new)) }
         ensures overflow { (t : ArrowType) → are_of self.old t → result ≡ Err Error.Overflow
-            → Fits t (slots self.old ++ stored_slice array.now start len) → ⊥ }
+            → Fits t (slots self.old ++ stored_slice array.now bits.now start (length bits.now)) → ⊥ }
         ensures others { IfErr result IsGrowthError };
 
     /// Appends what is stored beneath so many nulls.
+    ///
+    /// # Requires
+    /// There are fewer than 2^64 rows then.
     fn extend_nulls(&mut self, additional: usize) -> Result<(), Error>
+        requires { length (slots self.old) + additional < 2 ^ 64 }
         ensures ok { OnOk result (slots self.new ≡ slots self.old ++ blanks self.old additional) }
         ensures kind { (t : ArrowType) → are_of self.old t → are_of self.new t }
+        ensures bound { KeepsBound (binds self.old) (binds self.new) }
         ensures fits { (t : ArrowType) → are_of self.old t → OnOk result (Fits t (slots self.new)) }
         ensures overflow { (t : ArrowType) → are_of self.old t → result ≡ Err Error.Overflow
             → Fits t (slots self.old ++ blanks self.old additional) → ⊥ }
@@ -114,22 +164,6 @@ pub trait GrowableValues: Drop {
             ≡ masked validity (slots self)) }
         ensures err { IsOkUnless result Error.OutOfMemory };
 
-    /// Rows of an array from row `start` on, a row for each bit of a mask: null where the bit is not set.
-    ///
-    /// # Requires
-    /// `start` and the count of bits are at most the count of its rows.
-    fn part_under(
-        alloc: Global,
-        array: &Self::Array,
-        start: usize,
-        own: &Bitmap,
-    ) -> Result<Self::Array, Error>
-        requires { start + length own.now ≤ length (masked (bits_in array.now) (stored_in array.now)) }
-        ensures same { IfOk result (λ part. type_in part ≡ type_in array.now) }
-        ensures rows { IfOk result (λ part. masked (bits_in part) (stored_in part)
-            ≡ mask own.now (sliced (masked (bits_in array.now) (stored_in array.now)) start (length own.now))) }
-        ensures err { IsOkUnless result Error.OutOfMemory };
-
     /// An array of any type as one whose rows are stored so.
     ///
     /// # Requires
@@ -146,16 +180,14 @@ pub trait GrowableValues: Drop {
         ensures ok { IfOk result (λ any. layout_of any ≡ flat_layout type_in bits_in stored_in array) }
         ensures err { IsOkUnless result Error.OutOfMemory };
 
-    // a part under its bits has the rows of that part
-    ghost rows_of_slice: { (array : Self.Array) (start len : ℕ)
-        → FitsRows (bits_in array) (length (stored_in array)) → start + len ≤ length (stored_in array)
-        → mask (bits_of_slice (bits_in array) start len) (stored_slice array start len)
-        ≡ sliced (masked (bits_in array) (stored_in array)) start len };
+    // a part under bits has the rows of that part under them
+    ghost rows_of_slice: { (array : Self.Array) (bits : List Bool) (start len : ℕ) → length bits ≡ len
+        → start + len ≤ length (stored_in array)
+        → mask bits (stored_slice array bits start len) ≡ mask bits (sliced (stored_in array) start len) };
 
     // as many
-    ghost length_of_slice: { (array : Self.Array) (start len : ℕ)
-        → FitsRows (bits_in array) (length (stored_in array)) → start + len ≤ length (stored_in array)
-        → length (stored_slice array start len) ≡ len };
+    ghost length_of_slice: { (array : Self.Array) (bits : List Bool) (start len : ℕ) → length bits ≡ len
+        → start + len ≤ length (stored_in array) → length (stored_slice array bits start len) ≡ len };
 
     ghost length_of_blanks: { (x : Self) (n : ℕ) → length (blanks x n) ≡ n };
 
@@ -165,10 +197,9 @@ pub trait GrowableValues: Drop {
     // nothing that counts comes beneath nulls
     ghost spares_none: { spares [] [] };
 
-    ghost spares_slice: { (bits : List Bool) (stored : List Slot) (array : Self.Array) (start len : ℕ)
-        → FitsRows (bits_in array) (length (stored_in array)) → start + len ≤ length (stored_in array)
-        → spares bits stored → length bits ≡ length stored
-        → spares (bits ++ bits_of_slice (bits_in array) start len) (stored ++ stored_slice array start len) };
+    ghost spares_slice: { (bits : List Bool) (stored : List Slot) (array : Self.Array) (more : List Bool)
+        (start len : ℕ) → length more ≡ len → start + len ≤ length (stored_in array) → spares bits stored
+        → length bits ≡ length stored → spares (bits ++ more) (stored ++ stored_slice array more start len) };
 
     ghost spares_blanks: { (bits : List Bool) (stored : List Slot) (x : Self) (n : ℕ) → spares bits stored
         → length bits ≡ length stored → spares (bits ++ replicate n false) (stored ++ blanks x n) };
@@ -224,9 +255,9 @@ impl<'a, G: GrowableValues> Model for FlatGrowable<'a, G> {
       failed = a.has_failed;
     } };
 
-    ghost invariant = { λ a. IsGrownFlat G.slots G.are_of G.spares a.values a.validity a.len
-        (map (λ r. flat_layout G.type_in G.bits_in G.stored_in r.now) a.arrays.items) (type_of a.data_type)
-        a.has_failed };
+    ghost invariant = { λ a. IsGrownFlat G.slots G.are_of G.spares (G.binds a.values) a.values a.validity a.len
+        a.arrays.items (map (λ r. flat_layout G.type_in G.bits_in G.stored_in r.now) a.arrays.items)
+        (type_of a.data_type) a.has_failed };
 }
 
 impl<'a, G: GrowableValues> FlatGrowable<'a, G> {
@@ -254,7 +285,7 @@ impl<'a, G: GrowableValues> FlatGrowable<'a, G> {
     {
         let first: &'a G::Array = arrays[0];
         let data_type = G::data_type(first).clone()?;
-        let values = G::with_capacity(alloc, first, capacity)?;
+        let values = G::with_capacity(alloc, first, &arrays, capacity)?;
         let validity = GrowableValidity::new(alloc, use_validity, capacity)?;
         Ok(FlatGrowable {
             arrays,
@@ -319,8 +350,15 @@ impl<'a, G: GrowableValues> FlatGrowable<'a, G> {
         let Some(total) = self.len.checked_add(len) else {
             return Err(Error::Overflow);
         };
-        let part = G::part_under(self.validity.allocator(), array, start, own)?;
-        append(&mut self.values, &mut self.validity, &part, 0, len)?;
+        let bits = part_under(self.validity.allocator(), G::validity(array), start, own)?;
+        append_under(
+            &mut self.values,
+            &mut self.validity,
+            index,
+            array,
+            start,
+            &bits,
+        )?;
         self.len = total;
         self.has_failed = false;
         Ok(())
@@ -348,6 +386,7 @@ fn finish<G: GrowableValues>(
 fn append<G: GrowableValues>(
     values: &mut G,
     validity: &mut GrowableValidity,
+    index: usize,
     array: &G::Array,
     start: usize,
     len: usize,
@@ -355,6 +394,7 @@ fn append<G: GrowableValues>(
     requires within { start + len ≤ length (masked (G.bits_in array.now) (G.stored_in array.now)) }
     requires room { length validity.old + len < 2 ^ 64 }
     requires kind { G.are_of values.old (G.type_in array.now) }
+    requires bound { G.binds values.old index array.now }
     requires covers { Covers G.spares validity.old (G.slots values.old) }
     ensures covers { OnOk result (Covers G.spares validity.new (G.slots values.new)) }
     ensures count { OnOk result (length validity.new ≡ length validity.old + len) }
@@ -362,6 +402,7 @@ fn append<G: GrowableValues>(
         ≡ mask validity.old (G.slots values.old)
         ++ sliced (masked (G.bits_in array.now) (G.stored_in array.now)) start len) }
     ensures kind { (t : ArrowType) → G.are_of values.old t → G.are_of values.new t }
+    ensures bound { KeepsBound (G.binds values.old) (G.binds values.new) }
     ensures fits { (t : ArrowType) → G.are_of values.old t → OnOk result (Fits t (G.slots values.new)) }
     ensures overflow { (t : ArrowType) → G.are_of values.old t → result ≡ Err Error.Overflow
         → Fits t (mask validity.old (G.slots values.old)
@@ -369,7 +410,38 @@ fn append<G: GrowableValues>(
     ensures others { IfErr result IsGrowthError }
 {
     validity.extend_from(G::validity(array), start, len)?;
-    values.extend(array, start, len)
+    values.extend(index, array, start, len)
+}
+
+// The same of rows that are null where a bit is not set, a row for each bit.
+fn append_under<G: GrowableValues>(
+    values: &mut G,
+    validity: &mut GrowableValidity,
+    index: usize,
+    array: &G::Array,
+    start: usize,
+    bits: &Bitmap,
+) -> Result<(), Error>
+    requires within { start + length bits.now ≤ length (G.stored_in array.now) }
+    requires room { length validity.old + length bits.now < 2 ^ 64 }
+    requires kind { G.are_of values.old (G.type_in array.now) }
+    requires bound { G.binds values.old index array.now }
+    requires covers { Covers G.spares validity.old (G.slots values.old) }
+    ensures covers { OnOk result (Covers G.spares validity.new (G.slots values.new)) }
+    ensures count { OnOk result (length validity.new ≡ length validity.old + length bits.now) }
+    ensures rows { OnOk result (mask validity.new (G.slots values.new)
+        ≡ mask validity.old (G.slots values.old)
+        ++ mask bits.now (sliced (G.stored_in array.now) start (length bits.now))) }
+    ensures kind { (t : ArrowType) → G.are_of values.old t → G.are_of values.new t }
+    ensures bound { KeepsBound (G.binds values.old) (G.binds values.new) }
+    ensures fits { (t : ArrowType) → G.are_of values.old t → OnOk result (Fits t (G.slots values.new)) }
+    ensures overflow { (t : ArrowType) → G.are_of values.old t → result ≡ Err Error.Overflow
+        → Fits t (mask validity.old (G.slots values.old)
+        ++ mask bits.now (sliced (G.stored_in array.now) start (length bits.now))) → ⊥ }
+    ensures others { IfErr result IsGrowthError }
+{
+    validity.extend_from(Some(bits), 0, bits.len())?;
+    values.extend_under(index, array, start, bits)
 }
 
 // Appends so many nulls.
@@ -385,6 +457,7 @@ fn append_nulls<G: GrowableValues>(
     ensures rows { OnOk result (mask validity.new (G.slots values.new)
         ≡ mask validity.old (G.slots values.old) ++ replicate additional Null) }
     ensures kind { (t : ArrowType) → G.are_of values.old t → G.are_of values.new t }
+    ensures bound { KeepsBound (G.binds values.old) (G.binds values.new) }
     ensures fits { (t : ArrowType) → G.are_of values.old t → OnOk result (Fits t (G.slots values.new)) }
     ensures overflow { (t : ArrowType) → G.are_of values.old t → result ≡ Err Error.Overflow
         → Fits t (mask validity.old (G.slots values.old) ++ replicate additional Null) → ⊥ }
@@ -406,7 +479,14 @@ impl<'a, G: GrowableValues> Growable<'a> for FlatGrowable<'a, G> {
         let Some(total) = self.len.checked_add(len) else {
             return Err(Error::Overflow);
         };
-        append(&mut self.values, &mut self.validity, array, start, len)?;
+        append(
+            &mut self.values,
+            &mut self.validity,
+            index,
+            array,
+            start,
+            len,
+        )?;
         self.len = total;
         self.has_failed = false;
         Ok(())

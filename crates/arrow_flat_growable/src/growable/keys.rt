@@ -18,7 +18,7 @@ ghost use Rattle.arrow_flat_growable.specs.Keys.{KeyFits, PassesGreatest, SomePa
 
 mod moved;
 
-use crate::growable::primitive::append_part;
+use crate::growable::parts::append_part;
 use arrow_arrays::array::AnyKeys;
 use arrow_flat::array::PrimitiveArray;
 use arrow_memory::bitmap::Bitmap;

@@ -16,7 +16,7 @@ use arrow_arrays::array::{
 use arrow_flat::array::{Binary, Text};
 use arrow_growable::growable::{
     FlatGrowable, GrowableBits, GrowableBytes, GrowableDictionary, GrowableFixedRows, GrowableNull,
-    GrowableOf, GrowableUnion, GrowableValues, NestedArray,
+    GrowableOf, GrowableParts, GrowableUnion, GrowableValues, NestedArray,
 };
 use arrow_text::fault::Fault;
 use arrow_text::write::{write_made_or_name, write_name};
@@ -122,18 +122,20 @@ fn run_primitive(
     requires kind { physical_type_of (first_type (layouts_in arrays.now)) ≡ physical.Primitive element }
 {
     match element {
-        PrimitiveType::Int8 => run_flat::<Vec<i8>>(alloc, arrays, plan, out),
-        PrimitiveType::Int16 => run_flat::<Vec<i16>>(alloc, arrays, plan, out),
-        PrimitiveType::Int32 => run_flat::<Vec<i32>>(alloc, arrays, plan, out),
-        PrimitiveType::Int64 => run_flat::<Vec<i64>>(alloc, arrays, plan, out),
-        PrimitiveType::Int128 => run_flat::<Vec<i128>>(alloc, arrays, plan, out),
-        PrimitiveType::Int256 => run_flat::<Vec<i256>>(alloc, arrays, plan, out),
-        PrimitiveType::UInt8 => run_flat::<Vec<u8>>(alloc, arrays, plan, out),
-        PrimitiveType::UInt16 => run_flat::<Vec<u16>>(alloc, arrays, plan, out),
-        PrimitiveType::UInt32 => run_flat::<Vec<u32>>(alloc, arrays, plan, out),
-        PrimitiveType::UInt64 => run_flat::<Vec<u64>>(alloc, arrays, plan, out),
-        PrimitiveType::DaysMs => run_flat::<Vec<days_ms>>(alloc, arrays, plan, out),
-        PrimitiveType::MonthDayNano => run_flat::<Vec<months_days_ns>>(alloc, arrays, plan, out),
+        PrimitiveType::Int8 => run_flat::<GrowableParts<i8>>(alloc, arrays, plan, out),
+        PrimitiveType::Int16 => run_flat::<GrowableParts<i16>>(alloc, arrays, plan, out),
+        PrimitiveType::Int32 => run_flat::<GrowableParts<i32>>(alloc, arrays, plan, out),
+        PrimitiveType::Int64 => run_flat::<GrowableParts<i64>>(alloc, arrays, plan, out),
+        PrimitiveType::Int128 => run_flat::<GrowableParts<i128>>(alloc, arrays, plan, out),
+        PrimitiveType::Int256 => run_flat::<GrowableParts<i256>>(alloc, arrays, plan, out),
+        PrimitiveType::UInt8 => run_flat::<GrowableParts<u8>>(alloc, arrays, plan, out),
+        PrimitiveType::UInt16 => run_flat::<GrowableParts<u16>>(alloc, arrays, plan, out),
+        PrimitiveType::UInt32 => run_flat::<GrowableParts<u32>>(alloc, arrays, plan, out),
+        PrimitiveType::UInt64 => run_flat::<GrowableParts<u64>>(alloc, arrays, plan, out),
+        PrimitiveType::DaysMs => run_flat::<GrowableParts<days_ms>>(alloc, arrays, plan, out),
+        PrimitiveType::MonthDayNano => run_flat::<GrowableParts<months_days_ns>>(
+            alloc, arrays, plan, out,
+        ),
         _ => Err(Fault::Usage),
     }
 }

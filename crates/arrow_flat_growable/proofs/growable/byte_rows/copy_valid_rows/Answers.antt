@@ -14,7 +14,7 @@ returns-then-are_nulls_empty-clause-ok g c =
     let asked = c.requires in
     let held = c.copy_rows.ensures.rows_sound in
     let empty : AreEmptyNulls bits rows start (start + len) = search (rules, c.if-are_nulls_empty.ensures) in
-    on_ok c.copy_rows.result c.copy_rows.ensures.ok (λ is. (is.0 ∙ same_offsets rows values held asked.within bits start len asked.part asked.covered empty c.args.offsets.now, is.1 ∙ ap (λ ys. c.args.bytes.now.items ++ ys) (same_values rows values held asked.within bits start len asked.part asked.covered empty)))
+    on_ok c.copy_rows.result c.copy_rows.ensures.ok (λ is. (is.0 ∙ same_offsets rows values held asked.within bits start len asked.part asked.covered empty c.args.offsets.now, is.1 ∙ ap (λ ys. c.args.bytes.now.1 ++ ys) (same_values rows values held asked.within bits start len asked.part asked.covered empty)))
 
 pub returns-then-are_nulls_empty-clause-overflow : goal.returns-then-are_nulls_empty-clause-overflow
 returns-then-are_nulls_empty-clause-overflow g c over =

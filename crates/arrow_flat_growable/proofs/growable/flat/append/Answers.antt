@@ -3,7 +3,7 @@ use Rattle.std.proofs.lemmas.List.{length-append}
 use Rattle.arrow_flat.proofs.PartsLemmas.{length-masked}
 use Rattle.arrow_flat.specs.Parts.{bits_of_slice}
 use Rattle.arrow_flat_growable.proofs.FlatLemmas.{appended_rows, appended_lengths}
-use Rattle.arrow_flat_growable.specs.MaskLaws.{length-bits_of_slice}
+use Rattle.arrow_flat_growable.specs.MaskLaws.{length-bits_of_slice, mask-part}
 use Rattle.arrow_flat_growable.proofs.MaskLemmas.{lent_within}
 use Rattle.arrow_flat_growable.proofs.ResultLemmas.{on_ok}
 use Rattle.arrow_flat_growable.proofs.growable.flat.append.Goals as goal
@@ -26,10 +26,11 @@ returns-clause-covers g c =
     let within : c.args.start + c.args.len ≤ length (g.G.GrowableValues.stored_in array) = omega (arith, c.requires.within, length-masked v (g.G.GrowableValues.stored_in array) c.validity.ensures.fits) in
     let covers = c.requires.covers in
     let more = bits_of_slice v c.args.start c.args.len in
-    let part = g.G.GrowableValues.stored_slice array c.args.start c.args.len in
+    let many = length-bits_of_slice v (length (g.G.GrowableValues.stored_in array)) c.args.start c.args.len c.validity.ensures.fits within in
+    let part = g.G.GrowableValues.stored_slice array more c.args.start c.args.len in
     let bits : c.extend_from.new.self ≡ c.args.validity.now ++ more = c.in_ok-extend_from.ensures.ok ∙ ap (λ v. c.args.validity.now ++ bits_of_slice v c.args.start c.args.len) c.validity.ensures.same in
-    let spared = g.met.G.GrowableValues.spares_slice c.args.validity.now before array c.args.start c.args.len c.validity.ensures.fits within covers.spared covers.covered in
-    let lengths = appended_lengths c.args.validity.now more before part c.args.len covers.covered (length-bits_of_slice v (length (g.G.GrowableValues.stored_in array)) c.args.start c.args.len c.validity.ensures.fits within) (g.met.G.GrowableValues.length_of_slice array c.args.start c.args.len c.validity.ensures.fits within) in
+    let spared = g.met.G.GrowableValues.spares_slice c.args.validity.now before array more c.args.start c.args.len many within covers.spared covers.covered in
+    let lengths = appended_lengths c.args.validity.now more before part c.args.len covers.covered many (g.met.G.GrowableValues.length_of_slice array more c.args.start c.args.len many within) in
     on_ok c.extend.result c.extend.ensures.ok (λ stored. record { covered = rw (bits, stored) lengths; spared = rw (bits, stored) spared })
 
 pub returns-clause-count : goal.returns-clause-count
@@ -49,7 +50,9 @@ returns-clause-rows g c =
     let stored = g.G.GrowableValues.stored_in array in
     let within : c.args.start + c.args.len ≤ length stored = omega (arith, c.requires.within, length-masked v stored c.validity.ensures.fits) in
     let bits : c.extend_from.new.self ≡ c.args.validity.now ++ bits_of_slice v c.args.start c.args.len = c.in_ok-extend_from.ensures.ok ∙ ap (λ v. c.args.validity.now ++ bits_of_slice v c.args.start c.args.len) c.validity.ensures.same in
-    let part = g.met.G.GrowableValues.rows_of_slice array c.args.start c.args.len c.validity.ensures.fits within in
+    let more = bits_of_slice v c.args.start c.args.len in
+    let many = length-bits_of_slice v (length stored) c.args.start c.args.len c.validity.ensures.fits within in
+    let part = g.met.G.GrowableValues.rows_of_slice array more c.args.start c.args.len many within ∙ mask-part v (g.G.GrowableValues.stored_in array) c.args.start c.args.len within in
     on_ok c.extend.result c.extend.ensures.ok (λ stored. rw (bits, stored) (appended_rows c.args.validity.now _ (g.G.GrowableValues.slots c.args.values.now) _ _ c.requires.covers.covered part))
 
 pub returns-clause-overflow : goal.returns-clause-overflow
@@ -60,8 +63,9 @@ returns-clause-overflow g c t kind overflows fits =
     let within : c.args.start + c.args.len ≤ length (g.G.GrowableValues.stored_in array) = omega (arith, c.requires.within, length-masked v (g.G.GrowableValues.stored_in array) c.validity.ensures.fits) in
     let covers = c.requires.covers in
     let more = bits_of_slice v c.args.start c.args.len in
-    let part = g.G.GrowableValues.stored_slice array c.args.start c.args.len in
-    let rows = g.met.G.GrowableValues.rows_of_slice array c.args.start c.args.len c.validity.ensures.fits within in
-    let spared = g.met.G.GrowableValues.spares_slice c.args.validity.now before array c.args.start c.args.len c.validity.ensures.fits within covers.spared covers.covered in
-    let lengths = appended_lengths c.args.validity.now more before part c.args.len covers.covered (length-bits_of_slice v (length (g.G.GrowableValues.stored_in array)) c.args.start c.args.len c.validity.ensures.fits within) (g.met.G.GrowableValues.length_of_slice array c.args.start c.args.len c.validity.ensures.fits within) in
+    let many = length-bits_of_slice v (length (g.G.GrowableValues.stored_in array)) c.args.start c.args.len c.validity.ensures.fits within in
+    let part = g.G.GrowableValues.stored_slice array more c.args.start c.args.len in
+    let rows = g.met.G.GrowableValues.rows_of_slice array more c.args.start c.args.len many within ∙ mask-part v (g.G.GrowableValues.stored_in array) c.args.start c.args.len within in
+    let spared = g.met.G.GrowableValues.spares_slice c.args.validity.now before array more c.args.start c.args.len many within covers.spared covers.covered in
+    let lengths = appended_lengths c.args.validity.now more before part c.args.len covers.covered many (g.met.G.GrowableValues.length_of_slice array more c.args.start c.args.len many within) in
     c.extend.ensures.overflow t kind overflows (g.met.G.GrowableValues.fits_stored c.args.values.now t (c.args.validity.now ++ more) (before ++ part) kind spared lengths (rw (appended_rows c.args.validity.now more before part _ covers.covered rows) fits))

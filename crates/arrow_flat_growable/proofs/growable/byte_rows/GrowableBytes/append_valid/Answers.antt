@@ -1,4 +1,4 @@
-use Rattle.std.proofs.Common.{arith, ◌≡◌, ◌∙◌, ◌++◌, ◌+◌, ◌<◌, ap, sym, subst, length}
+use Rattle.std.proofs.Common.{arith, ◌≡◌, ◌∙◌, ◌++◌, ◌+◌, ◌<◌, subst, length}
 use Rattle.arrow_memory.specs.Sliced.{sliced}
 use Rattle.arrow_memory.proofs.SlicedLemmas.{length-sliced}
 use Rattle.arrow_flat.specs.ByteRows.{row_bytes}
@@ -12,41 +12,41 @@ use Rattle.arrow_flat_growable.proofs.growable.byte_rows.GrowableBytes.append_va
 
 pub copy_valid_rows-requires-clause-part : goal.copy_valid_rows-requires-clause-part
 copy_valid_rows-requires-clause-part g c =
-    omega (arith, c.requires.some, c.requires.part, ap length c.parts.ensures.rows, length-pieces c.parts.result.0.now c.parts.result.1.now)
+    omega (arith, c.requires.some, c.requires.part, length-pieces c.args.rows.now c.args.values.now)
 
 pub invariant_of-self : goal.invariant_of-self
 invariant_of-self g c =
     let os = c.self.inside.offsets in
-    let bytes = c.self.inside.bytes.items in
-    let others = c.parts.result.0.now in
-    let values = c.parts.result.1.now in
+    let bytes = c.self.inside.bytes.1 in
+    let others = c.args.rows.now in
+    let values = c.args.values.now in
     let allows = g.K.ByteKind.Allows in
     let sound = c.copy_valid_rows.ensures.sound in
     let bits = sliced c.args.validity.now c.args.start c.args.len in
-    let part : c.args.start + length bits < length others = omega (arith, c.requires.some, c.requires.part, ap length c.parts.ensures.rows, length-pieces others values, length-sliced c.args.validity.now c.args.start c.args.len c.requires.covered) in
-    on_either c.copy_valid_rows.result (valid_grown others values c.copy_valid_rows.ensures.rows_sound c.parts.ensures.within bits c.args.start part allows os bytes c.self.invariant sound g.met.K.GrowableKind.allows_empty c.parts.ensures.allowed c.copy_valid_rows.new.offsets c.copy_valid_rows.new.bytes.items) (same_grown allows os bytes c.self.invariant sound c.copy_valid_rows.new.offsets c.copy_valid_rows.new.bytes.items) c.copy_valid_rows.ensures.ok c.copy_valid_rows.ensures.unchanged
+    let part : c.args.start + length bits < length others = omega (arith, c.requires.some, c.requires.part, length-pieces others values, length-sliced c.args.validity.now c.args.start c.args.len c.requires.covered) in
+    on_either c.copy_valid_rows.result (valid_grown others values c.copy_valid_rows.ensures.rows_sound c.requires.within bits c.args.start part allows os bytes c.self.invariant sound g.met.K.GrowableKind.allows_empty c.requires.allowed c.copy_valid_rows.new.offsets c.copy_valid_rows.new.bytes.1) (same_grown allows os bytes c.self.invariant sound c.copy_valid_rows.new.offsets c.copy_valid_rows.new.bytes.1) c.copy_valid_rows.ensures.ok c.copy_valid_rows.ensures.unchanged
 
 pub returns-clause-ok : goal.returns-clause-ok
 returns-clause-ok g c =
     let os = c.self.inside.offsets in
-    let bytes = c.self.inside.bytes.items in
-    let others = c.parts.result.0.now in
-    let values = c.parts.result.1.now in
+    let bytes = c.self.inside.bytes.1 in
+    let others = c.args.rows.now in
+    let values = c.args.values.now in
     let bits = sliced c.args.validity.now c.args.start c.args.len in
     let count : length bits ≡ c.args.len = length-sliced c.args.validity.now c.args.start c.args.len c.requires.covered in
-    let part : c.args.start + length bits < length others = omega (arith, c.requires.some, c.requires.part, ap length c.parts.ensures.rows, length-pieces others values, count) in
-    let moved = valid_moved others values c.copy_valid_rows.ensures.rows_sound c.parts.ensures.within bits c.args.start part os bytes c.copy_valid_rows.ensures.sound c.self.invariant.ends in
-    on_ok c.copy_valid_rows.result c.copy_valid_rows.ensures.ok (λ is. (λ i. pieces (is.0 i) (is.1 i)) ∙ (moved ∙ (λ i. row_bytes (c.self.view_is i) ++ filled bits (sliced (sym c.parts.ensures.rows i) c.args.start (count i)))))
+    let part : c.args.start + length bits < length others = omega (arith, c.requires.some, c.requires.part, length-pieces others values, count) in
+    let moved = valid_moved others values c.copy_valid_rows.ensures.rows_sound c.requires.within bits c.args.start part os bytes c.copy_valid_rows.ensures.sound c.self.invariant.ends in
+    on_ok c.copy_valid_rows.result c.copy_valid_rows.ensures.ok (λ is. (λ i. pieces (is.0 i) (is.1 i)) ∙ (moved ∙ (λ i. row_bytes ((c.self.view_is i).1) ++ filled bits (sliced (pieces others values) c.args.start (count i)))))
 
 pub returns-clause-overflow : goal.returns-clause-overflow
 returns-clause-overflow g c over =
     let os = c.self.inside.offsets in
-    let bytes = c.self.inside.bytes.items in
-    let others = c.parts.result.0.now in
-    let values = c.parts.result.1.now in
+    let bytes = c.self.inside.bytes.1 in
+    let others = c.args.rows.now in
+    let values = c.args.values.now in
     let bits = sliced c.args.validity.now c.args.start c.args.len in
     let count : length bits ≡ c.args.len = length-sliced c.args.validity.now c.args.start c.args.len c.requires.covered in
-    let part : c.args.start + length bits < length others = omega (arith, c.requires.some, c.requires.part, ap length c.parts.ensures.rows, length-pieces others values, count) in
-    let all = valid_total others values c.copy_valid_rows.ensures.rows_sound c.parts.ensures.within bits c.args.start part g.K.ByteKind.Allows os bytes c.self.invariant c.copy_valid_rows.ensures.sound in
-    let seen : pieces os bytes ++ filled bits (sliced (pieces others values) c.args.start (length bits)) ≡ row_bytes c.args.self.now ++ filled bits (sliced (row_bytes c.args.array.now.values) c.args.start c.args.len) = λ i. row_bytes (c.self.view_is i) ++ filled bits (sliced (sym c.parts.ensures.rows i) c.args.start (count i)) in
+    let part : c.args.start + length bits < length others = omega (arith, c.requires.some, c.requires.part, length-pieces others values, count) in
+    let all = valid_total others values c.copy_valid_rows.ensures.rows_sound c.requires.within bits c.args.start part g.K.ByteKind.Allows os bytes c.self.invariant c.copy_valid_rows.ensures.sound in
+    let seen : pieces os bytes ++ filled bits (sliced (pieces others values) c.args.start (length bits)) ≡ row_bytes c.args.self.now.1 ++ filled bits (sliced (pieces others values) c.args.start c.args.len) = λ i. row_bytes ((c.self.view_is i).1) ++ filled bits (sliced (pieces others values) c.args.start (count i)) in
     subst (λ rows. g.O.Index.greatest < total rows) seen (omega (arith, all, c.copy_valid_rows.ensures.overflow over))

@@ -8,7 +8,7 @@ use Rattle.arrow_memory.proofs.SlicedLemmas.{length-sliced}
 use Rattle.arrow_arrays.specs.Layout.{rows}
 use Rattle.arrow_flat_growable.specs.Flat.{flat_layout}
 use Rattle.arrow_flat_growable.specs.Grown.{CannotHold, NamesRows, source_at}
-use Rattle.arrow_flat_growable.proofs.FlatLemmas.{counts_rows, source_is, too_many}
+use Rattle.arrow_flat_growable.proofs.FlatLemmas.{counts_rows, source_is, stay_bound, too_many}
 use Rattle.arrow_flat_growable.proofs.ResultLemmas.{passed_on}
 use Rattle.arrow_flat_growable.proofs.growable.flat.FlatGrowableGrowable.extend.Goals as goal
 
@@ -19,7 +19,7 @@ returns-in_default-clause-overflow g c same =
     let layouts = map (λ r. flat_layout g.G.GrowableValues.type_in g.G.GrowableValues.bits_in g.G.GrowableValues.stored_in r.now) c.self.inside.arrays.items in
     let there = subst (λ h. NamesRows h c.args.index c.args.start c.args.len) (sym c.self.view_is) c.requires in
     let named = sliced (rows (source_at layouts c.args.index)) c.args.start c.args.len in
-    subst (λ h. CannotHold h c.args.index c.args.start c.args.len) c.self.view_is (inl (λ fits. too_many t before named c.self.inside.len c.args.len fits (counts_rows _ _ _ _ _ _ _ _ _ c.self.invariant c.if-self.false) (length-sliced _ c.args.start c.args.len there.1) (omega (arith, c.in_default.ensures))))
+    subst (λ h. CannotHold h c.args.index c.args.start c.args.len) c.self.view_is (inl (λ fits. too_many t before named c.self.inside.len c.args.len fits (counts_rows c.self.invariant c.if-self.false) (length-sliced _ c.args.start c.args.len there.1) (omega (arith, c.in_default.ensures))))
 
 pub returns-in_err-append-clause-overflow : goal.returns-in_err-append-clause-overflow
 returns-in_err-append-clause-overflow g c overflows =
@@ -31,7 +31,7 @@ returns-in_err-append-clause-overflow g c overflows =
 
 pub invariant_of-self-2 : goal.invariant_of-self-2
 invariant_of-self-2 g c =
-    record { carried = c.self.invariant.carried; one_type = c.self.invariant.one_type; kind = c.in_ok-append.ensures.kind _ c.self.invariant.kind; counted = λ well. omega (arith, c.in_ok-append.ensures.count, c.self.invariant.counted c.if-self.false, c.in-Some.ensures); covers = λ well. c.in_ok-append.ensures.covers; fits = λ well. c.in_ok-append.ensures.fits _ c.self.invariant.kind }
+    record { carried = c.self.invariant.carried; one_type = c.self.invariant.one_type; kind = c.in_ok-append.ensures.kind _ c.self.invariant.kind; bound = stay_bound c.self.inside.arrays.items c.in_ok-append.ensures.bound c.self.invariant.bound; counted = λ well. omega (arith, c.in_ok-append.ensures.count, c.self.invariant.counted c.if-self.false, c.in-Some.ensures); covers = λ well. c.in_ok-append.ensures.covers; fits = λ well. c.in_ok-append.ensures.fits _ c.self.invariant.kind }
 
 pub returns-clause-ok : goal.returns-clause-ok
 returns-clause-ok g c =

@@ -12,4 +12,4 @@ returns-in_default-clause-overflow g c same fits =
     let t = type_of c.self.inside.data_type in
     let before = mask c.self.inside.validity (g.G.GrowableValues.slots c.self.inside.values) in
     let fit = subst (λ h. FitsWith h (null_rows_of h c.args.additional)) (sym c.self.view_is) fits in
-    too_many t before (replicate c.args.additional (null_slot t)) c.self.inside.len c.args.additional fit (counts_rows _ _ _ _ _ _ _ _ _ c.self.invariant c.if-self.false) (length-replicate c.args.additional (null_slot t)) (omega (arith, c.in_default.ensures))
+    too_many t before (replicate c.args.additional (null_slot t)) c.self.inside.len c.args.additional fit (counts_rows c.self.invariant c.if-self.false) (length-replicate c.args.additional (null_slot t)) (omega (arith, c.in_default.ensures))

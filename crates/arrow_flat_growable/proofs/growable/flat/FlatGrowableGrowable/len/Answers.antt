@@ -3,4 +3,4 @@ use Rattle.arrow_flat_growable.proofs.growable.flat.FlatGrowableGrowable.len.Goa
 
 pub returns-clause-rows : goal.returns-clause-rows
 returns-clause-rows g c =
-    rw (← c.self.view_is) (counts_rows _ _ _ _ _ _ _ _ _ c.self.invariant)
+    rw (← c.self.view_is) (counts_rows c.self.invariant)

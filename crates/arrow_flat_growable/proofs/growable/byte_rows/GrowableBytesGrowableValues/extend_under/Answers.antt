@@ -1,0 +1,21 @@
+use Rattle.std.proofs.Common.{◌++◌, length, sym, subst}
+use Rattle.std.proofs.lemmas.List.{map-append}
+use Rattle.arrow_types.specs.Fits.{Fits}
+use Rattle.arrow_flat.specs.ByteRows.{row_bytes}
+use Rattle.arrow_memory.specs.Sliced.{sliced}
+use Rattle.arrow_flat_growable.specs.GrownRows.{filled}
+use Rattle.arrow_flat_growable.specs.ByteLaws.{slots_fit, slots_pass}
+use Rattle.arrow_flat_growable.proofs.growable.byte_rows.GrowableBytesGrowableValues.extend_under.Goals as goal
+
+pub returns-in_err-append_under-clause-overflow : goal.returns-in_err-append_under-clause-overflow
+returns-in_err-append_under-clause-overflow g c =
+    λ t kind is fits.
+    let gives = rw is at c.from_residual.ensures.1 in
+    let more = filled c.args.bits.now (sliced (row_bytes c.args.array.now.values) c.args.start (length c.args.bits.now)) in
+    let all = subst (Fits t) (sym (map-append g.K.ByteKind.slot (row_bytes c.args.self.now.1) more)) fits in
+    slots_pass g.K.ByteKind.slot g.met.K.GrowableKind.counts g.O.Offset.IS_LARGE t _ (g.met.K.GrowableKind.lies_as_bytes g.O.Offset.IS_LARGE) kind (row_bytes c.args.self.now.1 ++ more) g.O.Index.greatest (c.in_err-append_under.ensures.overflow (cc)) g.met.O.Offset.greatest_is all
+
+pub returns-clause-fits : goal.returns-clause-fits
+returns-clause-fits g c =
+    λ t kind.
+    slots_fit g.K.ByteKind.slot g.met.K.GrowableKind.counts g.O.Offset.IS_LARGE t _ (g.met.K.GrowableKind.lies_as_bytes g.O.Offset.IS_LARGE) kind (row_bytes c.append_under.new.self.1) c.len.result g.O.Index.greatest c.len.ensures.rows c.len.type_inv c.len.ensures.bytes g.met.O.Offset.greatest_is
