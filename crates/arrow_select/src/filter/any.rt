@@ -5,13 +5,14 @@ ghost use Rattle.arrow_types.specs.declared.error.Error.{Error};
 ghost use Rattle.arrow_types.specs.Fits.{Fits};
 ghost use Rattle.arrow_types.specs.Rows.{mask_of, select};
 ghost use Rattle.arrow_arrays.specs.Any.{any_array_type, any_array_rows, layout_of};
-ghost use Rattle.arrow_flat_growable.specs.Grown.{bound_to};
+ghost use Rattle.arrow_flat_growable.specs.Grown.{FitsItself, IsRefusal, bound_to};
 ghost use Rattle.arrow_flat.specs.Parts.{boolean_rows};
 ghost use Rattle.arrow_growable.specs.AnyGrowable.{grown_of};
 ghost use Rattle.arrow_growable.specs.Growing.{HasAppended};
 ghost use Rattle.arrow_memory.specs.Grown.{IsGrowthError};
 ghost use Rattle.arrow_arrays.specs.UnionParts.{union_rows};
 ghost use Rattle.arrow_take.specs.Answers.{Gives};
+ghost use Rattle.arrow_select.specs.Extended.{BindsAt, RefusesRange, with_kept};
 ghost use Rattle.arrow_select.specs.Selection.{mask_in};
 
 use crate::filter::boolean::filter_boolean;
@@ -207,5 +208,20 @@ fn append_ranges(growable: &mut AnyGrowable, array: &AnyArray, filter: &Filter) 
         → Fits (any_array_type array.now) (select filter.now (any_array_rows array.now)) → ⊥ }
     ensures others { IfErr result IsGrowthError }
 {
-    filter.extend_into(growable, 0)
+    extend_ranges(growable, filter, 0)
+}
+
+// As [`Filter::extend_into`], of a growable of any type by name.
+fn extend_ranges(growable: &mut AnyGrowable, filter: &Filter, index: usize) -> Result<(), Error>
+    requires { BindsAt (grown_of growable.old) index filter.now }
+    ensures ok { OnOk result (grown_of growable.new ≡ with_kept (grown_of growable.old) index filter.now) }
+    ensures fits { OnOk result (FitsItself (grown_of growable.old) → FitsItself (grown_of growable.new)) }
+    ensures err { IfErr result (RefusesRange filter.now index (grown_of growable.old)
+        (grown_of growable.new)) }
+    ensures others { IfErr result IsRefusal }
+{
+    for &(start, len) in filter.ranges() {
+        growable.extend(index, start, len)?;
+    }
+    Ok(())
 }

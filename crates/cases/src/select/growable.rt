@@ -13,7 +13,7 @@ use crate::select::growable::steps::run_actions;
 use crate::select::growable::typed::run_typed;
 use crate::select::lists::{are_of_one_type, lend_all};
 use arrow_arrays::array::AnyArray;
-use arrow_growable::growable::make_growable;
+use arrow_growable::growable::{AnyGrowable, make_growable};
 use arrow_text::call::{Call, read_arrays};
 use arrow_text::fault::Fault;
 use arrow_text::piece::Piece;
@@ -92,5 +92,17 @@ fn run_any(alloc: Global, arrays: &[&AnyArray], plan: &Plan, out: &mut String) -
         return Err(Fault::Usage);
     }
     let mut growable = make_growable(alloc, arrays, plan.use_validity, plan.capacity)?;
-    run_actions(&mut growable, arrays, plan, out)
+    match &mut growable {
+        AnyGrowable::Null(growable) => run_actions(growable, arrays, plan, out),
+        AnyGrowable::Boolean(growable) => run_actions(growable, arrays, plan, out),
+        AnyGrowable::Primitive(growable) => run_actions(growable, arrays, plan, out),
+        AnyGrowable::Utf8(growable) => run_actions(growable, arrays, plan, out),
+        AnyGrowable::LargeUtf8(growable) => run_actions(growable, arrays, plan, out),
+        AnyGrowable::Binary(growable) => run_actions(growable, arrays, plan, out),
+        AnyGrowable::LargeBinary(growable) => run_actions(growable, arrays, plan, out),
+        AnyGrowable::FixedSizeBinary(growable) => run_actions(growable, arrays, plan, out),
+        AnyGrowable::Nested(growable) => run_actions(growable, arrays, plan, out),
+        AnyGrowable::Dictionary(growable) => run_actions(growable, arrays, plan, out),
+        AnyGrowable::Union(growable) => run_actions(growable, arrays, plan, out),
+    }
 }
