@@ -33,3 +33,7 @@ bits_of_word xs word n is long =
     (λ k d within.
     let below : k < n = omega (arith, within, size) in
     get_or-map-range_with_len (λ k. bit_at word k == 1) 0 n k k d below (omega arith) ∙ (ap (λ w. bit_at w k == 1) is ∙ (bit_of-word_of xs k ∙ get_or_default xs k false d (omega (arith, below, long)))))
+
+-- a word that was made of so few bits is that of its lowest ones
+pub own_bits : (xs : List Bool) (word n : ℕ) → word ≡ word_of xs → length xs ≡ n → word ≡ word_of (low_bits word n)
+own_bits xs word n is long = is ∙ ap word_of (sym (bits_of_word xs word n is long))

@@ -1,5 +1,5 @@
 -- Runs of equal bits: in a word, and over words.
-use Rattle.std.proofs.Common.{◌≡◌, ℕ, zero, suc, ◌+◌, ◌-◌, ◌/◌, ◌^◌, ◌<◌, ◌≤◌, min, w64, Bool, true, false, not, List, [], ◌∷◌, length, get_or, drop, replicate, ◌++◌, ap, sym, ◌∙◌, arith, inl, inr}
+use Rattle.std.proofs.Common.{◌≡◌, ℕ, zero, suc, ◌+◌, ◌-◌, ◌*◌, ◌/◌, ◌^◌, ◌<◌, ◌≤◌, min, w64, Bool, true, false, not, List, [], ◌∷◌, length, get_or, drop, replicate, ◌++◌, ap, sym, ◌∙◌, arith, inl, inr}
 use Rattle.std.specs.Prelude.{◌==◌, nat_eq, slice_get, Some}
 use Rattle.std.specs.Int.{bit_at, bit_not, trailing_zeros}
 use Rattle.std.specs.Int.Count.{trailing_of_zero}
@@ -7,8 +7,13 @@ use Rattle.std.proofs.lemmas.Bool.{cases_lt}
 use Rattle.std.proofs.lemmas.List.{length-replicate, ext_get_or, get_or-take, get_or-drop, get_or-replicate, length-take, length-drop}
 use Rattle.std.proofs.lemmas.Nat.Bits.{bit_at_not, bit_at-zero, bit_at-trailing_zeros, bit_at-lt}
 use Rattle.std.proofs.lemmas.Option.{slice_get-get_or}
+use Rattle.std.specs.List.{flat_map}
+use Rattle.std.proofs.lemmas.List.Concat.{flat_map-cons}
+use Rattle.std.proofs.lemmas.Grind.{flat_map-append}
+use Rattle.std.proofs.Math.Nat.{add-mul, mul-le-mul_right}
+use Rattle.std.proofs.lemmas.List.{replicate-append-replicate}
 use Rattle.arrow_memory.specs.Sliced.{sliced}
-use Rattle.arrow_memory.specs.Words.{is_set, bits_in, word_of, IsLowRun}
+use Rattle.arrow_memory.specs.Words.{is_set, bits_in, word_of, IsWordAt, IsLowRun}
 use Rattle.arrow_memory.proofs.AppendLemmas.{bit_at-shr}
 use Rattle.arrow_memory.proofs.BitmapLemmas.{bit_of-word_of}
 use Rattle.arrow_memory.proofs.WordLemmas.{length-bits_in, get_or-bits_in, bits_in-add}
@@ -130,34 +135,30 @@ bits_set words start place bit order alike =
     let below : i < place - start = omega arith in
     get_or-bits_in words start (place - start) i false below ∙ (alike (start + i) (omega arith) (omega arith) ∙ sym (get_or-replicate (place - start) i bit false below)))
 
--- a bit of the word at a place
-set_there : (words : List ℕ) (place count k : ℕ) → k < count → (bit_at (word_of (bits_in words place count)) k == 1) ≡ is_set words (place + k)
-set_there words place count k below =
-    bit_of-word_of (bits_in words place count) k ∙ get_or-bits_in words place count k false below
-
 -- as many more as the word at the place begins with
-pub set_more : (words : List ℕ) (start place count n word : ℕ) (bit : Bool) → AreSet words start place bit → word ≡ word_of (bits_in words place count) → IsLowRun word count bit n → AreSet words start (place + n) bit
+pub set_more : (words : List ℕ) (start place count n word : ℕ) (bit : Bool) → AreSet words start place bit → IsWordAt words place count word → IsLowRun word count bit n → AreSet words start (place + n) bit
 set_more words start place count n word bit alike is run i from below =
     elim (cases_lt i place) as (λ _. is_set words i ≡ bit) [
       | inl before ↦ alike i from before
       | inr after ↦
           let at : place + (i - place) ≡ i = omega arith in
           let in_run : i - place < n = omega arith in
-          let there = set_there words place count (i - place) (omega (arith, run.within)) in
-          ap (λ k. is_set words k) (sym at) ∙ (sym there ∙ (ap (λ w. nat_eq (bit_at w (i - place)) 1) (sym is) ∙ run.alike (i - place) in_run))
+          ap (λ k. is_set words k) (sym at) ∙ (sym (is (i - place) (omega (arith, run.within))) ∙ run.alike (i - place) in_run)
     ]
 
 -- the bit behind them
-pub set_ends : (words : List ℕ) (place count n word : ℕ) (bit : Bool) → word ≡ word_of (bits_in words place count) → IsLowRun word count bit n → n < count → is_set words (place + n) ≡ not bit
-set_ends words place count n word bit is run short =
-    sym (set_there words place count n short) ∙ (ap (λ w. nat_eq (bit_at w n) 1) (sym is) ∙ run.ends short)
+pub set_ends : (words : List ℕ) (place count n word : ℕ) (bit : Bool) → IsWordAt words place count word → IsLowRun word count bit n → n < count → is_set words (place + n) ≡ not bit
+set_ends words place count n word bit is run short = sym (is n short) ∙ run.ends short
 
 -- the bits of a word behind its first n ones
-module _ (words : List ℕ) (place count n m word : ℕ) (bit : Bool) (is : word ≡ word_of (bits_in words place count)) (run : IsLowRun (word / 2 ^ n) (count - n) bit m) where
-  behind : (k : ℕ) → n + k < count → (bit_at (word / 2 ^ n) k == 1) ≡ is_set words (place + n + k)
-  behind k below =
-      let at : place + (n + k) ≡ place + n + k = omega arith in
-      ap (λ b. nat_eq b 1) (bit_at-shr word n k) ∙ (ap (λ w. nat_eq (bit_at w (n + k)) 1) is ∙ (set_there words place count (n + k) below ∙ ap (is_set words) at))
+pub word_behind : (words : List ℕ) (place count n word : ℕ) → IsWordAt words place count word → IsWordAt words (place + n) (count - n) (word / 2 ^ n)
+word_behind words place count n word is k below =
+    let at : place + (n + k) ≡ place + n + k = omega arith in
+    ap (λ b. nat_eq b 1) (bit_at-shr word n k) ∙ (is (n + k) (omega (arith, below)) ∙ ap (is_set words) at)
+
+module _ (words : List ℕ) (place count n m word : ℕ) (bit : Bool) (is : IsWordAt words place count word) (run : IsLowRun (word / 2 ^ n) (count - n) bit m) where
+  behind : IsWordAt words (place + n) (count - n) (word / 2 ^ n)
+  behind = word_behind words place count n word is
 
   pub set_behind : AreSet words (place + n) (place + n + m) bit
   set_behind i from below =
@@ -166,7 +167,7 @@ module _ (words : List ℕ) (place count n m word : ℕ) (bit : Bool) (is : word
       ap (is_set words) (sym at) ∙ (sym (behind k (omega (arith, run.within))) ∙ run.alike k (omega arith))
 
   pub set_behind_ends : n + m < count → is_set words (place + n + m) ≡ not bit
-  set_behind_ends short = sym (behind m short) ∙ run.ends (omega arith)
+  set_behind_ends short = sym (behind m (omega (arith, short))) ∙ run.ends (omega arith)
 
 -- the bits that are left, cut in a run of bits that are not set, one of set bits, and the rest
 pub cut_twice : (words : List ℕ) (start set next end : ℕ) → start ≤ set → set ≤ next → next ≤ end → bits_in words start (set - start) ≡ replicate (set - start) false → bits_in words set (next - set) ≡ replicate (next - set) true → bits_in words start (end - start) ≡ replicate (set - start) false ++ (replicate (next - set) true ++ bits_in words next (end - next))
@@ -195,3 +196,30 @@ not_first words next end longest first =
           cc (read, here, first)
       | inr after ↦ none_there (bits_in words next (end - next)) (omega arith) first
     ]
+
+-- ---- bits that are repeated
+
+-- a run of equal bits, each repeated
+repeated_run : (t n : ℕ) (bit : Bool) → flat_map (replicate t) (replicate n bit) ≡ replicate (n * t) bit
+repeated_run t zero bit =
+    let none : 0 ≡ zero * t = omega arith in
+    ap (λ k. replicate k bit) none
+repeated_run t (suc n) bit =
+    let one : 1 + n ≡ suc n = omega arith in
+    let sum : t + n * t ≡ (1 + n) * t = omega (arith, add-mul 1 n t) in
+    let more = sum ∙ ap (λ k. k * t) one in
+    flat_map-cons (replicate t) bit (replicate n bit) ∙ (ap (λ xs. replicate t bit ++ xs) (repeated_run t n bit) ∙ (replicate-append-replicate t (n * t) bit ∙ ap (λ k. replicate k bit) more))
+
+-- two runs and what is left behind them
+pub repeated_runs : (t unset set : ℕ) (bits left : List Bool) → bits ≡ replicate unset false ++ (replicate set true ++ left) → flat_map (replicate t) bits ≡ replicate (unset * t) false ++ (replicate (set * t) true ++ flat_map (replicate t) left)
+repeated_runs t unset set bits left is =
+    let front = repeated_run t unset false in
+    let back = repeated_run t set true in
+    ap (flat_map (replicate t)) is ∙ (flat_map-append (replicate t) (replicate unset false) (replicate set true ++ left) ∙ (λ j. front j ++ (flat_map-append (replicate t) (replicate set true) left ∙ ap (λ xs. xs ++ flat_map (replicate t) left) back) j))
+
+-- and how many they are
+pub repeated_count : (t done unset set left len : ℕ) → done + unset + set + left ≡ len → done * t + unset * t + set * t ≤ len * t
+repeated_count t done unset set left len all =
+    let within : done + unset + set ≤ len = omega (arith, all) in
+    let most = mul-le-mul_right t within in
+    omega (arith, add-mul (done + unset) set t, add-mul done unset t, most)

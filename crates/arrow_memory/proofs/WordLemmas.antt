@@ -1,5 +1,7 @@
 -- Bits as they lie in words.
 use Rattle.std.proofs.Common.{◌≡◌, ℕ, zero, suc, ◌+◌, ◌-◌, ◌*◌, ◌/◌, ◌%◌, ◌^◌, ◌<◌, ◌≤◌, Bool, true, false, cond, List, [], ◌∷◌, ◌++◌, length, map, get_or, take, drop, refl, ap, sym, ◌∙◌, arith, lit<, slice_index, Fits, w64, zero-add, add-zero}
+use mathlib.Core.Logic.{dite}
+use Rattle.std.proofs.Math.Decide.{dec_le}
 use Rattle.std.specs.Prelude.{◌==◌, count_ones, bit_or}
 use Rattle.std.specs.Int.{bit_at, from_bool}
 use Rattle.std.specs.List.{range_with_len}
@@ -7,7 +9,7 @@ use Rattle.std.proofs.lemmas.Bool.Decides.{nat_tests}
 use Rattle.std.proofs.lemmas.List.{same_lists, length-take, length-drop, get_or-take, get_or-drop, map-id, map-append}
 use Rattle.std.proofs.lemmas.List.Sums.{count_by-le-length, sum_by-append}
 use Rattle.std.proofs.lemmas.List.FromFn.{length-map-range_with_len, get_or-map-range_with_len}
-use Rattle.std.proofs.lemmas.Nat.{shr-shr, shr_le, shl-shr, mod-pow-add, mod_below, field_of, pow_pos, or_shifted, or_comm, mul-mod_first}
+use Rattle.std.proofs.lemmas.Nat.{shr-shr, shr_le, shl-shr, mod-pow-add, mod_below, field_of, pow_pos, or_shifted, or_comm, mul-mod_first, pow-add}
 use Rattle.std.proofs.Math.Nat.{pow-le-pow_right, pow-suc, mul-mod_left, mod-eq_of_lt, add-mul-mod_self_left, mul_assoc, mul_comm}
 use Rattle.std.proofs.lemmas.Nat.Bits.{bit_at-lt}
 use Rattle.std.proofs.lemmas.Simd.{ones-mask_l, mask_l-lt}
@@ -251,6 +253,26 @@ word_of-low words place n h =
 -- the first of the 64 bits that are read
 pub word_of-first : (words : List ℕ) (place count word : ℕ) → count ≤ 64 → word ≡ word_of (bits_in words place 64) → word_of (low_bits word count) ≡ word_of (bits_in words place count)
 word_of-first words place count word within read = word_of-low_bits word count ∙ rw read (word_of-low words place count within)
+
+-- the bits from a place on, of the word in which they begin and that in which they end
+pub word_of-ends : (words : List ℕ) (place count high : ℕ) → slice_index words (place / 64) < 2 ^ 64 → count ≤ 64 → (64 < place % 64 + count → high ≡ slice_index words (place / 64 + 1)) → bit_or (slice_index words (place / 64) / 2 ^ (place % 64)) (high * 2 ^ (64 - place % 64) % 2 ^ 64) % 2 ^ count ≡ word_of (bits_in words place count)
+word_of-ends words place count high small in_word next =
+    let j = place % 64 in
+    let low = slice_index words (place / 64) in
+    dite (dec_le (j + count) 64)
+    (λ within.
+    let k = 64 - j in
+    let width : j + k ≡ 64 = omega arith in
+    let rest : count + (k - count) ≡ k = omega (arith, within) in
+    let power : 2 ^ k ≡ 2 ^ count * 2 ^ (k - count) = ap (λ n. 2 ^ n) (sym rest) ∙ pow-add 2 count (k - count) in
+    let below : low < 2 ^ (j + k) = rw width small in
+    let down = shifted_down low j k below in
+    let both = across_words low high 64 j k width small in
+    let sum : low / 2 ^ j % 2 ^ k + 2 ^ k * (high % 2 ^ j) ≡ low / 2 ^ j + 2 ^ count * (2 ^ (k - count) * (high % 2 ^ j)) = (λ i. sym down i + power i * (high % 2 ^ j)) ∙ ap (λ n. low / 2 ^ j + n) (mul_assoc (2 ^ count) (2 ^ (k - count)) (high % 2 ^ j)) in
+    ap (λ n. n % 2 ^ count) (both ∙ sum) ∙ (add-mul-mod_self_left (low / 2 ^ j) (2 ^ count) (2 ^ (k - count) * (high % 2 ^ j)) ∙ sym (word_of-bits_in words place count within)))
+    (λ more.
+    let over : 64 < j + count = omega (arith, more) in
+    ap (λ h. bit_or (low / 2 ^ j) (h * 2 ^ (64 - j) % 2 ^ 64) % 2 ^ count) (next over) ∙ (ap (λ n. n % 2 ^ count) (word_of-across words place small) ∙ word_of-low words place count in_word))
 
 -- for the tactics of the methods of `Bitmap`
 pub ruleset bit_lengths = (length-bits_in)

@@ -42,6 +42,17 @@ AppendsWord old new place word count =
 abbrev pub AppendsBits : List ℕ → List ℕ → ℕ → List Bool → Type 0
 AppendsBits old new place ys = (xs : List Bool) → Reads old xs → length xs ≡ place → Reads new (xs ++ ys)
 
+-- the `count` lowest bits of a word are those of the words from a place on
+abbrev pub IsWordAt : List ℕ → ℕ → ℕ → ℕ → Type 0
+IsWordAt words place count word = (k : ℕ) → k < count → (bit_at word k == 1) ≡ is_set words (place + k)
+
+-- the words have bits that are left, of which the first `count` are those of a word
+pub record AreRuns (words : List ℕ) (place left word count : ℕ) : Type 0 where
+  pub holds : Holds words place left
+  pub in_word : count ≤ 64
+  pub within : count ≤ left
+  pub bits : IsWordAt words place count word
+
 -- of the `count` lowest bits of a word the first n are equal to a bit, and the next one, if there is one, is not
 pub record IsLowRun (word count : ℕ) (bit : Bool) (n : ℕ) : Type 0 where
   pub within : n ≤ count

@@ -87,15 +87,29 @@ pub(crate) fn low_run(word: u64, count: usize, bit: bool) -> usize
     count.min(others.trailing_zeros() as usize)
 }
 
-// The first `count` bits from a place on as a word, with zeros above.
+// The first `count` bits from a place on as a word, with zeros above. Where they begin and where they end is read, and no branch
+// depends on the place.
+#[inline(always)]
 pub(crate) fn bits_from(words: &[u64], place: usize, count: usize) -> u64
-    requires { count ≤ 64 }
+    requires in_word { count ≤ 64 }
+    requires within { place + count ≤ 64 * length words.now }
+    requires fits { place + count < 2 ^ 64 }
     ensures { result ≡ word_of (bits_in words.now place count) }
 {
-    low_word(word_from(words, place), count)
+    if count == 0 {
+        return 0;
+    }
+    let last = place + count - 1;
+    let both = across(
+        words[place / WORD_BITS],
+        words[last / WORD_BITS],
+        place % WORD_BITS,
+    );
+    low_word(both, count)
 }
 
 // The lowest `count` bits of a word, with zeros above.
+#[inline(always)]
 pub(crate) fn low_word(word: u64, count: usize) -> u64
     requires { count ≤ 64 }
     ensures { result ≡ word_of (low_bits word count) }
@@ -108,6 +122,7 @@ pub(crate) fn low_word(word: u64, count: usize) -> u64
 }
 
 // The 64 bits across two words, from bit `shift` of the low one on.
+#[inline(always)]
 pub(crate) fn across(low: u64, high: u64, shift: usize) -> u64
     requires { shift < 64 }
     ensures { result ≡ bit_or (low / 2 ^ shift) (high * 2 ^ (64 - shift) % 2 ^ 64) }
@@ -148,6 +163,18 @@ pub(crate) fn append_word(words: &mut Vec<u64>, place: usize, word: u64, count: 
     if words.len() < (place + count).div_ceil(WORD_BITS) {
         words.push_reserved(word >> ((WORD_BITS - used) % WORD_BITS));
     }
+}
+
+// The same of bits for which the last word has room.
+#[inline(always)]
+pub(crate) fn fill_last(words: &mut Vec<u64>, place: usize, word: u64, count: usize)
+    requires full { length words.old.items ≡ div_ceil place 64 }
+    requires some { 0 < count }
+    requires room { count ≤ (64 - place % 64) % 64 }
+    ensures full { length words.new.items ≡ div_ceil (place + count) 64 }
+    ensures appended { AppendsWord words.old.items words.new.items place word count }
+{
+    words[place / WORD_BITS] |= word << (place % WORD_BITS);
 }
 
 // Puts `count` words of the bits from place `from` of others behind those that are there, with zeros past the

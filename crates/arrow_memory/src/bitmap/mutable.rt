@@ -1,15 +1,15 @@
 //! Bitmaps under construction.
 
-ghost use Rattle.std.specs.Prelude.{◌≡◌, ◌+◌, ◌^◌, ◌≤◌, ◌↔◌, [], ◌∷◌, ◌++◌, length, replicate, Err, IsTrue, IfOk, IfErr, OnOk, OnErr, IsOkUnless};
+ghost use Rattle.std.specs.Prelude.{◌≡◌, ◌+◌, ◌^◌, ◌<◌, ◌≤◌, ◌↔◌, [], ◌∷◌, ◌++◌, length, replicate, Err, IsTrue, IfOk, IfErr, OnOk, OnErr, IsOkUnless};
 ghost use Rattle.std.specs.Int.{div_ceil};
 ghost use Rattle.std.specs.Vec.{vec_capacity};
 ghost use Rattle.arrow_types.specs.declared.error.Error.{Error};
 ghost use Rattle.arrow_memory.specs.Grown.{IsGrowthError};
 ghost use Rattle.arrow_memory.specs.Sliced.{sliced};
-ghost use Rattle.arrow_memory.specs.Words.{low_bits};
+ghost use Rattle.arrow_memory.specs.Words.{low_bits, word_of, AppendsWord};
 
 use crate::bitmap::Bitmap;
-use crate::words::{WORD_BITS, append_equal, append_word, equal_bits, low_word};
+use crate::words::{WORD_BITS, append_equal, append_word, equal_bits, fill_last, low_word};
 use arrow_types::error::Error;
 use std::alloc::Global;
 use std::marker::Model;
@@ -100,7 +100,7 @@ impl MutableBitmap {
         ensures err { OnErr result (self.new ≡ self.old) }
     {
         if additional <= WORD_BITS {
-            return self.push_word(equal_bits(additional, bit), additional);
+            return self.push_low(equal_bits(additional, bit), additional);
         }
         let total = reserve(&mut self.words, self.len, additional)?;
         append_equal(&mut self.words, self.len, additional, bit);
@@ -128,7 +128,7 @@ impl MutableBitmap {
         ensures err { OnErr result (self.new ≡ self.old) }
     {
         if len <= WORD_BITS {
-            return self.push_word(bitmap.bits_from(start, len), len);
+            return self.push_low(bitmap.bits_from(start, len), len);
         }
         let total = reserve(&mut self.words, self.len, len)?;
         bitmap.append_to(&mut self.words, self.len, start, len);
@@ -151,11 +151,23 @@ impl MutableBitmap {
         ensures others { IfErr result IsGrowthError }
         ensures err { OnErr result (self.new ≡ self.old) }
     {
+        self.push_low(low_word(word, len), len)
+    }
+
+    // The same of a word that has no other bits set.
+    #[inline(always)]
+    fn push_low(&mut self, word: u64, len: usize) -> Result<(), Error>
+        requires in_word { len ≤ 64 }
+        requires low { word ≡ word_of (low_bits word len) }
+        ensures ok { OnOk result (self.new ≡ self.old ++ low_bits word len) }
+        ensures overflow { (result ≡ Err Error.Overflow) ↔ (2 ^ 64 ≤ length self.old + len) }
+        ensures others { IfErr result IsGrowthError }
+        ensures err { OnErr result (self.new ≡ self.old) }
+    {
         let Some(total) = self.len.checked_add(len) else {
             return Err(Error::Overflow);
         };
-        reserve_word(&mut self.words, total)?;
-        append_word(&mut self.words, self.len, low_word(word, len), len);
+        append_low(&mut self.words, self.len, word, len)?;
         self.len = total;
         Ok(())
     }
@@ -187,6 +199,27 @@ fn reserve(words: &mut Vec<u64>, len: usize, more: usize) -> Result<usize, Error
     };
     words.reserve(total.div_ceil(WORD_BITS) - words.len())?;
     Ok(total)
+}
+
+// Puts the `count` bits of a word behind the first `place` ones: into the last word, where it has room for them.
+#[inline(always)]
+fn append_low(words: &mut Vec<u64>, place: usize, word: u64, count: usize) -> Result<(), Error>
+    requires full { length words.old.items ≡ div_ceil place 64 }
+    requires in_word { count ≤ 64 }
+    requires fits { place + count < 2 ^ 64 }
+    ensures full { OnOk result (length words.new.items ≡ div_ceil (place + count) 64) }
+    ensures appended { OnOk result (AppendsWord words.old.items words.new.items place word count) }
+    ensures err { IsOkUnless result Error.OutOfMemory }
+    ensures unchanged { OnErr result (words.new.items ≡ words.old.items) }
+{
+    let room = (WORD_BITS - place % WORD_BITS) % WORD_BITS;
+    if 0 < count && count <= room {
+        fill_last(words, place, word, count);
+    } else {
+        reserve_word(words, place + count)?;
+        append_word(words, place, word, count);
+    }
+    Ok(())
 }
 
 // Makes room for one word more, where so many bits need it.

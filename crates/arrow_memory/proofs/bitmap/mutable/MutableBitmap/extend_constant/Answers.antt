@@ -3,7 +3,7 @@ use Rattle.std.specs.Int.{div_ceil}
 use Rattle.std.specs.Prelude.{OnOk}
 use Rattle.std.proofs.lemmas.List.{length-replicate}
 use Rattle.arrow_memory.specs.Words.{bits_in, IsPadded, AppendsBits}
-use Rattle.arrow_memory.proofs.BitLemmas.{bits_of_word}
+use Rattle.arrow_memory.proofs.BitLemmas.{bits_of_word, own_bits}
 use Rattle.arrow_memory.proofs.MutableLemmas.{done}
 use Rattle.arrow_memory.proofs.bitmap.mutable.MutableBitmap.extend_constant.Goals as goal
 
@@ -23,4 +23,8 @@ returns-clause-ok c = (stored c).1 ∙ ap (λ bits. bits ++ (replicate c.args.ad
 
 pub returns-then-additional-le-WORD_BITS-clause-ok : goal.returns-then-additional-le-WORD_BITS-clause-ok
 returns-then-additional-le-WORD_BITS-clause-ok c =
-    subst (λ bits. OnOk c.push_word.result (c.push_word.new.self ≡ c.args.self.now ++ bits)) (bits_of_word (replicate c.args.additional c.args.bit) c.equal_bits.result c.args.additional c.equal_bits.ensures (length-replicate c.args.additional c.args.bit)) c.push_word.ensures.ok
+    subst (λ bits. OnOk c.push_low.result (c.push_low.new.self ≡ c.args.self.now ++ bits)) (bits_of_word (replicate c.args.additional c.args.bit) c.equal_bits.result c.args.additional c.equal_bits.ensures (length-replicate c.args.additional c.args.bit)) c.push_low.ensures.ok
+
+pub push_low-requires-clause-low : goal.push_low-requires-clause-low
+push_low-requires-clause-low c =
+    own_bits (replicate c.args.additional c.args.bit) c.equal_bits.result c.args.additional c.equal_bits.ensures (length-replicate c.args.additional c.args.bit)

@@ -3,7 +3,7 @@ use Rattle.std.specs.Int.{div_ceil}
 use Rattle.std.specs.Prelude.{OnOk}
 use Rattle.arrow_memory.specs.Sliced.{sliced}
 use Rattle.arrow_memory.specs.Words.{bits_in, IsPadded, AppendsBits}
-use Rattle.arrow_memory.proofs.BitLemmas.{bits_of_word}
+use Rattle.arrow_memory.proofs.BitLemmas.{bits_of_word, own_bits}
 use Rattle.arrow_memory.proofs.MutableLemmas.{done}
 use Rattle.arrow_memory.proofs.SlicedLemmas.{length-sliced}
 use Rattle.arrow_memory.proofs.bitmap.mutable.MutableBitmap.extend_from_bitmap.Goals as goal
@@ -24,4 +24,8 @@ returns-clause-ok c = (stored c).1 ∙ ap (λ bits. bits ++ (sliced c.args.bitma
 
 pub returns-then-len-le-WORD_BITS-clause-ok : goal.returns-then-len-le-WORD_BITS-clause-ok
 returns-then-len-le-WORD_BITS-clause-ok c =
-    subst (λ bits. OnOk c.push_word.result (c.push_word.new.self ≡ c.args.self.now ++ bits)) (bits_of_word (sliced c.args.bitmap.now c.args.start c.args.len) c.bits_from.result c.args.len c.bits_from.ensures (length-sliced c.args.bitmap.now c.args.start c.args.len c.requires)) c.push_word.ensures.ok
+    subst (λ bits. OnOk c.push_low.result (c.push_low.new.self ≡ c.args.self.now ++ bits)) (bits_of_word (sliced c.args.bitmap.now c.args.start c.args.len) c.bits_from.result c.args.len c.bits_from.ensures (length-sliced c.args.bitmap.now c.args.start c.args.len c.requires)) c.push_low.ensures.ok
+
+pub push_low-requires-clause-low : goal.push_low-requires-clause-low
+push_low-requires-clause-low c =
+    own_bits (sliced c.args.bitmap.now c.args.start c.args.len) c.bits_from.result c.args.len c.bits_from.ensures (length-sliced c.args.bitmap.now c.args.start c.args.len c.requires)
