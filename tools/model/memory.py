@@ -116,6 +116,18 @@ def runs(bits, start, length):
     return " ".join(found) or "none"
 
 
+@call("Bitmap::repeated", "B n n n")
+def repeated(bits, start, length, times):
+    """Each bit of a part so many times."""
+    bits = part(bits, start, length)
+    needs(len(bits) * times < 2**64)
+    if len(bits) * times >= 2**48:
+        raise Refused("OutOfMemory")
+    if len(bits) * times > 10**5:
+        raise Unjudged("memory")
+    return write_bits([bit for bit in bits for _ in range(times)])
+
+
 @call("OffsetsBuffer::start_end", "O n")
 def start_end(offsets, i):
     """Where a row begins and ends."""

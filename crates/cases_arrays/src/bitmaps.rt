@@ -77,6 +77,18 @@ pub(crate) fn new_constant(alloc: Global, call: &Call<'_>, out: &mut String) -> 
     write_made_bits(out, Bitmap::new_constant(alloc, value, call.integer(1)?))
 }
 
+// The bits of a part, each so many times.
+pub(crate) fn repeated(alloc: Global, call: &Call<'_>, out: &mut String) -> Result<(), Fault> {
+    let (start, len) = call.range_of(4, 1)?;
+    let times = call.integer(3)?;
+    let bits = call.bits(alloc, 0)?;
+    check_within(start, len, bits.len())?;
+    if len.checked_mul(times).is_none() {
+        return Err(Fault::Usage);
+    }
+    write_made_bits(out, bits.repeated(alloc, start, len, times))
+}
+
 /// The methods of a bitmap that take a number too.
 #[derive(Clone, Copy)]
 pub(crate) enum OfBitmapAt {
