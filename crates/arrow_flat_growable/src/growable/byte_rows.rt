@@ -519,31 +519,28 @@ fn append_valid_bytes<O: Offset>(
     ensures err { IsOkUnless result Error.OutOfMemory }
 {
     prove!(start < rows.len());
-    let (_, until) = rows.range(start, len);
     let mut left = validity.runs(start, len);
     let end = start + len;
     let mut row = start;
     while row < end {
         let (nulls, count) = left.next_set();
-        append_bytes(bytes, rows, values, row + nulls, count, until)?;
+        append_bytes(bytes, rows, values, row + nulls, count)?;
         row += nulls + count;
     }
     Ok(())
 }
 
-// Appends the bytes of `len` rows from row `start` on, and reads none behind `until`. Where that is refused, all is as
-// before.
+// Appends the bytes of `len` rows from row `start` on. Where that is refused, all is as before. A block may reach behind these
+// rows, up to the end of all bytes: so almost every run is copied as one, which is foreseen before its offsets are read.
 fn append_bytes<O: Offset>(
     bytes: &mut Vec<u8>,
     rows: &OffsetsBuffer<O>,
     values: &[u8],
     start: usize,
     len: usize,
-    until: usize,
 ) -> Result<(), Error>
     requires part { start + len < length rows.now }
     requires within { last_of rows.now ≤ length values.now }
-    requires until { until ≤ length values.now }
     ensures ok { OnOk result (bytes.new.items
         ≡ bytes.old.items ++ sliced values.now (slice_index rows.now start)
         (slice_index rows.now (start + len) - slice_index rows.now start)) }
@@ -554,7 +551,7 @@ fn append_bytes<O: Offset>(
         return Ok(());
     }
     let (first, end) = rows.range(start, len);
-    append_span(bytes, values, first, end, until, BLOCK)
+    append_span(bytes, values, first, end, values.len(), BLOCK)
 }
 
 // The bytes of each array, shared.

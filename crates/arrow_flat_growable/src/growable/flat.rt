@@ -92,7 +92,8 @@ pub trait GrowableValues: Drop {
     /// Appends what is stored of `len` rows of bound array `index` from row `start` on.
     ///
     /// # Requires
-    /// The array's data type is stored so, `start + len` is at most the count of its rows, and there are fewer than 2^64 rows then.
+    /// The array is the one bound under `index`, its data type is stored so, `start + len` is at most the count of its rows, and
+    /// there are fewer than 2^64 rows then.
     fn extend(
         &mut self,
         index: usize,
@@ -109,7 +110,8 @@ pub trait GrowableValues: Drop {
         ensures kind { (t : ArrowType) → are_of self.old t → are_of self.new t }
         ensures bound { KeepsBound (binds self.old) (binds self.new) }
         ensures fits { (t : ArrowType) → are_of self.old t → OnOk result (Fits t (slots self.new)) }
-        ensures overflow { (t : ArrowType) → are_of self.old t → result ≡ Err Error.Overflow → Fits t (slots self.old
+        ensures overflow { (t : ArrowType) → are_of self.old t → result ≡ Err Error.Overflow
+            → Fits t (slots self.old
             ++ stored_slice array.now (bits_of_slice (bits_in array.now) start len) start len) → ⊥ }
         ensures others { IfErr result IsGrowthError };
 
@@ -470,6 +472,8 @@ fn append_nulls<G: GrowableValues>(
 impl<'a, G: GrowableValues> Growable<'a> for FlatGrowable<'a, G> {
     ghost state = { λ g. g };
 
+    // a call, so that one on a growable of any type is a jump to it, and saves registers for no other kind
+    #[inline(never)]
     fn extend(&mut self, index: usize, start: usize, len: usize) -> Result<(), Error> {
         if self.has_failed {
             return Err(Error::Failed);

@@ -17,29 +17,32 @@ const PARTS: usize = 64;
 /// Values that grow by parts of others, their sources. Parts wait until there are some, and are then copied one behind the
 /// other: a processor reads many of them at once, where it waits for few at a time between calls.
 #[derive(Drop)]
-pub struct GrowableParts<T: NativeType> {
+pub struct GrowableParts<T> {
     pub(super) sources: Vec<Buffer<T>>,
     pub(super) values: Vec<T>,
-    pub(super) parts: Vec<Part>,
+    pub(super) parts: Vec<Part<T>>,
 }
 
-/// Values of a source, or so many zeros.
+/// Values of a source, or one value so many times.
 #[derive(Clone, Copy)]
-pub(crate) enum Part {
+pub(crate) enum Part<T> {
     /// So many of the source with a number, from a place on.
     Of(usize, usize, usize),
-    Zeros(usize),
+    Repeated(T, usize),
 }
 
-impl<T: NativeType> Model for GrowableParts<T> {
+impl<T> Model for GrowableParts<T> {
     ghost use Rattle.std.specs.Prelude.{List};
+    ghost use Rattle.std.specs.Coded.{coded_list, coded×};
     ghost use Rattle.std.specs.List.{All};
     ghost use Rattle.arrow_flat_growable.specs.GrownParts.{LiesIn, with_parts};
 
     // the sources, and the values
     ghost Value = { List (List T) × List T };
 
-    ghost view = { λ a. (a.sources.items, with_parts T.zero a.sources.items a.values.items a.parts.items) };
+    ghost coded = { coded× (coded_list (coded_list T.code)) (coded_list T.code) };
+
+    ghost view = { λ a. (a.sources.items, with_parts a.sources.items a.values.items a.parts.items) };
 
     ghost invariant = { λ a. All (LiesIn a.sources.items) a.parts.items };
 }
@@ -109,7 +112,7 @@ impl<T: NativeType> GrowableParts<T> {
         ensures ok { OnOk result (self.new.1 ≡ self.old.1 ++ replicate count T.zero) }
         ensures err { IsOkUnless result Error.OutOfMemory }
     {
-        self.push(Part::Zeros(count))
+        self.push(Part::Repeated(T::default(), count))
     }
 
     /// All of them.
@@ -132,10 +135,10 @@ impl<T: NativeType> GrowableParts<T> {
 
     // Appends a part, once those that wait are copied where there are many.
     #[inline(always)]
-    fn push(&mut self, part: Part) -> Result<(), Error>
+    fn push(&mut self, part: Part<T>) -> Result<(), Error>
         requires { LiesIn self.old.0 part }
         ensures same { self.new.0 ≡ self.old.0 }
-        ensures ok { OnOk result (self.new.1 ≡ self.old.1 ++ part_values T.zero self.old.0 part) }
+        ensures ok { OnOk result (self.new.1 ≡ self.old.1 ++ part_values self.old.0 part) }
         ensures err { IsOkUnless result Error.OutOfMemory }
     {
         self.copy_many()?;
@@ -169,11 +172,11 @@ impl<T: NativeType> GrowableParts<T> {
 pub(super) fn copy_all<T: NativeType>(
     values: &mut Vec<T>,
     sources: &[Buffer<T>],
-    parts: &mut Vec<Part>,
+    parts: &mut Vec<Part<T>>,
 ) -> Result<(), Error>
     requires { All (LiesIn sources.now) parts.old.items }
     ensures ok { OnOk result ((values.new.items
-        ≡ with_parts T.zero sources.now values.old.items parts.old.items)
+        ≡ with_parts sources.now values.old.items parts.old.items)
         × (parts.new.items ≡ [])) }
     ensures unchanged { OnErr result ((values.new.items ≡ values.old.items)
         × (parts.new.items ≡ parts.old.items)) }
@@ -193,11 +196,11 @@ pub(super) fn copy_all<T: NativeType>(
 fn copy_parts<T: NativeType>(
     values: &mut Vec<T>,
     sources: &[Buffer<T>],
-    parts: &[Part],
+    parts: &[Part<T>],
 ) -> Result<(), Error>
     requires { All (LiesIn sources.now) parts.now }
     ensures ok { OnOk result (values.new.items
-        ≡ with_parts T.zero sources.now values.old.items parts.now) }
+        ≡ with_parts sources.now values.old.items parts.now) }
     ensures before { take (length values.old.items) values.new.items ≡ values.old.items }
     ensures err { IsOkUnless result Error.OutOfMemory }
 {
@@ -212,11 +215,11 @@ fn copy_parts<T: NativeType>(
 fn copy_part<T: NativeType>(
     values: &mut Vec<T>,
     sources: &[Buffer<T>],
-    part: Part,
+    part: Part<T>,
 ) -> Result<(), Error>
     requires { LiesIn sources.now part }
     ensures ok { OnOk result (values.new.items
-        ≡ values.old.items ++ part_values T.zero sources.now part) }
+        ≡ values.old.items ++ part_values sources.now part) }
     ensures unchanged { OnErr result (values.new.items ≡ values.old.items) }
     ensures err { IsOkUnless result Error.OutOfMemory }
 {
@@ -224,7 +227,7 @@ fn copy_part<T: NativeType>(
         Part::Of(source, start, len) => {
             append_part(values, sources[source].as_slice(), start, len)
         }
-        Part::Zeros(count) => append_zeros(values, count),
+        Part::Repeated(value, count) => append_repeated(values, value, count),
     }
 }
 
@@ -251,9 +254,9 @@ pub(super) fn append_part<T: Copy>(
     Ok(())
 }
 
-// Appends so many zeros.
-fn append_zeros<T: NativeType>(values: &mut Vec<T>, count: usize) -> Result<(), Error>
-    ensures ok { OnOk result (values.new.items ≡ values.old.items ++ replicate count T.zero) }
+// Appends a value so many times.
+fn append_repeated<T: NativeType>(values: &mut Vec<T>, value: T, count: usize) -> Result<(), Error>
+    ensures ok { OnOk result (values.new.items ≡ values.old.items ++ replicate count value) }
     ensures unchanged { OnErr result (values.new.items ≡ values.old.items) }
     ensures err { IsOkUnless result Error.OutOfMemory }
 {
@@ -261,6 +264,6 @@ fn append_zeros<T: NativeType>(values: &mut Vec<T>, count: usize) -> Result<(), 
     let Some(total) = values.len().checked_add(count) else {
         return Err(Error::OutOfMemory);
     };
-    values.resize(total, T::default())?;
+    values.resize(total, value)?;
     Ok(())
 }
