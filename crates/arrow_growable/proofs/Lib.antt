@@ -4,6 +4,7 @@ pub mod CountLemmas
 pub mod CrowdLemmas
 pub mod DictionaryLemmas
 pub mod EvenLemmas
+pub mod EvenSpreadLemmas
 pub mod FieldColumns
 pub mod FieldLemmas
 pub mod FinishLemmas

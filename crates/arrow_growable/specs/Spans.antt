@@ -57,3 +57,8 @@ AreSpans (Large offsets) = IsOffsets offsets.now
 AreSpans (Map offsets) = IsOffsets offsets.now
 AreSpans (FixedSize size items) = 0 < size
 AreSpans (Fields rows) = Unit {0}
+
+-- those of fixed-size lists: as many items a row, null or not ("Fixed-Size List Layout")
+abbrev pub AreEven : Spans → Type 0
+AreEven (FixedSize size items) = Unit {0}
+AreEven _ = ⊥

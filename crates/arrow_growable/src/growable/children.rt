@@ -1,6 +1,6 @@
 //! Children under construction: each grows by the rows that the rows of an array name of it.
 
-ghost use Rattle.std.specs.Prelude.{◌≡◌, ◌+◌, ◌-◌, ◌<◌, ◌≤◌, Err, length, map, All, IfErr, IfOk, IfSome, IsOkUnless, OnOk, option_copied};
+ghost use Rattle.std.specs.Prelude.{◌≡◌, ◌+◌, ◌-◌, ◌<◌, ◌≤◌, Err, length, map, All, IfErr, IfOk, IfSome, IsOkUnless, IsTrue, OnOk, option_copied};
 ghost use Rattle.arrow_types.specs.declared.error.Error.{Error};
 ghost use Rattle.arrow_types.specs.Slot.{null_slot};
 ghost use Rattle.arrow_memory.specs.Grown.{IsGrowthError};
@@ -8,22 +8,27 @@ ghost use Rattle.arrow_memory.specs.Sliced.{sliced};
 ghost use Rattle.arrow_flat.specs.Parts.{bits_of_slice};
 ghost use Rattle.arrow_arrays.specs.Any.{any_array_rows, any_array_type};
 ghost use Rattle.arrow_flat_growable.specs.Grown.{FitsItself, FitsWith, null_rows_of};
-ghost use Rattle.arrow_growable.specs.AnyGrowable.{grown_of};
+ghost use Rattle.arrow_growable.specs.AnyGrowable.{IsFlat, grown_of};
 ghost use Rattle.arrow_growable.specs.Child.{AreBoundAs, BindsRows, CannotGrow, GrownBy, IsWell, LiesIn, SameBound, SomeCannotGrow, SomeCannotHoldNulls, bound_rows, emptied_of, grown_by, grown_by_nulls, spread};
-ghost use Rattle.arrow_growable.specs.Spans.{AreSpans, span_count, span_nulls, span_place};
+ghost use Rattle.arrow_growable.specs.Spans.{AreEven, AreSpans, span_count, span_nulls, span_place};
 
 use crate::growable::Growable;
 use crate::growable::any::AnyGrowable;
+use crate::growable::fields::extend_flat;
 use crate::growable::spans::Spans;
 use arrow_arrays::array::AnyArray;
 use arrow_memory::bitmap::Bitmap;
 use arrow_types::error::Error;
 use std::alloc::Global;
 
+/// The fewest rows of fixed-size lists whose items are appended under a validity of their own, where some may be null.
+const SOME: usize = 32;
+
 // Appends to each child what `len` rows of bound array `index` name of it, from row `start` on: null slots for
 // those that are null.
 #[cycle(extend)]
 pub(crate) fn extend_children(
+    alloc: Global,
     children: &mut [AnyGrowable],
     rows: &Spans,
     validity: Option<&Bitmap>,
@@ -48,7 +53,7 @@ pub(crate) fn extend_children(
     ensures others { IfErr result IsGrowthError }
 {
     for child in children {
-        extend_child(child, rows, validity, index, start, len)?;
+        extend_child(alloc, child, rows, validity, index, start, len)?;
     }
     Ok(())
 }
@@ -56,6 +61,7 @@ pub(crate) fn extend_children(
 // Appends to a child what `len` rows of bound array `index` name of it, from row `start` on.
 #[cycle(extend)]
 fn extend_child(
+    alloc: Global,
     child: &mut AnyGrowable,
     rows: &Spans,
     validity: Option<&Bitmap>,
@@ -87,9 +93,58 @@ fn extend_child(
             if rows.have_none_beneath(validity, start, len) {
                 return extend_run(child, rows, index, start, len);
             }
+            if go_under(child, rows, len) {
+                return extend_under(alloc, child, rows, validity, index, start, len);
+            }
             extend_runs(child, rows, validity, index, start, len)
         }
     }
+}
+
+// Whether `len` rows, of which some may be null, name rows of a child that are appended under a validity of their own: many
+// fixed-size lists of values that have no children.
+fn go_under(child: &AnyGrowable, rows: &Spans, len: usize) -> bool
+    ensures flat { IsTrue result → IsFlat child.now }
+    ensures even { IsTrue result → AreEven rows.now }
+{
+    len >= SOME && child.is_flat() && rows.are_even()
+}
+
+// Appends to a child without children what `len` rows from row `start` on name, where each row has as many rows of it: all of
+// them under the validity, each bit for as many.
+fn extend_under(
+    alloc: Global,
+    child: &mut AnyGrowable,
+    rows: &Spans,
+    validity: &Bitmap,
+    index: usize,
+    start: usize,
+    len: usize,
+) -> Result<(), Error>
+    requires flat { IsFlat child.old }
+    requires even { AreEven rows.now }
+    requires sound { AreSpans rows.now }
+    requires part { start + len ≤ span_count rows.now }
+    requires covered { start + len ≤ length validity.now }
+    requires bound { BindsRows (grown_of child.old) index (span_place rows.now (span_count rows.now)) }
+    requires well { IsWell (grown_of child.old) }
+    ensures ok { OnOk result (GrownBy (grown_of child.old) (grown_of child.new)
+        (spread (span_nulls rows.now) (null_slot (grown_of child.old).arrow_type)
+        (sliced validity.now start len) (span_place rows.now)
+        (bound_rows (grown_of child.old) index) start)) }
+    ensures kept { SameBound (grown_of child.old) (grown_of child.new) }
+    ensures overflow { result ≡ Err Error.Overflow
+        → CannotGrow (grown_of child.old) index
+        (LiesIn (sliced validity.now start len) (span_place rows.now) start)
+        (spread (span_nulls rows.now) (null_slot (grown_of child.old).arrow_type)
+        (sliced validity.now start len) (span_place rows.now)
+        (bound_rows (grown_of child.old) index) start) }
+    ensures others { IfErr result IsGrowthError }
+{
+    // The rows of the child are as many as a `usize` counts.
+    let (first, _end) = rows.range(start, len);
+    let own = validity.repeated(alloc, start, len, rows.size())?;
+    extend_flat(child, index, first, &own)
 }
 
 // Appends what `len` rows from row `start` on name, a run of null rows and one of valid rows at a time.

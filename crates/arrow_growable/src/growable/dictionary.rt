@@ -279,6 +279,7 @@ impl<'a> Growable<'a> for GrowableDictionary<'a> {
 
     /// The same as of each growable ([`Growable::extend`]), and more: `Ok` only where each key of these rows that is not
     /// null, grown by the values of the arrays before its own, is at most the greatest of its type.
+    #[inline(never)]
     fn extend(&mut self, index: usize, start: usize, len: usize) -> Result<(), Error>
         requires { NamesRows self.old index start len }
         ensures ok { OnOk result (self.new ≡ appended self.old (named_rows self.old index start len)) }

@@ -29,7 +29,7 @@ use arrow_types::error::Error;
 use std::alloc::Global;
 
 /// The fewest rows of which each field is appended by itself.
-const SOME: usize = 32;
+const SOME: usize = 16;
 
 /// The longest that their runs of one field may be, on average.
 const SHORT: usize = 8;
@@ -139,7 +139,7 @@ fn extend_fields(
 
 // Appends to a child without children rows of bound array `index` from row `start` on, a row for each bit of a mask: null
 // where the bit is not set.
-fn extend_flat(
+pub(crate) fn extend_flat(
     child: &mut AnyGrowable,
     index: usize,
     start: usize,

@@ -191,6 +191,7 @@ impl<'a> Growable<'a> for GrowableNested<'a> {
     ghost state = { λ g. g };
 
     #[cycle(extend)]
+    #[inline(never)]
     fn extend(&mut self, index: usize, start: usize, len: usize) -> Result<(), Error> {
         if self.has_failed {
             return Err(Error::Failed);
@@ -206,7 +207,15 @@ impl<'a> Growable<'a> for GrowableNested<'a> {
         let _old = self.spans.null_slots();
         self.validity.extend_from(validity, start, len)?;
         self.spans.extend(&rows, validity, start, len)?;
-        extend_children(&mut self.children, &rows, validity, index, start, len)?;
+        extend_children(
+            self.alloc,
+            &mut self.children,
+            &rows,
+            validity,
+            index,
+            start,
+            len,
+        )?;
         let _new = self.spans.null_slots();
         self.len = total;
         self.has_failed = false;

@@ -8,7 +8,7 @@ ghost use Rattle.arrow_arrays.specs.ListParts.{list_layout};
 ghost use Rattle.arrow_arrays.specs.StructParts.{struct_layout};
 ghost use Rattle.arrow_growable.specs.Child.{NoneBeneath};
 ghost use Rattle.arrow_growable.specs.Lies.{Lies};
-ghost use Rattle.arrow_growable.specs.Spans.{AreSpans, span_count, span_nulls, span_place};
+ghost use Rattle.arrow_growable.specs.Spans.{AreEven, AreSpans, span_count, span_nulls, span_place};
 
 use arrow_arrays::array::{AnyOffsetsBuffer, FixedSizeListArray, ListArray, MapArray, StructArray};
 use arrow_memory::bitmap::Bitmap;
@@ -99,6 +99,27 @@ impl<'a> Spans<'a> {
         match self {
             Spans::Small(_) | Spans::Large(_) | Spans::Map(_) => true,
             Spans::FixedSize(_, _) | Spans::Fields(_) => false,
+        }
+    }
+
+    /// Whether they are those of fixed-size lists.
+    pub(crate) fn are_even(&self) -> bool
+        ensures { IsTrue result → AreEven self.now }
+    {
+        match self {
+            Spans::FixedSize(_, _) => true,
+            _ => false,
+        }
+    }
+
+    /// How many items each fixed-size list has.
+    pub(crate) fn size(&self) -> usize
+        requires { AreEven self.now }
+        ensures { result ≡ span_nulls self.now }
+    {
+        match self {
+            Spans::FixedSize(size, _) => *size,
+            _ => unreachable!(),
         }
     }
 

@@ -206,6 +206,7 @@ impl<'a> Growable<'a> for GrowableUnion<'a> {
     ghost state = { λ g. g };
 
     #[cycle(extend)]
+    #[inline(never)]
     fn extend(&mut self, index: usize, start: usize, len: usize) -> Result<(), Error> {
         if self.has_failed {
             return Err(Error::Failed);

@@ -56,9 +56,13 @@ children::extend_child-returns-in-None-clause-overflow t c overflows =
     let all = spread_all (span_nulls spans) (null_slot g.arrow_type) (span_place spans) (bound_rows g c.args.index) (span_count spans) (rises_in spans g c.args.index c.requires.sound c.requires.bound) c.args.len c.args.start c.requires.part in
     rw c.in-None.is (subst (CannotGrow g c.args.index (LiesIn (bits_of_slice None c.args.start c.args.len) (span_place spans) c.args.start)) (sym all) (names_more g c.args.index _ _ _ (λ j within. lies_in_all c.args.len (span_place spans) c.args.start j within) (c.extend_run.ensures.overflow overflows)))
 
-pub children::extend_child-returns-else-have_none_beneath-clause-overflow : goal.children::extend_child-returns-else-have_none_beneath-clause-overflow
-children::extend_child-returns-else-have_none_beneath-clause-overflow t c overflows =
+pub children::extend_child-returns-else-go_under-clause-overflow : goal.children::extend_child-returns-else-go_under-clause-overflow
+children::extend_child-returns-else-go_under-clause-overflow t c overflows =
     rw c.in-Some.is (c.extend_runs.ensures.overflow overflows)
+
+pub children::extend_child-returns-then-go_under-clause-overflow : goal.children::extend_child-returns-then-go_under-clause-overflow
+children::extend_child-returns-then-go_under-clause-overflow t c overflows =
+    rw c.in-Some.is (c.extend_under.ensures.overflow overflows)
 
 pub children::extend_child-returns-then-have_none_beneath-clause-ok : goal.children::extend_child-returns-then-have_none_beneath-clause-ok
 children::extend_child-returns-then-have_none_beneath-clause-ok t c =
