@@ -83,7 +83,7 @@ enum Other {
 }
 
 /// The calls by their names.
-const CALLS: [(&str, Takes); 70] = [
+const CALLS: [(&str, Takes); 71] = [
     ("AnyArray::clone", Takes::Array(OfArray::Clone)),
     ("AnyArray::data_type", Takes::Array(OfArray::DataType)),
     ("AnyArray::eq", Takes::Other(Other::ArrayEq)),
