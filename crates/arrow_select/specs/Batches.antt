@@ -4,13 +4,27 @@ use Rattle.std.specs.Borrow.{Bor}
 use Rattle.arrow_types.specs.ArrowType.{ArrowType}
 use Rattle.arrow_types.specs.Rows.{chosen, gather, mask_of, select, shifted}
 use Rattle.arrow_types.specs.Slot.{Slot, Number}
-use Rattle.arrow_flat.specs.Parts.{Parts, boolean_rows}
-use Rattle.arrow_flat.specs.RowByRow.{row_by_row}
+use Rattle.arrow_flat.specs.Parts.{Parts, boolean_rows, rows_by}
+use Rattle.arrow_flat.specs.RowByRow.{AreAlikeLong, row_by_row}
+use Rattle.arrow_arrays.specs.declared.array.any.AnyArray.{AnyArray}
+use Rattle.arrow_select.specs.Arrays.{rows_in}
 use Rattle.arrow_take.specs.Taken.{AreIndices}
 
 -- the rows of predicates that are lent
 abbrev pub predicates_in : List (Bor (Parts (List Bool))) → List (List Slot)
 predicates_in = map (λ filter. boolean_rows filter.now)
+
+-- and of indices
+abbrev pub indices_in : {A : Type 0} → (A → Slot) → List (Bor (Parts (List A))) → List (List Slot)
+indices_in slot indices = map (λ is. rows_by (map slot) is.now) indices
+
+-- batches with a predicate each, of as many rows
+abbrev pub HavePredicates : List (Bor AnyArray) → List (Bor (Parts (List Bool))) → Type 0
+HavePredicates batches filters = AreAlikeLong (predicates_in filters) (rows_in batches)
+
+-- the rows that indices name, which come in batches
+abbrev pub gathered_each : List Slot → List (List Slot) → ArrowType → List (List Slot)
+gathered_each xs indices t = map (λ is. gather xs is t) indices
 
 -- of each batch the rows at which its predicate is true
 abbrev pub kept_by_batch : List (List Slot) → List (List Slot) → List (List Slot)

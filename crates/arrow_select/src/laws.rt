@@ -1,17 +1,16 @@
 //! The laws of the kernels: each is the contract of a function over arrays that are handed in, and says of the definitions
 //! that the kernels' contracts cite what a caller may replace by what. None makes an array.
 
-ghost use Rattle.std.specs.Prelude.{◌≡◌, ◌-◌, ◌<◌, ◌≤◌, ◌^◌, Bool, List, [], ◌∷◌, All, length, map};
+ghost use Rattle.std.specs.Prelude.{◌≡◌, ◌<◌, ◌≤◌, ◌^◌, Bool, List, [], ◌∷◌, All, length, map};
 ghost use Rattle.arrow_types.specs.Fits.{Fits};
-ghost use Rattle.arrow_types.specs.Rows.{gather, joined, mask_of, select, shifted};
+ghost use Rattle.arrow_types.specs.Rows.{gather, joined, mask_of};
 ghost use Rattle.arrow_types.specs.TypeOf.{type_of};
-ghost use Rattle.arrow_memory.specs.Sliced.{sliced};
 ghost use Rattle.arrow_flat.specs.Parts.{boolean_rows, rows_by};
-ghost use Rattle.arrow_arrays.specs.Any.{any_array_meaning, any_array_rows, any_array_type};
+ghost use Rattle.arrow_arrays.specs.Any.{any_array_rows, any_array_type};
 ghost use Rattle.arrow_arrays.specs.Layout.{rows, type_of_layout};
 ghost use Rattle.arrow_select.specs.Arrays.{rows_in, types_in};
 ghost use Rattle.arrow_choice.specs.Keys.{HasNoDictionary};
-ghost use Rattle.arrow_select.specs.Laws.{CanTakeByFields, IsChoice, IsStructOrUnion, RowsFit, chosen_of, dense_nulls, dense_rows, gathered_of, kept_columns, kept_of, selected_of, shifted_of, true_places};
+ghost use Rattle.arrow_select.specs.Laws.{CanTakeByFields, HasFitting, IsChoice, IsGathered, IsKept, IsSelected, IsShifted, IsStructOrUnion, MeanSame, RowsFit, chosen_of, cut_at, dense_nulls, dense_rows, gathered_of, kept_columns, kept_of, kept_places, rows_of_both, selected_of, shifted_of};
 ghost use Rattle.arrow_select.specs.Selected.{FirstDoesNotFit};
 ghost use Rattle.arrow_take.specs.Taken.{AreIndices};
 
@@ -27,9 +26,8 @@ use arrow_types::types::Index;
 /// The rows at which a predicate is true are the rows by index of the places where it is.
 pub fn select_is_gather(array: &AnyArray, filter: &BooleanArray)
     requires { length (boolean_rows filter.now) ≡ length (any_array_rows array.now) }
-    ensures { select (mask_of (boolean_rows filter.now)) (any_array_rows array.now)
-        ≡ gather (any_array_rows array.now) (true_places (mask_of (boolean_rows filter.now)))
-        (any_array_type array.now) }
+    ensures { kept_of (boolean_rows filter.now) array.now
+        ≡ gathered_of (kept_places (boolean_rows filter.now)) array.now }
 {}
 
 /// Rows by index of rows by index are the rows by the indices that the second ones name of the first.
@@ -51,10 +49,8 @@ pub fn gather_of_gather<I: Index, J: Index>(
 
 /// It makes no difference which of three arrays are joined first.
 pub fn joined_is_associative(left: &AnyArray, middle: &AnyArray, right: &AnyArray)
-    ensures { joined (joined (any_array_rows left.now ∷ any_array_rows middle.now ∷ [])
-        ∷ any_array_rows right.now ∷ [])
-        ≡ joined (any_array_rows left.now
-        ∷ joined (any_array_rows middle.now ∷ any_array_rows right.now ∷ []) ∷ []) }
+    ensures { joined (rows_of_both left.now middle.now ∷ any_array_rows right.now ∷ [])
+        ≡ joined (any_array_rows left.now ∷ rows_of_both middle.now right.now ∷ []) }
 {}
 
 /// An array that is cut in two and joined has its rows again.
@@ -63,9 +59,7 @@ pub fn joined_is_associative(left: &AnyArray, middle: &AnyArray, right: &AnyArra
 /// It is cut at a row, or behind the last.
 pub fn joined_of_cut(array: &AnyArray, at: usize)
     requires { at ≤ length (any_array_rows array.now) }
-    ensures { joined (sliced (any_array_rows array.now) 0 at
-        ∷ sliced (any_array_rows array.now) at (length (any_array_rows array.now) - at) ∷ [])
-        ≡ any_array_rows array.now }
+    ensures { joined (cut_at at (any_array_rows array.now)) ≡ any_array_rows array.now }
 {}
 
 /// Arrays of the same types and rows are concatenated to the same type and rows.
@@ -85,7 +79,7 @@ pub fn concatenate_goes_by_rows(
     requires all_rows { any_array_rows all.now ≡ joined (rows_in arrays.now) }
     requires other_type { All (λ t. t ≡ any_array_type other_all.now) (types_in others.now) }
     requires other_rows { any_array_rows other_all.now ≡ joined (rows_in others.now) }
-    ensures { any_array_meaning other_all.now ≡ any_array_meaning all.now }
+    ensures { MeanSame other_all.now all.now }
 {}
 
 /// Arrays of the same type and rows are shifted to the same type and rows.
@@ -99,12 +93,10 @@ pub fn shift_goes_by_rows(
     other_moved: &AnyArray,
     offset: i64,
 )
-    requires same { any_array_meaning other.now ≡ any_array_meaning array.now }
-    requires moved { any_array_meaning moved.now
-        ≡ (any_array_type array.now, shifted (any_array_rows array.now) offset (any_array_type array.now)) }
-    requires other_moved { any_array_meaning other_moved.now
-        ≡ (any_array_type other.now, shifted (any_array_rows other.now) offset (any_array_type other.now)) }
-    ensures { any_array_meaning other_moved.now ≡ any_array_meaning moved.now }
+    requires same { MeanSame other.now array.now }
+    requires moved { IsShifted offset array.now moved.now }
+    requires other_moved { IsShifted offset other.now other_moved.now }
+    ensures { MeanSame other_moved.now moved.now }
 {}
 
 /// Arrays of the same type and rows are filtered to the same type and rows by predicates of the same rows.
@@ -119,21 +111,11 @@ pub fn filter_goes_by_rows(
     other_filter: &BooleanArray,
     other_kept: &AnyArray,
 )
-    requires same { any_array_meaning other.now ≡ any_array_meaning array.now }
+    requires same { MeanSame other.now array.now }
     requires filters { boolean_rows other_filter.now ≡ boolean_rows filter.now }
-    requires kept { any_array_meaning kept.now
-        ≡ (
-          any_array_type array.now,
-          select (mask_of (boolean_rows filter.now))
-              (any_array_rows array.now),
-        ) }
-    requires other_kept { any_array_meaning other_kept.now
-        ≡ (
-          any_array_type other.now,
-          select (mask_of (boolean_rows other_filter.now))
-              (any_array_rows other.now),
-        ) }
-    ensures { any_array_meaning other_kept.now ≡ any_array_meaning kept.now }
+    requires kept { IsKept (boolean_rows filter.now) array.now kept.now }
+    requires other_kept { IsKept (boolean_rows other_filter.now) other.now other_kept.now }
+    ensures { MeanSame other_kept.now kept.now }
 {}
 
 /// Arrays of the same type and rows give the same type and rows by indices of the same rows, of any widths.
@@ -148,21 +130,11 @@ pub fn take_goes_by_rows<I: Index, J: Index>(
     other_indices: &PrimitiveArray<J>,
     other_taken: &AnyArray,
 )
-    requires same { any_array_meaning other.now ≡ any_array_meaning array.now }
+    requires same { MeanSame other.now array.now }
     requires indices { rows_by (map J.slot) other_indices.now ≡ rows_by (map I.slot) indices.now }
-    requires taken { any_array_meaning taken.now
-        ≡ (
-          any_array_type array.now,
-          gather (any_array_rows array.now) (rows_by (map I.slot) indices.now)
-              (any_array_type array.now),
-        ) }
-    requires other_taken { any_array_meaning other_taken.now
-        ≡ (
-          any_array_type other.now,
-          gather (any_array_rows other.now)
-              (rows_by (map J.slot) other_indices.now) (any_array_type other.now),
-        ) }
-    ensures { any_array_meaning other_taken.now ≡ any_array_meaning taken.now }
+    requires taken { IsGathered (rows_by (map I.slot) indices.now) array.now taken.now }
+    requires other_taken { IsGathered (rows_by (map J.slot) other_indices.now) other.now other_taken.now }
+    ensures { MeanSame other_taken.now taken.now }
 {}
 
 /// Of a carried struct or union `can_take` holds exactly where it holds of the type of each field, and of a type that is not
@@ -188,10 +160,10 @@ pub fn apply_goes_by_rows(
     other_kept: &AnyArray,
 )
     requires filters { other_filter.now ≡ filter.now }
-    requires same { any_array_meaning other.now ≡ any_array_meaning array.now }
-    requires kept { any_array_meaning kept.now ≡ selected_of filter.now array.now }
-    requires other_kept { any_array_meaning other_kept.now ≡ selected_of other_filter.now other.now }
-    ensures { any_array_meaning other_kept.now ≡ any_array_meaning kept.now }
+    requires same { MeanSame other.now array.now }
+    requires kept { IsSelected filter.now array.now kept.now }
+    requires other_kept { IsSelected other_filter.now other.now other_kept.now }
+    ensures { MeanSame other_kept.now kept.now }
 {}
 
 /// Batches of the same types and rows are filtered to the same types and rows by predicates of the same rows.
@@ -232,11 +204,11 @@ pub fn choice_goes_by_rows(
     other_all: &AnyArray,
 )
     requires predicates { boolean_rows other_predicate.now ≡ boolean_rows predicate.now }
-    requires left { any_array_meaning other_lhs.now ≡ any_array_meaning lhs.now }
-    requires right { any_array_meaning other_rhs.now ≡ any_array_meaning rhs.now }
+    requires left { MeanSame other_lhs.now lhs.now }
+    requires right { MeanSame other_rhs.now rhs.now }
     requires all { IsChoice (boolean_rows predicate.now) lhs.now rhs.now all.now }
     requires other { IsChoice (boolean_rows other_predicate.now) other_lhs.now other_rhs.now other_all.now }
-    ensures { any_array_meaning other_all.now ≡ any_array_meaning all.now }
+    ensures { MeanSame other_all.now all.now }
 {}
 
 /// Where `filter` answered `Ok` of one array, it does not answer `Overflow` of another one of the same type and rows, by a
@@ -251,10 +223,10 @@ pub fn filter_fits_alike(
     other: &AnyArray,
     other_filter: &BooleanArray,
 )
-    requires same { any_array_meaning other.now ≡ any_array_meaning array.now }
+    requires same { MeanSame other.now array.now }
     requires filters { boolean_rows other_filter.now ≡ boolean_rows filter.now }
-    requires kept { any_array_meaning kept.now ≡ kept_of (boolean_rows filter.now) array.now }
-    requires fits { RowsFit (any_array_meaning kept.now) }
+    requires kept { IsKept (boolean_rows filter.now) array.now kept.now }
+    requires fits { HasFitting kept.now }
     ensures { RowsFit (kept_of (boolean_rows other_filter.now) other.now) }
 {}
 
@@ -270,9 +242,9 @@ pub fn apply_fits_alike(
     other: &AnyArray,
 )
     requires filters { other_filter.now ≡ filter.now }
-    requires same { any_array_meaning other.now ≡ any_array_meaning array.now }
-    requires kept { any_array_meaning kept.now ≡ selected_of filter.now array.now }
-    requires fits { RowsFit (any_array_meaning kept.now) }
+    requires same { MeanSame other.now array.now }
+    requires kept { IsSelected filter.now array.now kept.now }
+    requires fits { HasFitting kept.now }
     ensures { RowsFit (selected_of other_filter.now other.now) }
 {}
 
@@ -302,9 +274,9 @@ pub fn chunk_fits_alike(
 /// # Requires
 /// The result is what `shift` answers of the first array by the offset, so its rows fit.
 pub fn shift_fits_alike(array: &AnyArray, moved: &AnyArray, other: &AnyArray, offset: i64)
-    requires same { any_array_meaning other.now ≡ any_array_meaning array.now }
-    requires moved { any_array_meaning moved.now ≡ shifted_of offset array.now }
-    requires fits { RowsFit (any_array_meaning moved.now) }
+    requires same { MeanSame other.now array.now }
+    requires moved { IsShifted offset array.now moved.now }
+    requires fits { HasFitting moved.now }
     ensures { RowsFit (shifted_of offset other.now) }
 {}
 
@@ -319,10 +291,10 @@ pub fn take_fits_alike<I: Index, J: Index>(
     other: &AnyArray,
     other_indices: &PrimitiveArray<J>,
 )
-    requires same { any_array_meaning other.now ≡ any_array_meaning array.now }
+    requires same { MeanSame other.now array.now }
     requires indices { rows_by (map J.slot) other_indices.now ≡ rows_by (map I.slot) indices.now }
-    requires taken { any_array_meaning taken.now ≡ gathered_of (rows_by (map I.slot) indices.now) array.now }
-    requires fits { RowsFit (any_array_meaning taken.now) }
+    requires taken { IsGathered (rows_by (map I.slot) indices.now) array.now taken.now }
+    requires fits { HasFitting taken.now }
     ensures { RowsFit (gathered_of (rows_by (map J.slot) other_indices.now) other.now) }
 {}
 
@@ -340,7 +312,7 @@ pub fn concatenate_fits_alike(arrays: &[&AnyArray], all: &AnyArray, others: &[&A
     requires rows { rows_in others.now ≡ rows_in arrays.now }
     requires all_type { All (λ t. t ≡ any_array_type all.now) (types_in arrays.now) }
     requires all_rows { any_array_rows all.now ≡ joined (rows_in arrays.now) }
-    requires fits { RowsFit (any_array_meaning all.now) }
+    requires fits { HasFitting all.now }
     requires no_dictionary { HasNoDictionary (any_array_type all.now) }
     ensures no_dictionary { All HasNoDictionary (types_in others.now) }
     ensures fits { All (λ t. Fits t (joined (rows_in others.now))) (types_in others.now) }
@@ -362,10 +334,10 @@ pub fn choice_fits_alike(
     other_rhs: &AnyArray,
 )
     requires predicates { boolean_rows other_predicate.now ≡ boolean_rows predicate.now }
-    requires left { any_array_meaning other_lhs.now ≡ any_array_meaning lhs.now }
-    requires right { any_array_meaning other_rhs.now ≡ any_array_meaning rhs.now }
+    requires left { MeanSame other_lhs.now lhs.now }
+    requires right { MeanSame other_rhs.now rhs.now }
     requires all { IsChoice (boolean_rows predicate.now) lhs.now rhs.now all.now }
-    requires fits { RowsFit (any_array_meaning all.now) }
+    requires fits { HasFitting all.now }
     requires no_dictionary { HasNoDictionary (any_array_type all.now) }
     ensures no_dictionary { HasNoDictionary (any_array_type other_lhs.now) }
     ensures fits { RowsFit (chosen_of (boolean_rows other_predicate.now) other_lhs.now other_rhs.now) }
@@ -377,7 +349,7 @@ pub fn choice_fits_alike(
 /// # Requires
 /// The rows of the array fit its type.
 pub fn kept_rows_fit(array: &AnyArray)
-    requires { RowsFit (any_array_meaning array.now) }
+    requires { HasFitting array.now }
     ensures { (mask : List Bool) → RowsFit (selected_of mask array.now) }
 {}
 

@@ -15,6 +15,7 @@ use Rattle.arrow_arrays.specs.Any.{any_array_type, any_array_rows}
 use Rattle.arrow_arrays.specs.declared.array.any.AnyArray.{AnyArray}
 use Rattle.arrow_arrays.specs.KeyedParts.{AreKeys, IsKey, key_in}
 use Rattle.arrow_arrays.specs.Layout.{Layout}
+use Rattle.arrow_arrays.specs.FixedListParts.{FixedListParts, fixed_list_rows}
 use Rattle.arrow_arrays.specs.ListParts.{ListParts, list_rows}
 use Rattle.arrow_arrays.specs.UnionParts.{UnionParts, union_rows}
 use Rattle.arrow_flat_growable.specs.Grown.{Grown, source_at}
@@ -59,12 +60,15 @@ abbrev pub AnswersTaken : {A : Type 0} → (A → ArrowType) → (A → List Slo
 AnswersTaken type_in rows_in result values indices =
     Answers type_in rows_in result (type_in values) (gather (rows_in values) indices (type_in values))
 
--- of bytes of a fixed size, of maps, and of unions
+-- of bytes of a fixed size, of lists and maps, of fixed-size lists, and of unions
 abbrev pub AnswersFixedRows : Result (Parts FixedParts) Error → Parts FixedParts → List Slot → Type 0
 AnswersFixedRows = AnswersTaken (λ array. array.arrow_type) (rows_by fixed_slots)
 
-abbrev pub AnswersMaps : Result ListParts Error → ListParts → List Slot → Type 0
-AnswersMaps = AnswersTaken (λ array. array.arrow_type) list_rows
+abbrev pub AnswersLists : Result ListParts Error → ListParts → List Slot → Type 0
+AnswersLists = AnswersTaken (λ array. array.arrow_type) list_rows
+
+abbrev pub AnswersFixedLists : Result FixedListParts Error → FixedListParts → List Slot → Type 0
+AnswersFixedLists = AnswersTaken (λ array. array.arrow_type) fixed_list_rows
 
 abbrev pub AnswersUnions : Result UnionParts Error → UnionParts → List Slot → Type 0
 AnswersUnions = AnswersTaken (λ array. array.arrow_type) union_rows

@@ -32,6 +32,7 @@ pub use Rattle.arrow_flat.specs.Parts
 pub use Rattle.arrow_flat.specs.Pieces
 pub use Rattle.arrow_flat.specs.RowByRow
 pub use Rattle.arrow_flat.specs.Scalars
+pub use Rattle.arrow_arrays.specs.declared.array.any as AnyArrays
 pub use Rattle.arrow_arrays.specs.Any
 pub use Rattle.arrow_arrays.specs.AnyKeys
 pub use Rattle.arrow_arrays.specs.AnyOffsetsBuffer

@@ -1,13 +1,13 @@
 //! Rows of a batch: by a condition on one column, and by their places.
 
-ghost use Rattle.std.specs.Prelude.{◌≡◌, ◌↔◌, Err, length, map, IfOk};
+ghost use Rattle.std.specs.Prelude.{◌≡◌, ◌↔◌, map, IfOk};
 ghost use Rattle.gevaindy.specs.Errors.ArgumentFault.{ArgumentFault};
-ghost use Rattle.gevaindy.specs.Errors.Error.{Error};
-ghost use Rattle.gevaindy.specs.Layout.{type_of_layout, rows};
+ghost use Rattle.gevaindy.specs.Layout.{rows};
 ghost use Rattle.gevaindy.specs.KeyedParts.{AreKeys};
 ghost use Rattle.gevaindy.specs.StructParts.{row_count};
 ghost use Rattle.gevaindy.specs.Typed.{uint_rows};
-ghost use Rattle.uses.specs.Batch.{above, column_rows, rows_named, rows_where};
+ghost use Rattle.uses.specs.Refused.{Refuses};
+ghost use Rattle.uses.specs.Batch.{HasTypesOf, above, column_rows, rows_named, rows_where};
 
 use gevaindy::array::{AnyArray, AnyPrimitive, PrimitiveArray, are_within};
 use gevaindy::chunk::Chunk;
@@ -22,7 +22,7 @@ use std::alloc::Global;
 /// # Errors
 /// `Caller(0)` where there is no such column, or it is none of 64-bit integers; then those of `filter_chunk`.
 pub fn rows_above(alloc: Global, batch: &Chunk, column: usize, bound: i64) -> Result<Chunk, Error>
-    ensures types { IfOk result (λ kept. map type_of_layout kept ≡ map type_of_layout batch.now) }
+    ensures types { IfOk result (λ kept. HasTypesOf kept batch.now) }
     ensures rows { IfOk result (λ kept. map rows kept
         ≡ rows_where (above bound (column_rows batch.now column)) batch.now) }
 {
@@ -39,9 +39,9 @@ pub fn rows_above(alloc: Global, batch: &Chunk, column: usize, bound: i64) -> Re
 /// # Errors
 /// `Lengths` exactly where a place is not that of a row; then those of `take`.
 pub fn rows_at(alloc: Global, batch: &Chunk, places: &PrimitiveArray<u32>) -> Result<Chunk, Error>
-    ensures types { IfOk result (λ top. map type_of_layout top ≡ map type_of_layout batch.now) }
+    ensures types { IfOk result (λ top. HasTypesOf top batch.now) }
     ensures rows { IfOk result (λ top. map rows top ≡ rows_named (uint_rows places.now) batch.now) }
-    ensures places { (result ≡ Err (Error.InvalidArgumentError ArgumentFault.Lengths))
+    ensures places { Refuses result ArgumentFault.Lengths
         ↔ (AreKeys (row_count batch.now) (uint_rows places.now) → ⊥) }
 {
     if !are_within(places, batch.len()) {

@@ -1,14 +1,11 @@
 //! A column of numbers that is read of texts, as of the fields of a file.
 
 ghost use Rattle.std.specs.Prelude.{◌≡◌, IfOk, IfErr, IsOkUnless};
-ghost use Rattle.std.specs.List.{AllZip};
-ghost use Rattle.gevaindy.specs.DataTypes.IntegerType.TheVariants.{Int32};
 ghost use Rattle.gevaindy.specs.Errors.Error.{Error};
 ghost use Rattle.gevaindy.specs.Any.{any_array_rows};
-ghost use Rattle.gevaindy.specs.ArrowType.{integer, plain};
 ghost use Rattle.gevaindy.specs.Refusals.{IsConcatenateRefusal};
 ghost use Rattle.gevaindy.specs.Typed.{int_rows};
-ghost use Rattle.uses.specs.Texts.{AppendsNumbers, IsRowOf, texts_in};
+ghost use Rattle.uses.specs.Texts.{AppendsNumbers, AreRowsOf, int32, texts_in};
 
 use gevaindy::array::{AnyArray, AnyPrimitive, PrimitiveArray};
 use gevaindy::bitmap::Bitmap;
@@ -23,8 +20,8 @@ use std::alloc::Global;
 /// # Errors
 /// `OutOfMemory` where memory is refused.
 pub fn numbers(alloc: Global, texts: &[&str]) -> Result<PrimitiveArray<i32>, Error>
-    ensures array_type { IfOk result (λ array. array.arrow_type ≡ plain (integer Int32)) }
-    ensures rows { IfOk result (λ array. AllZip IsRowOf (texts_in texts.now) (int_rows array)) }
+    ensures array_type { IfOk result (λ array. array.arrow_type ≡ int32) }
+    ensures rows { IfOk result (λ array. AreRowsOf texts.now (int_rows array)) }
     ensures err { IsOkUnless result Error.OutOfMemory }
 {
     let mut values = Vec::with_capacity(alloc, texts.len())?;

@@ -1,11 +1,11 @@
 //! Whether the rows of a sorted column are distinct.
 
-ghost use Rattle.std.specs.Prelude.{◌≡◌, ◌↔◌, Err, IfOk, IsTrue};
+ghost use Rattle.std.specs.Prelude.{◌↔◌, IfOk, IsTrue};
 ghost use Rattle.gevaindy.specs.Errors.ArgumentFault.{ArgumentFault};
-ghost use Rattle.gevaindy.specs.Errors.Error.{Error};
 ghost use Rattle.gevaindy.specs.Any.{any_array_rows, any_array_type};
 ghost use Rattle.gevaindy.specs.Can.{CanEqual};
 ghost use Rattle.uses.specs.Order.{AreApart};
+ghost use Rattle.uses.specs.Refused.{Refuses};
 
 use gevaindy::array::AnyArray;
 use gevaindy::compute::boolean::any;
@@ -21,7 +21,7 @@ use std::alloc::Global;
 /// `Caller(0)` exactly where rows of the type have no equality (`can_eq`); then those of `shift` and `eq`.
 pub fn is_distinct(alloc: Global, column: &AnyArray) -> Result<bool, Error>
     ensures answer { IfOk result (λ distinct. IsTrue distinct ↔ AreApart (any_array_rows column.now)) }
-    ensures types { (result ≡ Err (Error.InvalidArgumentError (ArgumentFault.Caller 0)))
+    ensures types { Refuses result (ArgumentFault.Caller 0)
         ↔ (CanEqual (any_array_type column.now) → ⊥) }
 {
     if !can_eq(column.data_type()) {

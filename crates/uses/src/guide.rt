@@ -6,9 +6,9 @@ ghost use Rattle.gevaindy.specs.Errors.Error.{Error};
 ghost use Rattle.gevaindy.specs.Any.{any_array_rows, any_array_type};
 ghost use Rattle.gevaindy.specs.ArrowType.{plain, utf8};
 ghost use Rattle.gevaindy.specs.Growth.{IsGrowthError};
-ghost use Rattle.gevaindy.specs.Rows.{gather, select};
 ghost use Rattle.gevaindy.specs.Slot.{Text};
-ghost use Rattle.gevaindy.specs.Typed.{text_rows, uint_rows};
+ghost use Rattle.gevaindy.specs.Typed.{text_rows};
+ghost use Rattle.uses.specs.Picked.{picked_rows};
 ghost use Rattle.uses.specs.Texts.{texts_in};
 
 use gevaindy::array::{AnyArray, BooleanArray, PrimitiveArray, Utf8Array, are_within};
@@ -34,8 +34,7 @@ pub fn picked(
 ) -> Result<AnyArray, Error>
     ensures array_type { IfOk result (λ picked. any_array_type picked ≡ any_array_type array.now) }
     ensures rows { IfOk result (λ picked. any_array_rows picked
-        ≡ gather (select mask.now (any_array_rows array.now)) (uint_rows places.now)
-        (any_array_type array.now)) }
+        ≡ picked_rows mask.now places.now array.now) }
 {
     let mask = Bitmap::from_bools(alloc, mask)?;
     let mask = BooleanArray::try_new(DataType::Boolean, mask, None)?;

@@ -7,7 +7,8 @@ ghost use Rattle.gevaindy.specs.Errors.Error.{Error};
 ghost use Rattle.gevaindy.specs.Any.{any_array_rows};
 ghost use Rattle.gevaindy.specs.Parts.{boolean_rows};
 ghost use Rattle.gevaindy.specs.Rows.{joined, mask_of, select};
-ghost use Rattle.uses.specs.Stored.{mask_in};
+ghost use Rattle.uses.specs.Refused.{Refuses};
+ghost use Rattle.uses.specs.Stored.{kept_in, rows_of_parts};
 
 use gevaindy::array::{AnyArray, BooleanArray};
 use gevaindy::compute::filter::{Filter, build_filter};
@@ -64,10 +65,10 @@ impl FilterStore {
     /// `Caller(0)` exactly where no filter has the number; then `Lengths` where its mask has not as many rows as
     /// the column, and `OutOfMemory` where memory is refused.
     pub fn parts(&self, number: usize, column: &AnyArray) -> Result<Vec<AnyArray>, Error>
-        ensures known { (result ≡ Err (Error.InvalidArgumentError (ArgumentFault.Caller 0)))
+        ensures known { Refuses result (ArgumentFault.Caller 0)
             ↔ (length self.now ≤ number) }
-        ensures rows { IfOk result (λ parts. joined (map any_array_rows parts.items)
-            ≡ select (mask_in self.now number) (any_array_rows column.now)) }
+        ensures rows { IfOk result (λ parts. rows_of_parts parts.items
+            ≡ kept_in self.now number column.now) }
     {
         let Some(filter) = self.filters.get(number) else {
             return Err(Error::InvalidArgumentError(ArgumentFault::Caller(0)));

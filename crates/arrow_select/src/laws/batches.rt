@@ -1,13 +1,11 @@
 //! Laws over batches: what an engine that cuts a table into batches may do with each by itself.
 
-ghost use Rattle.std.specs.Prelude.{◌≡◌, ◌++◌, ◌≤◌, List, length, map, unsigned_abs};
+ghost use Rattle.std.specs.Prelude.{◌≡◌, ◌++◌, ◌≤◌, length, unsigned_abs};
 ghost use Rattle.arrow_types.specs.Rows.{chosen, gather, joined, mask_of, select, shifted};
 ghost use Rattle.arrow_types.specs.TypeOf.{type_of};
-ghost use Rattle.arrow_flat.specs.Parts.{rows_by};
-ghost use Rattle.arrow_flat.specs.RowByRow.{AreAlikeLong};
 ghost use Rattle.arrow_arrays.specs.Any.{any_array_rows};
 ghost use Rattle.arrow_select.specs.Arrays.{rows_in};
-ghost use Rattle.arrow_select.specs.Batches.{AreIndicesByBatch, chosen_by_batch, kept_by_batch, met, moved_by_batch, moved_ranges, predicates_in, shifted_by_edge, taken_by_batch};
+ghost use Rattle.arrow_select.specs.Batches.{AreIndicesByBatch, HavePredicates, chosen_by_batch, gathered_each, indices_in, kept_by_batch, met, moved_by_batch, moved_ranges, predicates_in, shifted_by_edge, taken_by_batch};
 ghost use Rattle.arrow_select.specs.Ranges.{IsRangesOf};
 
 use crate::filter::Filter;
@@ -21,7 +19,7 @@ use arrow_types::types::Index;
 /// # Requires
 /// There is a predicate for each batch, and it has as many rows.
 pub fn filter_goes_by_batches(filters: &[&BooleanArray], batches: &[&AnyArray])
-    requires { AreAlikeLong (predicates_in filters.now) (rows_in batches.now) }
+    requires { HavePredicates batches.now filters.now }
     ensures { select (mask_of (joined (predicates_in filters.now))) (joined (rows_in batches.now))
         ≡ joined (kept_by_batch (predicates_in filters.now) (rows_in batches.now)) }
 {}
@@ -50,9 +48,9 @@ pub fn take_goes_by_batches<I: Index>(
     data_type: &DataType,
 )
     ensures { gather (any_array_rows array.now)
-        (joined (map (λ is. rows_by (map I.slot) is.now) indices.now)) (type_of data_type.now)
-        ≡ joined (map (λ is. gather (any_array_rows array.now) is (type_of data_type.now))
-        (map (λ is. rows_by (map I.slot) is.now) indices.now)) }
+        (joined (indices_in I.slot indices.now)) (type_of data_type.now)
+        ≡ joined (gathered_each (any_array_rows array.now) (indices_in I.slot indices.now)
+        (type_of data_type.now)) }
 {}
 
 /// What `take` answers of batches that are concatenated, by indices of each batch that are moved by the rows before it, is
@@ -65,11 +63,11 @@ pub fn take_goes_by_parts<I: Index>(
     indices: &[&PrimitiveArray<I>],
     data_type: &DataType,
 )
-    requires { AreIndicesByBatch (rows_in batches.now) (map (λ is. rows_by (map I.slot) is.now) indices.now) }
+    requires { AreIndicesByBatch (rows_in batches.now) (indices_in I.slot indices.now) }
     ensures { gather (joined (rows_in batches.now))
         (joined (moved_by_batch 0 (rows_in batches.now)
-        (map (λ is. rows_by (map I.slot) is.now) indices.now))) (type_of data_type.now)
-        ≡ joined (taken_by_batch (rows_in batches.now) (map (λ is. rows_by (map I.slot) is.now) indices.now)
+        (indices_in I.slot indices.now))) (type_of data_type.now)
+        ≡ joined (taken_by_batch (rows_in batches.now) (indices_in I.slot indices.now)
         (type_of data_type.now)) }
 {}
 
@@ -84,8 +82,8 @@ pub fn choice_goes_by_batches(
     rhs: &[&AnyArray],
     data_type: &DataType,
 )
-    requires left { AreAlikeLong (predicates_in predicates.now) (rows_in lhs.now) }
-    requires right { AreAlikeLong (predicates_in predicates.now) (rows_in rhs.now) }
+    requires left { HavePredicates lhs.now predicates.now }
+    requires right { HavePredicates rhs.now predicates.now }
     ensures { chosen (joined (predicates_in predicates.now)) (joined (rows_in lhs.now))
         (joined (rows_in rhs.now)) (type_of data_type.now)
         ≡ joined (chosen_by_batch (predicates_in predicates.now) (rows_in lhs.now) (rows_in rhs.now)

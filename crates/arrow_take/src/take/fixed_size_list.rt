@@ -1,13 +1,9 @@
 //! Lists of a fixed size by index.
 
-ghost use Rattle.std.specs.Prelude.{◌≡◌, Err, length, map, IfOk, IfErr};
-ghost use Rattle.arrow_types.specs.declared.error.Error.{Error};
-ghost use Rattle.arrow_types.specs.Fits.{Fits};
-ghost use Rattle.arrow_types.specs.Rows.{gather};
-ghost use Rattle.arrow_memory.specs.Grown.{IsGrowthError};
+ghost use Rattle.std.specs.Prelude.{length, map};
 ghost use Rattle.arrow_flat.specs.Parts.{rows_by};
 ghost use Rattle.arrow_arrays.specs.FixedListParts.{fixed_list_rows};
-ghost use Rattle.arrow_take.specs.Taken.{AreIndices};
+ghost use Rattle.arrow_take.specs.Taken.{AnswersFixedLists, AreIndices};
 
 use crate::take::nested::take_nested;
 use arrow_arrays::array::FixedSizeListArray;
@@ -31,14 +27,7 @@ pub fn take<I: Index>(
     indices: &PrimitiveArray<I>,
 ) -> Result<FixedSizeListArray, Error>
     requires inside { AreIndices (length (fixed_list_rows values.now)) (rows_by (map I.slot) indices.now) }
-    ensures array_type { IfOk result (λ taken. taken.arrow_type ≡ values.now.arrow_type) }
-    ensures rows { IfOk result (λ taken. fixed_list_rows taken
-        ≡ gather (fixed_list_rows values.now) (rows_by (map I.slot) indices.now) values.now.arrow_type) }
-    ensures fits { IfOk result (λ taken. Fits taken.arrow_type (fixed_list_rows taken)) }
-    ensures overflow { result ≡ Err Error.Overflow
-        → Fits values.now.arrow_type
-        (gather (fixed_list_rows values.now) (rows_by (map I.slot) indices.now) values.now.arrow_type) → ⊥ }
-    ensures others { IfErr result IsGrowthError }
+    ensures answer { AnswersFixedLists result values.now (rows_by (map I.slot) indices.now) }
 {
     take_nested(alloc, values, values.len(), indices)
 }

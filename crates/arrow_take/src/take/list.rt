@@ -1,13 +1,9 @@
 //! Lists, under offsets of either width, by index.
 
-ghost use Rattle.std.specs.Prelude.{◌≡◌, Err, length, map, IfOk, IfErr};
-ghost use Rattle.arrow_types.specs.declared.error.Error.{Error};
-ghost use Rattle.arrow_types.specs.Fits.{Fits};
-ghost use Rattle.arrow_types.specs.Rows.{gather};
-ghost use Rattle.arrow_memory.specs.Grown.{IsGrowthError};
+ghost use Rattle.std.specs.Prelude.{length, map};
 ghost use Rattle.arrow_flat.specs.Parts.{rows_by};
 ghost use Rattle.arrow_arrays.specs.ListParts.{list_rows};
-ghost use Rattle.arrow_take.specs.Taken.{AreIndices};
+ghost use Rattle.arrow_take.specs.Taken.{AnswersLists, AreIndices};
 
 use crate::take::nested::take_nested;
 use arrow_arrays::array::ListArray;
@@ -31,14 +27,7 @@ pub fn take<I: Index>(
     indices: &PrimitiveArray<I>,
 ) -> Result<ListArray, Error>
     requires inside { AreIndices (length (list_rows values.now)) (rows_by (map I.slot) indices.now) }
-    ensures array_type { IfOk result (λ taken. taken.arrow_type ≡ values.now.arrow_type) }
-    ensures rows { IfOk result (λ taken. list_rows taken
-        ≡ gather (list_rows values.now) (rows_by (map I.slot) indices.now) values.now.arrow_type) }
-    ensures fits { IfOk result (λ taken. Fits taken.arrow_type (list_rows taken)) }
-    ensures overflow { result ≡ Err Error.Overflow
-        → Fits values.now.arrow_type
-        (gather (list_rows values.now) (rows_by (map I.slot) indices.now) values.now.arrow_type) → ⊥ }
-    ensures others { IfErr result IsGrowthError }
+    ensures answer { AnswersLists result values.now (rows_by (map I.slot) indices.now) }
 {
     take_nested(alloc, values, values.len(), indices)
 }

@@ -3,7 +3,7 @@
 ghost use Rattle.std.specs.Prelude.{length, map};
 ghost use Rattle.arrow_flat.specs.Parts.{rows_by};
 ghost use Rattle.arrow_arrays.specs.ListParts.{list_rows};
-ghost use Rattle.arrow_take.specs.Taken.{AnswersMaps, AreIndices};
+ghost use Rattle.arrow_take.specs.Taken.{AnswersLists, AreIndices};
 
 use crate::take::nested::take_nested;
 use arrow_arrays::array::MapArray;
@@ -27,7 +27,7 @@ pub fn take<I: Index>(
     indices: &PrimitiveArray<I>,
 ) -> Result<MapArray, Error>
     requires inside { AreIndices (length (list_rows values.now)) (rows_by (map I.slot) indices.now) }
-    ensures answer { AnswersMaps result values.now (rows_by (map I.slot) indices.now) }
+    ensures answer { AnswersLists result values.now (rows_by (map I.slot) indices.now) }
 {
     take_nested(alloc, values, values.len(), indices)
 }

@@ -8,4 +8,5 @@ use Rattle.arrow_select.proofs.laws.select_is_gather.Goals as goal
 
 pub returns : goal.returns
 returns c =
-    selected_is_gathered (any_array_rows c.args.array.now) (mask_of (boolean_rows c.args.filter.now)) (any_array_type c.args.array.now) (length-map (boolean_rows c.args.filter.now) selects ∙ c.requires)
+    let rows = selected_is_gathered (any_array_rows c.args.array.now) (mask_of (boolean_rows c.args.filter.now)) (any_array_type c.args.array.now) (length-map (boolean_rows c.args.filter.now) selects ∙ c.requires) in
+    λ i. (any_array_type c.args.array.now, rows i)

@@ -20,11 +20,11 @@ returns-in_err-take-in-LargeBinary-clause-overflow g c overflows =
 
 pub returns-in_err-take-in-List-clause-overflow : goal.returns-in_err-take-in-List-clause-overflow
 returns-in_err-take-in-List-clause-overflow g c overflows =
-    rw c.in-List.is (c.in_err-take-in-List.ensures.overflow (ap Err (passed_on c.from_residual-in_err-take-in-List.result _ _ c.from_residual-in_err-take-in-List.ensures.1 overflows)))
+    rw c.in-List.is (c.in_err-take-in-List.ensures.answer.overflow (ap Err (passed_on c.from_residual-in_err-take-in-List.result _ _ c.from_residual-in_err-take-in-List.ensures.1 overflows)))
 
 pub returns-in_err-take-in-FixedSizeList-clause-overflow : goal.returns-in_err-take-in-FixedSizeList-clause-overflow
 returns-in_err-take-in-FixedSizeList-clause-overflow g c overflows =
-    rw c.in-FixedSizeList.is (c.in_err-take-in-FixedSizeList.ensures.overflow (ap Err (passed_on c.from_residual-in_err-take-in-FixedSizeList.result _ _ c.from_residual-in_err-take-in-FixedSizeList.ensures.1 overflows)))
+    rw c.in-FixedSizeList.is (c.in_err-take-in-FixedSizeList.ensures.answer.overflow (ap Err (passed_on c.from_residual-in_err-take-in-FixedSizeList.result _ _ c.from_residual-in_err-take-in-FixedSizeList.ensures.1 overflows)))
 
 pub returns-in_err-take-in-FixedSizeBinary-clause-overflow : goal.returns-in_err-take-in-FixedSizeBinary-clause-overflow
 returns-in_err-take-in-FixedSizeBinary-clause-overflow g c overflows =
