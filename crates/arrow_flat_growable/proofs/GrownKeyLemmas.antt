@@ -1,16 +1,14 @@
 -- Keys that grow by the values of the dictionaries before their own.
-use Rattle.std.proofs.Common.{arith, ◌≡◌, ◌+◌, ◌<◌, ◌≤◌, ◌^◌, ℕ, suc, ℤ, pos, negsuc, List, [], ◌∷◌, ◌++◌, length, map, get_or, refl, ap, sym, subst, ◌∙◌, append_assoc}
+use Rattle.std.proofs.Common.{arith, ◌≡◌, ◌+◌, ◌<◌, ◌≤◌, ◌^◌, ℕ, pos, List, [], ◌∷◌, ◌++◌, length, map, get_or, ap, sym, subst, ◌∙◌, append_assoc}
 use Rattle.std.specs.List.{All}
 use Rattle.std.proofs.lemmas.List.{append-nil, map-append}
-use Rattle.std.proofs.lemmas.List.Elements.{All-append, All-cons, All-drop, All-take}
+use Rattle.std.proofs.lemmas.List.Elements.{All-append, All-cons}
 use Rattle.arrow_types.specs.declared.datatypes.IntegerType.{IntegerType}
 use Rattle.arrow_types.specs.declared.datatypes.IntegerType.TheVariants.{Int8, Int16, Int32, Int64, UInt8, UInt16, UInt32, UInt64}
 use Rattle.arrow_types.specs.Greatest.{greatest_number}
 use Rattle.arrow_types.specs.Slot.{Slot, Null, Number}
 use Rattle.arrow_memory.specs.Sliced.{sliced}
 use Rattle.arrow_memory.proofs.SlicedLemmas.{sliced-cut}
-use Rattle.arrow_memory.proofs.OffsetLemmas.{map_sliced}
-use Rattle.arrow_arrays.specs.KeyedParts.{AreKeys, IsKey}
 use Rattle.arrow_arrays.proofs.EqualLemmas.{one_row}
 use Rattle.arrow_flat_growable.specs.Keys.{KeyFits, PassesGreatest, grown_key}
 
@@ -49,23 +47,3 @@ module _ {K : Type 0} (slot : K → Slot) (greatest by : ℕ) (old : List K) (ro
         slots = map-append slot new (key ∷ []) ∙ ((λ j. g.slots j ++ is j ∷ []) ∙ (append_assoc (map slot old) (map (grown_key by) (sliced rows start n)) (grown_key by (get_or rows i Null) ∷ []) ∙ ap (λ xs. map slot old ++ xs) (sym all ∙ ap (map (grown_key by)) (sym next))));
         fits = subst (All (KeyFits greatest by)) (sym next) (All-append (KeyFits greatest by) (sliced rows start n) (get_or rows i Null ∷ []) g.fits (All-cons (KeyFits greatest by) (get_or rows i Null) [] fits (λ k d none. absurd (omega (arith, none)))));
       }
-
--- keys that are stored without a validity, behind none
-
-unmoved_key : (count : ℕ) (z : ℤ) → IsKey count (Number z) → Number z ≡ grown_key 0 (Number z)
-unmoved_key count (pos n) key = ap (λ k. Number (pos k)) (omega arith)
-unmoved_key count (negsuc n) key = absurd key
-
-unmoved_keys : {K : Type 0} (slot : K → Slot) (number : K → ℤ) → ((x : K) → slot x ≡ Number (number x)) → (count : ℕ) (keys : List K) → AreKeys count (map slot keys) → map slot keys ≡ map (grown_key 0) (map slot keys)
-unmoved_keys slot number is count [] held = refl
-unmoved_keys slot number is count (x ∷ keys) held =
-    let key : IsKey count (Number (number x)) = subst (IsKey count) (is x) (held 0 (slot x) (omega arith)) in
-    let first = is x ∙ (unmoved_key count (number x) key ∙ ap (grown_key 0) (sym (is x))) in
-    let rest = unmoved_keys slot number is count keys (λ k d within. held (suc k) d (omega (arith, within))) in
-    λ i. first i ∷ rest i
-
-pub copied_keys : {K : Type 0} (slot : K → Slot) (number : K → ℤ) → ((x : K) → slot x ≡ Number (number x)) → (count : ℕ) (old new stored : List K) (start len by : ℕ) → by ≡ 0 → new ≡ old ++ sliced stored start len → AreKeys count (map slot stored) → map slot new ≡ map slot old ++ map (grown_key by) (sliced (map slot stored) start len)
-copied_keys slot number is count old new stored start len by none grown held =
-    let part = map_sliced slot stored start len in
-    let keys = subst (AreKeys count) (sym part) (All-take (IsKey count) len _ (All-drop (IsKey count) start (map slot stored) held)) in
-    ap (map slot) grown ∙ (map-append slot old (sliced stored start len) ∙ ap (λ xs. map slot old ++ xs) (unmoved_keys slot number is count (sliced stored start len) keys ∙ (λ i. map (grown_key (sym none i)) (part i))))

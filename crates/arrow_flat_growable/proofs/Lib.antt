@@ -9,8 +9,10 @@ pub mod MaskLemmas
 pub mod MaskedLemmas
 pub mod MovedLemmas
 pub mod NullLemmas
+pub mod PartLemmas
 pub mod PartRowLemmas
 pub mod ResultLemmas
 pub mod StoreLemmas
+pub mod StoredKeyLemmas
 pub mod ValidRowLemmas
 pub mod ValidityLemmas

@@ -1,6 +1,6 @@
 -- Clauses on what a call answers.
 use Rattle.std.proofs.Common.{◌≡◌, Result, Ok, Err}
-use Rattle.std.specs.Prelude.{OnOk}
+use Rattle.std.specs.Prelude.{IfOk, OnOk}
 use Rattle.std.specs.Result.{IsErrAnd}
 use Rattle.arrow_types.specs.declared.error.Error.{Error}
 
@@ -8,6 +8,11 @@ use Rattle.arrow_types.specs.declared.error.Error.{Error}
 pub on_ok : {T E P Q : Type 0} (r : Result T E) → OnOk r P → (P → Q) → OnOk r Q
 on_ok (Ok x) p f = f p
 on_ok (Err e) p f = tt
+
+-- and of its value
+pub if_ok : {T E : Type 0} {P Q : T → Type 0} (r : Result T E) → IfOk r P → ((x : T) → P x → Q x) → IfOk r Q
+if_ok (Ok x) p f = f x p
+if_ok (Err e) p f = tt
 
 -- an error that is passed on is the one that came
 pub passed_on : {A : Type 0} (r : Result A Error) (e f : Error) → IsErrAnd r (λ x. x ≡ e) → r ≡ Err f → e ≡ f

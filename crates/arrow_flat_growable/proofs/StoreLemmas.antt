@@ -1,8 +1,8 @@
 -- Slots of stored values: those that are appended, and how many fit.
-use Rattle.std.proofs.Common.{◌≡◌, ℕ, ◌+◌, ◌-◌, ◌<◌, ◌≤◌, ◌^◌, true, List, ◌++◌, length, map, take, replicate, ap, ◌∙◌, arith, length-append}
+use Rattle.std.proofs.Common.{◌≡◌, ℕ, ◌+◌, ◌-◌, ◌<◌, ◌≤◌, ◌^◌, true, List, [], ◌++◌, length, map, take, replicate, ap, ◌∙◌, arith, length-append}
 use Rattle.std.specs.Prelude.{OnOk, Result, Ok, Err}
 use Rattle.std.proofs.Math.Nat.{lt_of_not-le}
-use Rattle.std.proofs.lemmas.List.{length-map, length-replicate, map-append, take_all}
+use Rattle.std.proofs.lemmas.List.{append-nil, length-map, length-replicate, map-append, take_all}
 use Rattle.arrow_types.specs.ArrowType.{ArrowType}
 use Rattle.arrow_types.specs.Fits.{Fits}
 use Rattle.arrow_types.specs.Physical.{physical_type_of}
@@ -11,6 +11,8 @@ use Rattle.arrow_memory.specs.Sliced.{sliced}
 use Rattle.arrow_memory.proofs.OffsetLemmas.{map_sliced}
 use Rattle.arrow_memory.proofs.SlicedLemmas.{length-sliced}
 use Rattle.arrow_arrays.proofs.NullLemmas.{map_constant}
+use Rattle.arrow_flat_growable.specs.declared.growable.parts.Part.{Part}
+use Rattle.arrow_flat_growable.specs.GrownParts.{with_parts}
 use Rattle.arrow_flat_growable.specs.FlatLaws.{fits_count}
 use Rattle.arrow_flat_growable.proofs.FitsLemmas.{is_only_counted, fits_only_counted}
 
@@ -59,3 +61,7 @@ grown_to xs new x n m k is long grown =
     let whole : take n xs ≡ xs = take_all n xs (omega (arith, long, grown)) in
     let count : n - m ≡ k = omega (arith, grown) in
     is ∙ (λ i. whole i ++ replicate (count i) x)
+
+-- what no part waits behind
+pub copied_view : {A : Type 0} (sources : List (List A)) (values : List A) (parts : List (Part A)) → parts ≡ [] → with_parts sources values parts ≡ values
+copied_view sources values parts none = ap (with_parts sources values) none ∙ append-nil values

@@ -1,5 +1,5 @@
 -- What a growable means: the arrays that it takes rows from, the rows that it holds, and whether it has refused.
-use Rattle.std.specs.Prelude.{ℕ, ◌≡◌, ◌+◌, ◌<◌, ◌≤◌, Bool, true, false, List, [], ◌∷◌, ◌++◌, ◌⊎◌, length, replicate, slice_index_or, take, Option, Some, None, refl}
+use Rattle.std.specs.Prelude.{ℕ, ◌≡◌, ◌↔◌, ◌+◌, ◌<◌, ◌≤◌, Bool, true, false, List, [], ◌∷◌, ◌++◌, ◌⊎◌, length, replicate, slice_index_or, take, Option, Some, None, Result, Err, IfOk, IfErr, refl}
 use Rattle.std.specs.List.{All}
 use Rattle.std.specs.Coded.{Coded, code_by, coded×, coded_list, coded_option, coded_bool, coded_ℕ}
 use Rattle.arrow_types.specs.declared.error.Error.{Error}
@@ -125,6 +125,12 @@ abbrev pub IsFailedOrMemory : Error → Type 0
 IsFailedOrMemory OutOfMemory = Unit {0}
 IsFailedOrMemory Failed = Unit {0}
 IsFailedOrMemory _ = ⊥
+
+-- a call that hands out all rows: an array of the type with these rows, and Failed exactly where an earlier call refused
+pub record HandsOut {A : Type 0} (type_in : A → ArrowType) (rows_in : A → List Slot) (g : Grown) (result : Result A Error) : Type 0 where
+  pub ok : IfOk result (λ array. (type_in array ≡ g.arrow_type) × (rows_in array ≡ g.rows))
+  pub failed : (result ≡ Err Failed) ↔ (g.failed ≡ true)
+  pub others : IfErr result IsFailedOrMemory
 
 -- and one of a growable that takes no memory
 abbrev pub IsFailedOrOverflow : Error → Type 0

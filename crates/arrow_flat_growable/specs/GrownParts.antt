@@ -1,6 +1,6 @@
 -- Values that grow by parts of others, their sources, of which some parts are not copied yet.
 use Rattle.std.specs.Prelude.{ℕ, ◌≡◌, ◌+◌, ◌<◌, ◌≤◌, ◌++◌, [], List, length, replicate, slice_index_or}
-use Rattle.std.specs.List.{flat_map}
+use Rattle.std.specs.List.{All, flat_map}
 use Rattle.arrow_memory.specs.Sliced.{sliced}
 use Rattle.arrow_flat_growable.specs.declared.growable.parts.Part.{Part}
 use Rattle.arrow_flat_growable.specs.declared.growable.parts.Part.TheVariants.{Of, Repeated}
@@ -22,3 +22,8 @@ part_values sources (Repeated value count) = replicate count value
 -- the values that are copied, and behind them those of the parts that wait
 abbrev pub with_parts : {A : Type 0} → List (List A) → List A → List (Part A) → List A
 with_parts sources values parts = values ++ flat_map (part_values sources) parts
+
+-- parts that come behind others, in the same sources, and have these values
+pub record AppendsParts {A : Type 0} (sources : List (List A)) (old new : List (Part A)) (more : List A) : Type 0 where
+  pub lie : All (LiesIn sources) old → All (LiesIn sources) new
+  pub values : flat_map (part_values sources) new ≡ flat_map (part_values sources) old ++ more

@@ -9,7 +9,7 @@ use Rattle.arrow_types.specs.Fits.{Fits}
 use Rattle.arrow_types.specs.Slot.{Slot}
 use Rattle.arrow_memory.specs.Grown.{IsGrowthError}
 use Rattle.arrow_arrays.specs.Layout.{Layout}
-use Rattle.arrow_flat_growable.specs.Grown.{Grown, IsFailedOrMemory, first_type}
+use Rattle.arrow_flat_growable.specs.Grown.{Grown, HandsOut, first_type}
 use Rattle.arrow_flat_growable.proofs.ResultLemmas.{passed_on}
 use Rattle.arrow_growable.specs.Growing.{HasAppended}
 use Rattle.arrow_take.specs.Answers.{Answers}
@@ -22,15 +22,15 @@ module _ {A : Type 0} (type_in : A → ArrowType) (rows_in : A → List Slot) wh
       record { ok = tt; overflow = λ same. over (passed_on (Err x) e Overflow is same); others = subst IsGrowthError (sym is) growth }
 
   -- an array of what a growable holds, which has not failed
-  pub hands_out : (layouts : List Layout) (g : Grown) (slots : List Slot) → HasAppended layouts g slots → (r : Result A Error) → IfOk r (λ a. (type_in a ≡ g.arrow_type) × (rows_in a ≡ g.rows)) → (r ≡ Err Failed) ↔ (g.failed ≡ true) → IfErr r IsFailedOrMemory → Answers type_in rows_in r (first_type layouts) slots
-  hands_out layouts g slots held (Ok a) ok failed others =
-      record { ok = record { array_type = ok.0 ∙ ap (λ h. h.arrow_type) held.0; rows = ok.1 ∙ ap (λ h. h.rows) held.0; fits = held.1 }; overflow = λ is. cc; others = tt }
-  hands_out layouts g slots held (Err OutOfMemory) ok failed others =
+  pub hands_out : (layouts : List Layout) (g : Grown) (slots : List Slot) → HasAppended layouts g slots → (r : Result A Error) → HandsOut type_in rows_in g r → Answers type_in rows_in r (first_type layouts) slots
+  hands_out layouts g slots held (Ok a) answer =
+      record { ok = record { array_type = answer.ok.0 ∙ ap (λ h. h.arrow_type) held.0; rows = answer.ok.1 ∙ ap (λ h. h.rows) held.0; fits = held.1 }; overflow = λ is. cc; others = tt }
+  hands_out layouts g slots held (Err OutOfMemory) answer =
       record { ok = tt; overflow = λ is. cc; others = tt }
-  hands_out layouts g slots held (Err Failed) ok failed others =
-      let has_failed : false ≡ true = sym (ap (λ h. h.failed) held.0) ∙ failed.0 refl in
+  hands_out layouts g slots held (Err Failed) answer =
+      let has_failed : false ≡ true = sym (ap (λ h. h.failed) held.0) ∙ answer.failed.0 refl in
       absurd (cc)
-  hands_out layouts g slots held (Err _) ok failed others = absurd others
+  hands_out layouts g slots held (Err _) answer = absurd answer.others
 
   pub rows_of : (t : ArrowType) (slots : List Slot) (r : Result A Error) → Answers type_in rows_in r t slots → IfOk r (λ a. rows_in a ≡ slots)
   rows_of t slots (Ok a) answer = answer.ok.rows

@@ -3,6 +3,7 @@
 ghost use Rattle.std.specs.Prelude.{◌≡◌, ◌+◌, ◌-◌, ◌%◌, ◌<◌, ◌≤◌, [], ◌++◌, Bool, List, ℕ, false, length, map, replicate, slice_index, slice_index_or, Err, IfOk, IfErr, OnOk, OnErr, IsOkUnless, IsTrue, refl};
 ghost use Rattle.std.specs.Int.{bit_at};
 ghost use Rattle.std.specs.List.{All};
+ghost use Rattle.std.specs.Vec.{vec_len, vec_capacity};
 ghost use Rattle.arrow_types.specs.declared.error.Error.{Error};
 ghost use Rattle.arrow_types.specs.Fits.{byte_count};
 ghost use Rattle.arrow_types.specs.Physical.{physical_type_of};
@@ -12,7 +13,7 @@ ghost use Rattle.arrow_memory.specs.Sliced.{sliced};
 ghost use Rattle.arrow_flat.specs.ByteRows.{byte_slots, row_bytes};
 ghost use Rattle.arrow_flat.specs.Pieces.{pieces};
 ghost use Rattle.arrow_flat_growable.specs.Bytes.{BeginsWith, IsBytesType, SparesBytes, stored_rows};
-ghost use Rattle.arrow_flat_growable.specs.GrownParts.{IsBound};
+ghost use Rattle.arrow_flat_growable.specs.GrownParts.{AppendsParts, IsBound};
 ghost use Rattle.arrow_flat_growable.specs.GrownRows.{AreEmptyNulls, filled, total, valid_values};
 
 use crate::growable::flat::GrowableValues;
@@ -31,6 +32,9 @@ use std::marker::{Model, PhantomData};
 
 /// How many bytes a run of rows is copied as where it has no more: eight moves.
 const BLOCK: usize = 128;
+
+/// The most rows whose runs wait as parts. The runs of more rows are read one behind the other, so a copy waits for few.
+const FEW: usize = 32;
 
 /// Which rows of bytes can grow.
 pub trait GrowableKind: AnyRows {
@@ -329,6 +333,9 @@ fn copy_valid_rows<O: Offset>(
     if are_nulls_empty(rows, validity, start, len) {
         return copy_rows(offsets, bytes, index, rows, values, start, len);
     }
+    if len <= FEW {
+        return part_set_rows(offsets, bytes, index, rows, validity, start, len);
+    }
     copy_set_rows(offsets, bytes, rows, values, validity, start, len)
 }
 
@@ -388,6 +395,73 @@ fn are_empty<O: Offset>(rows: &OffsetsBuffer<O>, start: usize, word: u64) -> boo
         left &= !(1 << place);
     }
     true
+}
+
+// The same, a part for each run.
+fn part_set_rows<O: Offset>(
+    offsets: &mut Offsets<O>,
+    bytes: &mut GrowableParts<u8>,
+    index: usize,
+    rows: &OffsetsBuffer<O>,
+    validity: &Bitmap,
+    start: usize,
+    len: usize,
+) -> Result<(), Error>
+    requires part { start + len < length rows.now }
+    requires covered { start + len ≤ length validity.now }
+    requires there { index < length bytes.old.0 }
+    requires within { last_of rows.now ≤ length (slice_index_or bytes.old.0 index []) }
+    ensures sound { IsOffsets offsets.old }
+    ensures rows_sound { IsOffsets rows.now }
+    ensures same { bytes.new.0 ≡ bytes.old.0 }
+    ensures ok { OnOk result ((offsets.new
+        ≡ with_valid_rows offsets.old (sliced validity.now start len) rows.now start)
+        × (bytes.new.1 ≡ bytes.old.1 ++ valid_values (sliced validity.now start len) rows.now
+        (slice_index_or bytes.old.0 index []) start)) }
+    ensures overflow { result ≡ Err Error.Overflow
+        → O.greatest < last_of offsets.old + valid_items (sliced validity.now start len) rows.now start }
+    ensures others { IfErr result IsGrowthError }
+    ensures unchanged { OnErr result ((offsets.new ≡ offsets.old) × (bytes.new.1 ≡ bytes.old.1)) }
+{
+    prove!(0 < offsets.len());
+    prove!(start < rows.len());
+    bytes.copy_many()?;
+    bytes.parts.reserve(len)?;
+    offsets.try_extend_from_valid(rows, validity, start, len)?;
+    push_runs(&mut bytes.parts, index, rows, validity, start, len);
+    Ok(())
+}
+
+// Appends a part of a source for each run of those of `len` rows from row `start` on whose bit is set. There is room for as many
+// as there are rows.
+fn push_runs<O: Offset>(
+    parts: &mut Vec<Part<u8>>,
+    index: usize,
+    rows: &OffsetsBuffer<O>,
+    validity: &Bitmap,
+    start: usize,
+    len: usize,
+)
+    requires part { start + len < length rows.now }
+    requires covered { start + len ≤ length validity.now }
+    requires room { vec_len parts.old + len ≤ vec_capacity parts.old }
+    ensures { (sources : List (List ℕ)) → index < length sources
+        → last_of rows.now ≤ length (slice_index_or sources index [])
+        → AppendsParts sources parts.old.items parts.new.items (valid_values
+        (sliced validity.now start len) rows.now (slice_index_or sources index []) start) }
+{
+    prove!(start < rows.len());
+    let mut left = validity.runs(start, len);
+    let end = start + len;
+    let mut row = start;
+    while row < end {
+        let (nulls, count) = left.next_set();
+        let (first, last) = rows.range(row + nulls, count);
+        let Ok(()) = parts.push(Part::Of(index, first, last - first)) else {
+            unreachable!();
+        };
+        row += nulls + count;
+    }
 }
 
 // The same, run by run.

@@ -14,7 +14,7 @@ ghost use Rattle.arrow_flat.specs.Parts.{FitsRows, bits_of_slice};
 ghost use Rattle.arrow_arrays.specs.Any.{Kind, kind_of, layout_of};
 ghost use Rattle.arrow_arrays.specs.Layout.{flat};
 ghost use Rattle.arrow_flat_growable.specs.Flat.{BindsAll, Covers, KeepsBound, flat_layout};
-ghost use Rattle.arrow_flat_growable.specs.Grown.{Grown, AreOfOneType, FitsItself, FitsWith, HasFailed, IsFailedOrMemory, IsRefusal, NamesRows, appended, bound_to, named_rows};
+ghost use Rattle.arrow_flat_growable.specs.Grown.{Grown, AreOfOneType, FitsItself, FitsWith, HandsOut, HasFailed, IsRefusal, NamesRows, appended, bound_to, named_rows};
 
 use crate::growable::Growable;
 use crate::growable::validity::GrowableValidity;
@@ -304,10 +304,8 @@ impl<'a, G: GrowableValues> FlatGrowable<'a, G> {
     /// # Errors
     /// `Failed` where an earlier call refused; `OutOfMemory` where memory is refused.
     pub fn into_array(self) -> Result<G::Array, Error>
-        ensures ok { IfOk result (λ array. (G.type_in array ≡ self.entry.arrow_type)
-            × (masked (G.bits_in array) (G.stored_in array) ≡ self.entry.rows)) }
-        ensures failed { (result ≡ Err Error.Failed) ↔ (self.entry.failed ≡ true) }
-        ensures others { IfErr result IsFailedOrMemory }
+        ensures answer { HandsOut G.type_in (λ array. masked (G.bits_in array) (G.stored_in array))
+            self.entry result }
     {
         if self.has_failed {
             return Err(Error::Failed);

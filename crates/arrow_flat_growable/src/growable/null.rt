@@ -8,7 +8,7 @@ ghost use Rattle.arrow_types.specs.Slot.{Null};
 ghost use Rattle.arrow_types.specs.TypeOf.{type_of};
 ghost use Rattle.arrow_flat.specs.Faults.{IsCarriedAs};
 ghost use Rattle.arrow_flat.specs.NullParts.{null_rows};
-ghost use Rattle.arrow_flat_growable.specs.Grown.{AreOfOneType, HasFailed, IsFailedOrMemory, IsFailedOrOverflow, IsRefusal, CannotHold, FitsItself, FitsWith, appended, bound_to, empty_over, named_rows, null_rows_of};
+ghost use Rattle.arrow_flat_growable.specs.Grown.{AreOfOneType, HandsOut, HasFailed, IsFailedOrOverflow, IsRefusal, CannotHold, FitsItself, FitsWith, appended, bound_to, empty_over, named_rows, null_rows_of};
 ghost use Rattle.arrow_flat_growable.specs.Nulls.{CannotCount, IsGrownNull, null_layout};
 
 use crate::growable::Growable;
@@ -93,10 +93,7 @@ impl GrowableNull {
     /// # Errors
     /// `Failed` where an earlier call refused.
     pub fn into_array(self) -> Result<NullArray, Error>
-        ensures ok { IfOk result (λ array. (array.arrow_type ≡ self.arrow_type)
-            × (null_rows array ≡ self.rows)) }
-        ensures failed { (result ≡ Err Error.Failed) ↔ (self.failed ≡ true) }
-        ensures others { IfErr result IsFailedOrMemory }
+        ensures answer { HandsOut (λ array. array.arrow_type) null_rows self result }
     {
         if self.has_failed {
             return Err(Error::Failed);

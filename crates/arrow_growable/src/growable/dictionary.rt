@@ -10,7 +10,7 @@ ghost use Rattle.arrow_arrays.specs.Any.{any_array_rows, any_array_type, diction
 ghost use Rattle.arrow_arrays.specs.Crowded.{Unjoined, child_of};
 ghost use Rattle.arrow_arrays.specs.KeyedParts.{keyed_layout, keyed_rows};
 ghost use Rattle.arrow_arrays.specs.Layout.{type_of_layout};
-ghost use Rattle.arrow_flat_growable.specs.Grown.{AreOfOneType, CannotHold, FitsItself, HasFailed, IsFailedOrMemory, IsRefusal, NamesRows, appended, bound_to, empty_over, first_type, named_rows};
+ghost use Rattle.arrow_flat_growable.specs.Grown.{AreOfOneType, CannotHold, FitsItself, HandsOut, HasFailed, IsFailedOrMemory, IsRefusal, NamesRows, appended, bound_to, empty_over, first_type, named_rows};
 ghost use Rattle.arrow_growable.specs.Dictionary.{StartsAt, AreUncrowded, joined_values};
 
 use crate::growable::join::join_arrays;
@@ -59,7 +59,8 @@ impl<'a> Model for GrowableDictionary<'a> {
     ghost use Rattle.arrow_arrays.specs.Any.{any_array_rows, layout_of};
     ghost use Rattle.arrow_arrays.specs.KeyedParts.{keyed_layout};
     ghost use Rattle.arrow_flat_growable.specs.Grown.{Grown, grown_code};
-    ghost use Rattle.arrow_flat_growable.specs.Keys.{grown_key_type, key_slots};
+    ghost use Rattle.arrow_flat_growable.specs.Flat.{BindsAll};
+    ghost use Rattle.arrow_flat_growable.specs.Keys.{BindsKeys, grown_key_type, key_slots, key_sources};
     ghost use Rattle.arrow_growable.specs.Dictionary.{IsGrownDictionary, dictionary_rows};
 
     ghost Value = { Grown };
@@ -76,7 +77,7 @@ impl<'a> Model for GrowableDictionary<'a> {
 
     ghost invariant = { λ a. IsGrownDictionary (grown_key_type a.keys) a.starts.items (layout_of a.values)
         a.validity (key_slots a.keys) a.len (map (λ r. keyed_layout r.now) a.arrays.items)
-        (type_of a.data_type) a.has_failed };
+        (type_of a.data_type) a.has_failed × BindsAll (BindsKeys (key_sources a.keys)) a.arrays.items };
 }
 
 impl<'a> GrowableDictionary<'a> {
@@ -131,7 +132,7 @@ impl<'a> GrowableDictionary<'a> {
     {
         let starts = starts_of(alloc, arrays, values.len())?;
         let first: &'a DictionaryArray = arrays[0];
-        let keys = GrowableKeys::new(alloc, first.keys(), capacity)?;
+        let keys = GrowableKeys::new(alloc, first.keys(), arrays, capacity)?;
         let validity = GrowableValidity::new(alloc, use_validity, capacity)?;
         let mut bound: Vec<&'a DictionaryArray> = Vec::with_capacity(alloc, arrays.len())?;
         bound.extend_from_slice(arrays)?;
@@ -165,7 +166,7 @@ impl<'a> GrowableDictionary<'a> {
         let values = Box::new(self.alloc, self.values.clone()?)?;
         let fresh = self.validity.fresh()?;
         let validity = mem::replace(&mut self.validity, fresh).into_validity()?;
-        let fresh = self.keys.fresh(self.alloc);
+        let fresh = self.keys.fresh()?;
         let keys = mem::replace(&mut self.keys, fresh).into_keys(self.alloc, validity)?;
         let array = DictionaryArray::new(data_type, keys, values);
         self.len = 0;
@@ -178,10 +179,7 @@ impl<'a> GrowableDictionary<'a> {
     /// # Errors
     /// `Failed` where an earlier call refused; `OutOfMemory` where memory is refused.
     pub fn into_array(self) -> Result<DictionaryArray, Error>
-        ensures ok { IfOk result (λ array. (array.arrow_type ≡ self.entry.arrow_type)
-            × (keyed_rows array ≡ self.entry.rows)) }
-        ensures failed { (result ≡ Err Error.Failed) ↔ (self.entry.failed ≡ true) }
-        ensures others { IfErr result IsFailedOrMemory }
+        ensures answer { HandsOut (λ array. array.arrow_type) keyed_rows self.entry result }
     {
         let mut growable = self;
         growable.take_array()
@@ -302,7 +300,7 @@ impl<'a> Growable<'a> for GrowableDictionary<'a> {
         let count = array.values().len();
         self.validity.extend_from(array.validity(), start, len)?;
         self.keys
-            .extend_within(keys, start, len, self.starts[index], count)?;
+            .extend_within(index, keys, start, len, self.starts[index], count)?;
         self.len = total;
         self.has_failed = false;
         Ok(())

@@ -5,7 +5,7 @@ ghost use Rattle.arrow_types.specs.declared.error.Error.{Error};
 ghost use Rattle.arrow_memory.specs.Grown.{IsGrowthError};
 ghost use Rattle.arrow_arrays.specs.Crowded.{Unjoined};
 ghost use Rattle.arrow_arrays.specs.Layout.{rows, type_of_layout};
-ghost use Rattle.arrow_flat_growable.specs.Grown.{AreOfOneType, IsFailedOrMemory, bound_to, first_type};
+ghost use Rattle.arrow_flat_growable.specs.Grown.{AreOfOneType, HandsOut, bound_to, first_type};
 
 use crate::growable::Growable;
 use crate::growable::bound::NestedArray;
@@ -92,10 +92,8 @@ impl<'a, A: NestedArray> GrowableOf<'a, A> {
     /// # Errors
     /// `Failed` where an earlier call refused; `OutOfMemory` where memory is refused.
     pub fn into_array(self) -> Result<A, Error>
-        ensures ok { IfOk result (λ array. (type_of_layout (A.layout_in array) ≡ self.entry.arrow_type)
-            × (rows (A.layout_in array) ≡ self.entry.rows)) }
-        ensures failed { (result ≡ Err Error.Failed) ↔ (self.entry.failed ≡ true) }
-        ensures others { IfErr result IsFailedOrMemory }
+        ensures answer { HandsOut (λ array. type_of_layout (A.layout_in array))
+            (λ array. rows (A.layout_in array)) self.entry result }
     {
         let GrowableOf { nested, kind: _ } = self;
         let mut nested = nested;

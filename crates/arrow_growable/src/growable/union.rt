@@ -12,7 +12,7 @@ ghost use Rattle.arrow_arrays.specs.Crowded.{Unjoined, child_at};
 ghost use Rattle.arrow_arrays.specs.Layout.{type_of_layout};
 ghost use Rattle.arrow_arrays.specs.TypeParts.{field_types};
 ghost use Rattle.arrow_arrays.specs.UnionParts.{union_layout, union_rows};
-ghost use Rattle.arrow_flat_growable.specs.Grown.{AreOfOneType, HasFailed, IsFailedOrMemory, bound_to, empty_over, first_type};
+ghost use Rattle.arrow_flat_growable.specs.Grown.{AreOfOneType, HandsOut, HasFailed, IsFailedOrMemory, bound_to, empty_over, first_type};
 ghost use Rattle.arrow_growable.specs.AnyGrowable.{grown_of};
 ghost use Rattle.arrow_growable.specs.GrownUnion.{HaveFieldTypes, no_offsets, offsets_in, union_children};
 ghost use Rattle.arrow_growable.specs.Variants.{variant_type};
@@ -168,10 +168,7 @@ impl<'a> GrowableUnion<'a> {
     /// # Errors
     /// `Failed` where an earlier call refused; `OutOfMemory` where memory is refused.
     pub fn into_array(self) -> Result<UnionArray, Error>
-        ensures ok { IfOk result (λ array. (array.arrow_type ≡ self.entry.arrow_type)
-            × (union_rows array ≡ self.entry.rows)) }
-        ensures failed { (result ≡ Err Error.Failed) ↔ (self.entry.failed ≡ true) }
-        ensures others { IfErr result IsFailedOrMemory }
+        ensures answer { HandsOut (λ array. array.arrow_type) union_rows self.entry result }
     {
         let mut growable = self;
         growable.take_array()

@@ -7,18 +7,29 @@ ghost use Rattle.arrow_types.specs.Rows.{mask, masked, valid_at};
 ghost use Rattle.arrow_types.specs.Slot.{Null};
 ghost use Rattle.arrow_memory.specs.Sliced.{sliced};
 ghost use Rattle.arrow_memory.specs.Words.{low_bits};
-ghost use Rattle.arrow_flat.specs.Parts.{FitsRows};
+ghost use Rattle.arrow_flat.specs.Parts.{FitsRows, rows_by};
+ghost use Rattle.arrow_arrays.specs.AnyKeys.{key_rows, key_type_of};
 ghost use Rattle.arrow_arrays.specs.KeyedParts.{AreKeys, IsKey};
 ghost use Rattle.arrow_flat_growable.specs.Keys.{grown_key, fitting_keys};
 
+use arrow_arrays::array::AnyKeys;
+use arrow_flat::array::PrimitiveArray;
 use arrow_memory::bitmap::{Bitmap, WORD_BITS};
 use arrow_types::types::DictionaryKey;
 
 /// How many rows the half of a word has a bit for.
 const HALF_BITS: usize = 32;
 
-/// A key that can be moved.
+/// A key that can be moved, and that keys of any type may be of.
 pub(crate) trait MovedKey: DictionaryKey {
+    /// Keys of any type as those of this one.
+    ///
+    /// # Requires
+    /// They are of this type.
+    fn of_keys(keys: &AnyKeys) -> &PrimitiveArray<Self>
+        requires { key_type_of keys.now ≡ Self.KEY_TYPE }
+        ensures { rows_by (map Self.slot) result.now ≡ key_rows keys.now };
+
     /// The key behind so many values more.
     ///
     /// # Requires
@@ -31,48 +42,104 @@ pub(crate) trait MovedKey: DictionaryKey {
 }
 
 impl MovedKey for i8 {
+    fn of_keys(keys: &AnyKeys) -> &PrimitiveArray<i8> {
+        match keys {
+            AnyKeys::Int8(keys) => keys,
+            _ => unreachable!(),
+        }
+    }
+
     fn moved(self, by: i8) -> i8 {
         self + by
     }
 }
 
 impl MovedKey for i16 {
+    fn of_keys(keys: &AnyKeys) -> &PrimitiveArray<i16> {
+        match keys {
+            AnyKeys::Int16(keys) => keys,
+            _ => unreachable!(),
+        }
+    }
+
     fn moved(self, by: i16) -> i16 {
         self + by
     }
 }
 
 impl MovedKey for i32 {
+    fn of_keys(keys: &AnyKeys) -> &PrimitiveArray<i32> {
+        match keys {
+            AnyKeys::Int32(keys) => keys,
+            _ => unreachable!(),
+        }
+    }
+
     fn moved(self, by: i32) -> i32 {
         self + by
     }
 }
 
 impl MovedKey for i64 {
+    fn of_keys(keys: &AnyKeys) -> &PrimitiveArray<i64> {
+        match keys {
+            AnyKeys::Int64(keys) => keys,
+            _ => unreachable!(),
+        }
+    }
+
     fn moved(self, by: i64) -> i64 {
         self + by
     }
 }
 
 impl MovedKey for u8 {
+    fn of_keys(keys: &AnyKeys) -> &PrimitiveArray<u8> {
+        match keys {
+            AnyKeys::UInt8(keys) => keys,
+            _ => unreachable!(),
+        }
+    }
+
     fn moved(self, by: u8) -> u8 {
         self + by
     }
 }
 
 impl MovedKey for u16 {
+    fn of_keys(keys: &AnyKeys) -> &PrimitiveArray<u16> {
+        match keys {
+            AnyKeys::UInt16(keys) => keys,
+            _ => unreachable!(),
+        }
+    }
+
     fn moved(self, by: u16) -> u16 {
         self + by
     }
 }
 
 impl MovedKey for u32 {
+    fn of_keys(keys: &AnyKeys) -> &PrimitiveArray<u32> {
+        match keys {
+            AnyKeys::UInt32(keys) => keys,
+            _ => unreachable!(),
+        }
+    }
+
     fn moved(self, by: u32) -> u32 {
         self + by
     }
 }
 
 impl MovedKey for u64 {
+    fn of_keys(keys: &AnyKeys) -> &PrimitiveArray<u64> {
+        match keys {
+            AnyKeys::UInt64(keys) => keys,
+            _ => unreachable!(),
+        }
+    }
+
     fn moved(self, by: u64) -> u64 {
         self + by
     }

@@ -99,4 +99,4 @@ returns-clause-rows c =
     let second = grown_right c.extend-2.new.self c.extend-3.new.self l r j (c.len-3.result - j) sources c.in_ok-extend-4.ensures.ok in
     let all : c.extend-3.new.self.rows ≡ (c.loop-i.growable.rows ++ sliced left i (length left - i)) ++ sliced right j (length right - j) = second ∙ (λ t. (first ∙ ap (λ n. c.loop-i.growable.rows ++ sliced left i (n - i)) c.len-2.ensures.rows) t ++ sliced right j (c.len-3.ensures.rows t - j)) in
     let merged = merges_all left right c.loop-i.growable.rows i j past so_far.merges in
-    IfOk-weaker c.into_array.result _ _ (λ array is. subst (IsMerge left right) (sym (is.1 ∙ all)) merged) c.into_array.ensures.ok
+    IfOk-weaker c.into_array.result _ _ (λ array is. subst (IsMerge left right) (sym (is.1 ∙ all)) merged) c.into_array.ensures.answer.ok

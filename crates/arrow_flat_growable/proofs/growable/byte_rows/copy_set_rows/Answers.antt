@@ -1,4 +1,4 @@
-use Rattle.std.proofs.Common.{◌≡◌, ◌∙◌, ◌++◌, ap}
+use Rattle.std.proofs.Common.{◌∙◌, ◌++◌, ap}
 use Rattle.std.proofs.lemmas.List.{append-nil}
 use Rattle.arrow_memory.specs.Sliced.{sliced}
 use Rattle.arrow_flat_growable.specs.GrownParts.{with_parts}

@@ -1,13 +1,11 @@
-use Rattle.std.proofs.Common.{◌≡◌, ◌++◌, length, map, replicate, refl, ap, rules, arith, ◌∙◌}
-use Rattle.std.specs.Vec.{vec_len}
+use Rattle.std.proofs.Common.{◌++◌, ◌∙◌, map, replicate, refl, ap}
 use Rattle.arrow_types.specs.Slot.{Number}
-use Rattle.arrow_flat_growable.proofs.StoreLemmas.{grown_to, slots_constant}
+use Rattle.arrow_flat_growable.proofs.ResultLemmas.{on_ok}
+use Rattle.arrow_flat_growable.proofs.StoreLemmas.{slots_constant}
 use Rattle.arrow_flat_growable.proofs.growable.keys.append_zeros.Goals as goal
 
 pub returns-clause-ok : goal.returns-clause-ok
 returns-clause-ok g c =
-    let keys = c.args.keys.now.items in
-    let long : length keys ≡ vec_len c.args.keys.now = search rules in
-    let grown : c.resize.new.self.items ≡ keys ++ replicate c.args.additional c.default.result = grown_to keys c.resize.new.self.items c.default.result _ (vec_len c.args.keys.now) c.args.additional c.in_ok-resize.ensures.items long (omega (arith, c.len.ensures)) in
+    let slot = g.K.NativeType.slot in
     let zero = g.met.K.NativeOrd.slot_is_number g.K.NativeType.zero ∙ ap Number g.met.K.NativeOrd.zero_is_zero in
-    slots_constant g.K.NativeType.slot keys keys c.resize.new.self.items c.args.additional c.default.result g.K.NativeType.zero refl (g.met.K.NativeType.default_is_zero c.default.result c.default.ensures) grown ∙ ap (λ s. map g.K.NativeType.slot keys ++ replicate c.args.additional s) zero
+    on_ok c.append_zeros.result c.append_zeros.ensures.ok (λ is. slots_constant slot c.args.keys.now.1 c.args.keys.now.1 c.append_zeros.new.self.1 c.args.additional g.K.NativeType.zero g.K.NativeType.zero refl refl is ∙ ap (λ s. map slot c.args.keys.now.1 ++ replicate c.args.additional s) zero)

@@ -20,4 +20,4 @@ returns-clause-rows g c =
     let layout = g.A.NestedArray.layout_in c.args.values.now in
     let indices = rows_by (map g.I.NativeType.slot) c.args.indices.now in
     let held = subst (λ h. HasAppended (first_bound h ∷ []) c.append_taken.new.growable (gather (rows (first_bound h)) indices (type_of_layout (first_bound h)))) c.requires.bound c.in_ok-append_taken.ensures.ok in
-    rows_of (λ array. type_of_layout (g.A.NestedArray.layout_in array)) (λ array. rows (g.A.NestedArray.layout_in array)) (type_of_layout layout) _ c.into_array.result (hands_out (λ array. type_of_layout (g.A.NestedArray.layout_in array)) (λ array. rows (g.A.NestedArray.layout_in array)) (layout ∷ []) c.append_taken.new.growable _ held c.into_array.result c.into_array.ensures.ok c.into_array.ensures.failed c.into_array.ensures.others)
+    rows_of (λ array. type_of_layout (g.A.NestedArray.layout_in array)) (λ array. rows (g.A.NestedArray.layout_in array)) (type_of_layout layout) _ c.into_array.result (hands_out (λ array. type_of_layout (g.A.NestedArray.layout_in array)) (λ array. rows (g.A.NestedArray.layout_in array)) (layout ∷ []) c.append_taken.new.growable _ held c.into_array.result c.into_array.ensures.answer)

@@ -24,5 +24,5 @@ returns g c =
     let p = c.args.values.now in
     let indices = rows_by (map g.I.NativeType.slot) c.args.indices.now in
     let held = subst (λ h. HasAppended (first_bound h ∷ []) c.append_taken.new.growable (gather (rows (first_bound h)) indices (type_of_layout (first_bound h)))) c.requires.bound c.in_ok-append_taken.ensures.ok in
-    let answer = hands_out (λ array. array.arrow_type) union_rows (union_layout p ∷ []) c.append_taken.new.growable _ held c.into_array.result c.into_array.ensures.ok c.into_array.ensures.failed c.into_array.ensures.others in
+    let answer = hands_out (λ array. array.arrow_type) union_rows (union_layout p ∷ []) c.append_taken.new.growable _ held c.into_array.result c.into_array.ensures.answer in
     record { answer = subst (λ t. Answers (λ array. array.arrow_type) union_rows c.into_array.result t (gather (union_rows p) indices t)) (union_type p) answer }

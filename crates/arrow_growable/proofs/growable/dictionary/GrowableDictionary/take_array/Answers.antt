@@ -10,7 +10,7 @@ use Rattle.arrow_growable.proofs.growable.dictionary.GrowableDictionary.take_arr
 
 pub returns-clause-ok : goal.returns-clause-ok
 returns-clause-ok c =
-    let was = c.self.invariant.holds c.if-self.false in
+    let was = c.self.invariant.0.holds c.if-self.false in
     let same_type : type_of c.in_ok-data_type.data_type ≡ type_of c.self.inside.data_type = search rules in
     let same_values : layout_of c.in_ok-values.values.value ≡ layout_of c.self.inside.values = search rules in
     let bits : c.replace.result ≡ c.self.inside.validity = search rules in

@@ -8,7 +8,8 @@ use Rattle.arrow_arrays.specs.Any.{any_array_rows}
 use Rattle.arrow_arrays.specs.KeyedParts.{keyed_layout}
 use Rattle.arrow_arrays.proofs.ShapeLemmas.{dictionary_shape, null_slot-shape, shape_of}
 use Rattle.arrow_flat_growable.specs.Grown.{FitsWith, null_rows_of}
-use Rattle.arrow_flat_growable.specs.Keys.{key_slots}
+use Rattle.arrow_flat_growable.specs.Flat.{BindsAll}
+use Rattle.arrow_flat_growable.specs.Keys.{BindsKeys, key_slots}
 use Rattle.arrow_flat_growable.proofs.FlatLemmas.{too_many}
 use Rattle.arrow_growable.specs.Dictionary.{HoldsKeys, dictionary_rows}
 use Rattle.arrow_growable.proofs.DictionaryLemmas.{counted_fit, holds_nulls, nulls_behind, rows_counted}
@@ -18,24 +19,24 @@ pub returns-in_default-clause-overflow : goal.returns-in_default-clause-overflow
 returns-in_default-clause-overflow c overflows =
     let before = dictionary_rows (any_array_rows c.self.inside.values) c.self.inside.validity (key_slots c.self.inside.keys) in
     let t = type_of c.self.inside.data_type in
-    subst (λ h. FitsWith h (null_rows_of h c.args.additional) → ⊥) c.self.view_is (λ fits. too_many t before (replicate c.args.additional (null_slot t)) c.self.inside.len c.args.additional fits (rows_counted _ _ _ _ _ (c.self.invariant.holds c.if-self.false)) (length-replicate c.args.additional (null_slot t)) (omega (arith, c.in_default.ensures)))
+    subst (λ h. FitsWith h (null_rows_of h c.args.additional) → ⊥) c.self.view_is (λ fits. too_many t before (replicate c.args.additional (null_slot t)) c.self.inside.len c.args.additional fits (rows_counted _ _ _ _ _ (c.self.invariant.0.holds c.if-self.false)) (length-replicate c.args.additional (null_slot t)) (omega (arith, c.in_default.ensures)))
 
 held : (c : goal.After-self-3-1) → HoldsKeys c.extend_nulls.new.self (key_slots c.extend_nulls-2.new.self) c.in-Some.total (length (any_array_rows c.self.inside.values))
 held c =
-    let holds = holds_nulls c.self.inside.validity (key_slots c.self.inside.keys) c.self.inside.len c.in-Some.total c.args.additional _ (omega (arith, c.in-Some.ensures)) (c.self.invariant.holds c.if-self.false) in
+    let holds = holds_nulls c.self.inside.validity (key_slots c.self.inside.keys) c.self.inside.len c.in-Some.total c.args.additional _ (omega (arith, c.in-Some.ensures)) (c.self.invariant.0.holds c.if-self.false) in
     rw (c.in_ok-extend_nulls.ensures.ok, c.in_ok-extend_nulls-2.ensures.ok) holds
 
 pub invariant_of-self-2 : goal.invariant_of-self-2
 invariant_of-self-2 c =
-    let inv = c.self.invariant in
-    record { kind = subst (λ k. IsCarriedAs (physical.Dictionary k) (type_of c.self.inside.data_type)) (sym c.in_ok-extend_nulls-2.ensures.same) inv.kind; one_type = inv.one_type; child = inv.child; joined = inv.joined; begun = inv.begun; holds = λ well. held c }
+    let inv = c.self.invariant.0 in
+    (record { kind = subst (λ k. IsCarriedAs (physical.Dictionary k) (type_of c.self.inside.data_type)) (sym c.in_ok-extend_nulls-2.ensures.same) inv.kind; one_type = inv.one_type; child = inv.child; joined = inv.joined; begun = inv.begun; holds = λ well. held c }, subst (λ sources. BindsAll (BindsKeys sources) c.self.inside.arrays.items) (sym c.in_ok-extend_nulls-2.ensures.bound) c.self.invariant.1)
 
 pub returns-clause-ok : goal.returns-clause-ok
 returns-clause-ok c =
     let t = type_of c.self.inside.data_type in
     let values = any_array_rows c.self.inside.values in
-    let was = c.self.invariant.holds c.if-self.false in
-    let slot : null_slot t ≡ Null = null_slot-shape t dictionary_shape (ap shape_of c.self.invariant.kind.1) (λ same. cc) in
+    let was = c.self.invariant.0.holds c.if-self.false in
+    let slot : null_slot t ≡ Null = null_slot-shape t dictionary_shape (ap shape_of c.self.invariant.0.kind.1) (λ same. cc) in
     let before = dictionary_rows values c.self.inside.validity (key_slots c.self.inside.keys) in
     let grown = (λ i. dictionary_rows values (c.in_ok-extend_nulls.ensures.ok i) (c.in_ok-extend_nulls-2.ensures.ok i)) ∙ (nulls_behind values c.self.inside.validity (key_slots c.self.inside.keys) c.args.additional (was.covered ∙ sym was.counted) ∙ ap (λ s. before ++ replicate c.args.additional s) (sym slot)) in
     let count : c.in-Some.total ≡ c.self.inside.len + length (replicate c.args.additional (null_slot t)) = omega (arith, c.in-Some.ensures, length-replicate c.args.additional (null_slot t)) in
@@ -44,4 +45,4 @@ returns-clause-ok c =
 pub returns-clause-fits : goal.returns-clause-fits
 returns-clause-fits c =
     let many = rows_counted (any_array_rows c.self.inside.values) _ _ _ _ (held c) in
-    counted_fit (type_of c.self.inside.data_type) _ (ap shape_of c.self.invariant.kind.1) (omega (arith, many, c.in-Some.ensures))
+    counted_fit (type_of c.self.inside.data_type) _ (ap shape_of c.self.invariant.0.kind.1) (omega (arith, many, c.in-Some.ensures))

@@ -3,4 +3,4 @@ use Rattle.arrow_growable.proofs.growable.dictionary.GrowableDictionaryGrowable.
 
 pub returns-clause-rows : goal.returns-clause-rows
 returns-clause-rows c =
-    rw (← c.self.view_is) (λ well. rows_counted _ _ _ _ _ (c.self.invariant.holds well))
+    rw (← c.self.view_is) (λ well. rows_counted _ _ _ _ _ (c.self.invariant.0.holds well))
