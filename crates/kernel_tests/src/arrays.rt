@@ -1,16 +1,20 @@
 //! What lies in arrays, beneath nulls too.
 
-use arrow_arrays::array::AnyArray;
+use arrow_arrays::array::{AnyArray, AnyKeys};
 use arrow_flat::array::{AnyPrimitive, BooleanArray, PrimitiveArray};
 use arrow_text::fault::Fault;
 
 /// Numbers of 32 bits.
 pub type Numbers = PrimitiveArray<i32>;
 
-/// An array of numbers.
+/// An array of numbers, or the keys of one of dictionaries.
 pub fn numbers(array: &AnyArray) -> Result<&Numbers, Fault> {
     match array {
         AnyArray::Primitive(AnyPrimitive::Int32(numbers)) => Ok(numbers),
+        AnyArray::Dictionary(array) => match array.keys() {
+            AnyKeys::Int32(keys) => Ok(keys),
+            _ => Err(Fault::Usage),
+        },
         _ => Err(Fault::Usage),
     }
 }

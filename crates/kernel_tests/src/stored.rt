@@ -23,7 +23,7 @@ const ANSWERS: [(&str, Answer); 4] = [
     ("growable", grows),
 ];
 
-// Whether a call made an array that is equal to another one, beneath nulls too: of numbers, or of texts.
+// Whether a call made an array that is equal to another one, beneath nulls too: of numbers, of texts, or by its keys.
 fn is_same(
     alloc: Global,
     outcome: Result<AnyArray, Error>,
@@ -79,14 +79,18 @@ fn grows(alloc: Global, _name: &str, arrays: &[AnyArray]) -> Result<bool, Fault>
     }
 }
 
-/// Rows, and what is stored: numbers, or the bytes of texts.
-const LINES: [Line; 5] = [
+/// Rows, and what is stored: numbers, the bytes of texts, or the keys of dictionaries.
+const LINES: [Line; 6] = [
     ["nullif i32[1,_7,3,_4] i32[1,2,_3,4] i32[_1,_7,3,_4]", ""],
     [r#"length utf8["abc",_"d",""] i32[3,_0,0]"#, ""],
     [r#"substring utf8["abc",_"d",""] utf8["b",_,""]"#, ""],
     ["growable i32[1,2] i32[3,4] i32[1,2] i32[2,_0,3,4]", ""],
     [
         r#"growable utf8["a","b"] utf8["c",_"d"] utf8["a","b"] utf8["b",_,"c",_]"#,
+        "",
+    ],
+    [
+        r#"growable dict<i32,utf8>{keys=i32[0,_1];values=utf8["a","b"]} dict<i32,utf8>{keys=i32[_7,0];values=utf8["c"]} dict<i32,utf8>{keys=i32[0,_0];values=utf8["a","b"]} dict<i32,utf8>{keys=i32[_0,_0,_0,2];values=utf8["a","b","c"]}"#,
         "",
     ],
 ];
