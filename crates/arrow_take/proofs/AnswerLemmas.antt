@@ -1,6 +1,6 @@
 -- Answers that pass an error on, and those that a growable hands out.
-use Rattle.std.proofs.Common.{◌≡◌, ◌↔◌, ◌∙◌, true, false, List, Result, Ok, Err, ap, refl, sym, subst}
-use Rattle.std.specs.Prelude.{IfOk, IfErr}
+use Rattle.std.proofs.Common.{◌≡◌, ◌∙◌, true, false, List, Result, Ok, Err, ap, refl, sym, subst}
+use Rattle.std.specs.Prelude.{IfOk}
 use Rattle.std.specs.Result.{IsErrAnd}
 use Rattle.arrow_types.specs.declared.error.Error.{Error}
 use Rattle.arrow_types.specs.declared.error.Error.TheVariants.{Failed, OutOfMemory, Overflow}

@@ -9,7 +9,7 @@ use Rattle.arrow_types.specs.TypeOf.{type_of}
 use Rattle.arrow_flat.specs.DictionaryScalar.{values_in}
 use Rattle.arrow_arrays.specs.Any.{any_array_rows, layout_of}
 use Rattle.arrow_arrays.specs.KeyedParts.{AreKeys, keyed_layout}
-use Rattle.arrow_arrays.specs.Layout.{Layout, type_of_layout}
+use Rattle.arrow_arrays.specs.Layout.{type_of_layout}
 use Rattle.arrow_flat_growable.specs.Flat.{BindsAll}
 use Rattle.arrow_flat_growable.specs.Grown.{first_type}
 use Rattle.arrow_flat_growable.specs.Keys.{BindsKeys, grown_key_type, key_slots, key_sources}
