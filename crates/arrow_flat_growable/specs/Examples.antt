@@ -6,6 +6,7 @@ use Rattle.arrow_types.specs.ArrowType.{ArrowType, plain, integer, null, union, 
 use Rattle.arrow_types.specs.Slot.{Slot, Null, Number, Variant}
 use Rattle.arrow_arrays.specs.Layout.{flat}
 use Rattle.arrow_flat_growable.specs.Grown.{Grown, appended, bound_to, empty_over, named_rows, null_rows_of}
+use Rattle.arrow_flat_growable.specs.Keys.{StoresKeys}
 
 abbrev int32 : ArrowType
 int32 = plain (integer Int32)
@@ -40,3 +41,7 @@ pair_of_ints = union Sparse (Some (pos 5 ∷ pos 7 ∷ [])) (more_fields (field 
 
 null_of_union : null_rows_of (empty_over pair_of_ints (Some [])) 1 ≡ Variant (pos 5) Null ∷ []
 null_of_union = refl
+
+-- the keys null and 9 of an array that stores 7 beneath the null
+keys_stored : StoresKeys (one 7 ∷ one 9 ∷ []) (None ∷ Some 9 ∷ [])
+keys_stored = (tt, (refl, tt))
