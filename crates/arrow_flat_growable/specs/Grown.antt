@@ -1,5 +1,5 @@
 -- What a growable means: the arrays that it takes rows from, the rows that it holds, and whether it has refused.
-use Rattle.std.specs.Prelude.{ℕ, ◌≡◌, ◌↔◌, ◌+◌, ◌<◌, ◌≤◌, Bool, true, false, List, [], ◌∷◌, ◌++◌, ◌⊎◌, length, replicate, slice_index_or, take, Option, Some, None, Result, Err, IfOk, IfErr, refl}
+use Rattle.std.specs.Prelude.{ℕ, ◌≡◌, ◌↔◌, ◌+◌, ◌<◌, ◌≤◌, Bool, true, false, List, [], ◌∷◌, ◌++◌, ◌⊎◌, length, replicate, slice_index_or, take, Option, Some, None, Result, Err, IfOk, IfErr, IsOkUnless, refl}
 use Rattle.std.specs.List.{All}
 use Rattle.std.specs.Coded.{Coded, code_by, coded×, coded_list, coded_option, coded_bool, coded_ℕ}
 use Rattle.arrow_types.specs.declared.error.Error.{Error}
@@ -100,6 +100,11 @@ pub record HasFailed (old new : Grown) : Type 0 where
   pub same_sources : new.sources ≡ old.sources
   pub same_count : new.count ≡ old.count
   pub has_failed : new.failed ≡ true
+
+-- a growable that is made: without rows, over these arrays, and refused only where memory is
+pub record Binds (layouts : List Layout) (result : Result Grown Error) : Type 0 where
+  pub ok : IfOk result (λ growable. growable ≡ bound_to layouts)
+  pub err : IsOkUnless result OutOfMemory
 
 -- its rows fit its type. Those of a dense union too: each row is copied apart, though rows of a bound array may share one of a child
 abbrev pub FitsItself : Grown → Type 0

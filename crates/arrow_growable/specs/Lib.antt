@@ -12,6 +12,7 @@ pub mod Join
 pub mod GrownUnion
 pub mod Lies
 pub mod Lists
+pub mod Made
 pub mod Nested
 pub mod Source
 pub mod Spans

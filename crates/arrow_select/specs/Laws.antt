@@ -66,6 +66,10 @@ IsKept ps array kept = any_array_meaning kept ≡ kept_of ps array
 abbrev pub IsShifted : ℤ → AnyArray → AnyArray → Type 0
 IsShifted offset array moved = any_array_meaning moved ≡ shifted_of offset array
 
+-- two results of one call by two arrays
+abbrev pub AreShifted : ℤ → AnyArray → AnyArray → AnyArray → AnyArray → Type 0
+AreShifted offset array moved other other_moved = IsShifted offset array moved × IsShifted offset other other_moved
+
 abbrev pub IsGathered : List Slot → AnyArray → AnyArray → Type 0
 IsGathered indices array taken = any_array_meaning taken ≡ gathered_of indices array
 

@@ -1,7 +1,9 @@
 -- Rows of columns that a mask keeps, and values and bits at which a mask is set.
-use Rattle.std.specs.Prelude.{◌≡◌, ◌+◌, ◌<◌, ◌≤◌, ℕ, Bool, List, Option, [], ◌∷◌, Some, length, map, slice_get, take, if◌then◌else◌}
+use Rattle.std.specs.Prelude.{◌≡◌, ◌+◌, ◌<◌, ◌≤◌, ℕ, Bool, List, Option, Result, [], ◌∷◌, ◌++◌, Some, length, map, slice_get, take, if◌then◌else◌, IsOkUnless, OnErr, OnOk}
 use Rattle.std.specs.Int.{bit_at}
 use Rattle.std.specs.List.{All}
+use Rattle.arrow_types.specs.declared.error.Error.{Error}
+use Rattle.arrow_types.specs.declared.error.Error.TheVariants.{OutOfMemory}
 use Rattle.arrow_types.specs.Fits.{Fits}
 use Rattle.arrow_types.specs.Rows.{masked, select}
 use Rattle.arrow_types.specs.Slot.{Slot, Null, null_slot}
@@ -45,6 +47,12 @@ at_set _ _ = []
 -- the values at which the bits of a word are set, from the least significant one on; bits past the values count for nothing
 abbrev pub set_in_word : {A : Type 0} → ℕ → List A → List A
 set_in_word word xs = at_set (low_bits word (length xs)) xs
+
+-- a call that appends these, and leaves all as before where memory is refused
+pub record AppendsOrStays {A : Type 0} (old new more : List A) (result : Result (Unit {0}) Error) : Type 0 where
+  pub ok : OnOk result (new ≡ old ++ more)
+  pub unchanged : OnErr result (new ≡ old)
+  pub err : IsOkUnless result OutOfMemory
 
 -- the bits of a word, from the least significant one on
 unfoldable pub word_bits : ℕ → List Bool

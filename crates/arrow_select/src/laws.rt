@@ -10,7 +10,7 @@ ghost use Rattle.arrow_arrays.specs.Any.{any_array_rows, any_array_type};
 ghost use Rattle.arrow_arrays.specs.Layout.{rows, type_of_layout};
 ghost use Rattle.arrow_select.specs.Arrays.{rows_in, types_in};
 ghost use Rattle.arrow_choice.specs.Keys.{HasNoDictionary};
-ghost use Rattle.arrow_select.specs.Laws.{CanTakeByFields, HasFitting, IsChoice, IsGathered, IsKept, IsSelected, IsShifted, IsStructOrUnion, MeanSame, RowsFit, chosen_of, cut_at, dense_nulls, dense_rows, gathered_of, kept_columns, kept_of, kept_places, rows_of_both, selected_of, shifted_of};
+ghost use Rattle.arrow_select.specs.Laws.{AreShifted, CanTakeByFields, HasFitting, IsChoice, IsGathered, IsKept, IsSelected, IsShifted, IsStructOrUnion, MeanSame, RowsFit, chosen_of, cut_at, dense_nulls, dense_rows, gathered_of, kept_columns, kept_of, kept_places, rows_of_both, selected_of, shifted_of};
 ghost use Rattle.arrow_select.specs.Selected.{FirstDoesNotFit};
 ghost use Rattle.arrow_take.specs.Taken.{AreIndices};
 
@@ -94,8 +94,7 @@ pub fn shift_goes_by_rows(
     offset: i64,
 )
     requires same { MeanSame other.now array.now }
-    requires moved { IsShifted offset array.now moved.now }
-    requires other_moved { IsShifted offset other.now other_moved.now }
+    requires moved { AreShifted offset array.now moved.now other.now other_moved.now }
     ensures { MeanSame other_moved.now moved.now }
 {}
 

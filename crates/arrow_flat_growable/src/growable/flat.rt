@@ -14,7 +14,7 @@ ghost use Rattle.arrow_flat.specs.Parts.{FitsRows, bits_of_slice};
 ghost use Rattle.arrow_arrays.specs.Any.{Kind, kind_of, layout_of};
 ghost use Rattle.arrow_arrays.specs.Layout.{flat};
 ghost use Rattle.arrow_flat_growable.specs.Flat.{BindsAll, Covers, KeepsBound, flat_layout};
-ghost use Rattle.arrow_flat_growable.specs.Grown.{Grown, AreOfOneType, FitsItself, FitsWith, HandsOut, HasFailed, IsRefusal, NamesRows, appended, bound_to, named_rows};
+ghost use Rattle.arrow_flat_growable.specs.Grown.{Grown, AreOfOneType, Binds, FitsItself, FitsWith, HandsOut, HasFailed, IsRefusal, NamesRows, appended, named_rows};
 
 use crate::growable::Growable;
 use crate::growable::validity::GrowableValidity;
@@ -281,9 +281,8 @@ impl<'a, G: GrowableValues> FlatGrowable<'a, G> {
         requires some { 0 < length arrays.items }
         requires one_type { AreOfOneType
             (map (λ r. flat_layout G.type_in G.bits_in G.stored_in r.now) arrays.items) }
-        ensures ok { IfOk result (λ growable. growable
-            ≡ bound_to (map (λ r. flat_layout G.type_in G.bits_in G.stored_in r.now) arrays.entry.items)) }
-        ensures err { IsOkUnless result Error.OutOfMemory }
+        ensures { Binds (map (λ r. flat_layout G.type_in G.bits_in G.stored_in r.now) arrays.entry.items)
+            result }
     {
         let first: &'a G::Array = arrays[0];
         let data_type = G::data_type(first).clone()?;

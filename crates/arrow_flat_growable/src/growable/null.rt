@@ -1,6 +1,6 @@
 //! Arrays of the null type under construction.
 
-ghost use Rattle.std.specs.Prelude.{◌≡◌, ◌<◌, ◌^◌, ◌↔◌, length, map, replicate, true, None, Err, Some, IfOk, IfErr, OnOk, OnErr, IsOkUnless};
+ghost use Rattle.std.specs.Prelude.{◌≡◌, ◌<◌, ◌^◌, ◌↔◌, length, map, replicate, true, None, Err, Some, IfOk, IfErr, OnOk, OnErr};
 ghost use Rattle.arrow_types.specs.declared.error.Error.{Error};
 ghost use Rattle.arrow_types.specs.declared.datatypes.physical_type.PhysicalType.TheVariants as physical;
 ghost use Rattle.arrow_types.specs.ArrowType.{plain, null};
@@ -8,7 +8,7 @@ ghost use Rattle.arrow_types.specs.Slot.{Null};
 ghost use Rattle.arrow_types.specs.TypeOf.{type_of};
 ghost use Rattle.arrow_flat.specs.Faults.{IsCarriedAs};
 ghost use Rattle.arrow_flat.specs.NullParts.{null_rows};
-ghost use Rattle.arrow_flat_growable.specs.Grown.{AreOfOneType, HandsOut, HasFailed, IsFailedOrOverflow, IsRefusal, CannotHold, FitsItself, FitsWith, appended, bound_to, empty_over, named_rows, null_rows_of};
+ghost use Rattle.arrow_flat_growable.specs.Grown.{AreOfOneType, Binds, HandsOut, HasFailed, IsFailedOrOverflow, IsRefusal, CannotHold, FitsItself, FitsWith, appended, empty_over, named_rows, null_rows_of};
 ghost use Rattle.arrow_flat_growable.specs.Nulls.{CannotCount, IsGrownNull, null_layout};
 
 use crate::growable::Growable;
@@ -229,9 +229,7 @@ impl<'a> BoundNulls<'a> {
     pub fn new(arrays: Vec<&'a NullArray>) -> Result<BoundNulls<'a>, Error>
         requires some { 0 < length arrays.items }
         requires one_type { AreOfOneType (map (λ r. null_layout r.now) arrays.items) }
-        ensures ok { IfOk result (λ growable. growable
-            ≡ bound_to (map (λ r. null_layout r.now) arrays.entry.items)) }
-        ensures err { IsOkUnless result Error.OutOfMemory }
+        ensures { Binds (map (λ r. null_layout r.now) arrays.entry.items) result }
     {
         let first: &'a NullArray = arrays[0];
         let data_type = first.data_type().clone()?;

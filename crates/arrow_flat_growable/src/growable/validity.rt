@@ -1,13 +1,11 @@
 //! The validity of an array under construction.
 
-ghost use Rattle.std.specs.Prelude.{◌≡◌, ◌+◌, ◌≤◌, ◌^◌, [], ◌++◌, length, replicate, true, false, Err, Some, List, IfOk, IfErr, IfSome, IsSomeAnd, option_map, OnOk, OnErr, IsOkUnless, option_copied};
+ghost use Rattle.std.specs.Prelude.{◌≡◌, ◌+◌, ◌≤◌, ◌^◌, [], ◌++◌, length, replicate, true, false, Err, Some, IfOk, IfErr, IfSome, IsSomeAnd, option_map, OnOk, OnErr, IsOkUnless, option_copied};
 ghost use Rattle.arrow_types.specs.declared.error.Error.{Error};
-ghost use Rattle.arrow_types.specs.Rows.{mask, masked};
-ghost use Rattle.arrow_types.specs.Slot.{Slot};
 ghost use Rattle.arrow_memory.specs.Sliced.{sliced};
 ghost use Rattle.arrow_memory.specs.Grown.{IsGrowthError};
-ghost use Rattle.arrow_flat.specs.Parts.{FitsRows, bits_of_slice};
-ghost use Rattle.arrow_flat_growable.specs.Validity.{AppendsValidity, AreSameBits, bits_by};
+ghost use Rattle.arrow_flat.specs.Parts.{bits_of_slice};
+ghost use Rattle.arrow_flat_growable.specs.Validity.{AppendsValidity, AreSameBits, IsValidityOf, bits_by};
 
 use arrow_memory::bitmap::{Bitmap, MutableBitmap};
 use arrow_types::error::Error;
@@ -122,9 +120,7 @@ impl GrowableValidity {
     /// # Errors
     /// `OutOfMemory` where memory is refused.
     pub fn into_validity(self) -> Result<Option<Bitmap>, Error>
-        ensures fits { IfOk result (λ validity. FitsRows validity (length self)) }
-        ensures rows { IfOk result (λ validity. (xs : List Slot) → length xs ≡ length self
-            → masked validity xs ≡ mask self xs) }
+        ensures ok { IfOk result (λ validity. IsValidityOf self validity) }
         ensures err { IsOkUnless result Error.OutOfMemory }
     {
         let Some(bits) = self.bits else {

@@ -11,6 +11,7 @@ ghost use Rattle.arrow_arrays.specs.Crowded.{Unjoined, child_of};
 ghost use Rattle.arrow_arrays.specs.KeyedParts.{keyed_layout, keyed_rows};
 ghost use Rattle.arrow_arrays.specs.Layout.{type_of_layout};
 ghost use Rattle.arrow_flat_growable.specs.Grown.{AreOfOneType, CannotHold, FitsItself, HandsOut, HasFailed, IsFailedOrMemory, IsRefusal, NamesRows, appended, bound_to, empty_over, first_type, named_rows};
+ghost use Rattle.arrow_growable.specs.Made.{Makes};
 ghost use Rattle.arrow_growable.specs.Dictionary.{StartsAt, AreUncrowded, joined_values};
 
 use crate::growable::join::join_arrays;
@@ -103,11 +104,7 @@ impl<'a> GrowableDictionary<'a> {
     ) -> Result<GrowableDictionary<'a>, Error>
         requires some { 0 < length arrays.now }
         requires one_type { AreOfOneType (map (λ r. keyed_layout r.now) arrays.now) }
-        ensures ok { IfOk result (λ growable. growable
-            ≡ bound_to (map (λ r. keyed_layout r.now) arrays.now)) }
-        ensures overflow { result ≡ Err Error.Overflow → Unjoined (map (λ r. keyed_layout r.now) arrays.now) }
-        ensures alone { length arrays.now ≡ 1 → IsOkUnless result Error.OutOfMemory }
-        ensures others { IfErr result IsGrowthError }
+        ensures { Makes (λ growable. growable) (map (λ r. keyed_layout r.now) arrays.now) result }
     {
         let values = join_values(alloc, arrays)?;
         GrowableDictionary::over(alloc, arrays, values, use_validity, capacity)

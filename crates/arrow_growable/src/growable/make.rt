@@ -5,11 +5,11 @@ ghost use Rattle.arrow_types.specs.declared.error.Error.{Error};
 ghost use Rattle.arrow_types.specs.declared.datatypes.physical_type.PhysicalType.TheVariants as physical;
 ghost use Rattle.arrow_types.specs.Physical.{physical_type_of};
 ghost use Rattle.arrow_memory.specs.Grown.{IsGrowthError};
-ghost use Rattle.arrow_arrays.specs.Crowded.{Unjoined};
 ghost use Rattle.arrow_arrays.specs.Any.{kind_in, kind_of, layout_of, null_kind};
 ghost use Rattle.arrow_arrays.specs.TypeParts.{IsFlatType};
 ghost use Rattle.arrow_growable.specs.AnyGrowable.{grown_of, primitive_grown_of};
 ghost use Rattle.arrow_growable.specs.GrownUnion.{CanBind, SomeColumnUnjoined};
+ghost use Rattle.arrow_growable.specs.Made.{Makes};
 ghost use Rattle.arrow_flat_growable.specs.Grown.{AreOfOneType, bound_to, first_type};
 ghost use Rattle.arrow_flat_growable.specs.Nulls.{null_layout};
 
@@ -46,11 +46,7 @@ pub fn make_growable<'a>(
 ) -> Result<AnyGrowable<'a>, Error>
     requires some { 0 < length arrays.now }
     requires one_type { AreOfOneType (map (λ a. layout_of a.now) arrays.now) }
-    ensures ok { IfOk result (λ growable. grown_of growable
-        ≡ bound_to (map (λ a. layout_of a.now) arrays.now)) }
-    ensures overflow { result ≡ Err Error.Overflow → Unjoined (map (λ a. layout_of a.now) arrays.now) }
-    ensures alone { length arrays.now ≡ 1 → IsOkUnless result Error.OutOfMemory }
-    ensures others { IfErr result IsGrowthError }
+    ensures { Makes grown_of (map (λ a. layout_of a.now) arrays.now) result }
 {
     let first: &'a AnyArray = arrays[0];
     match first.data_type().to_physical_type() {

@@ -3,12 +3,12 @@
 ghost use Rattle.std.specs.Prelude.{◌≡◌, ◌<◌, Err, Some, length, map, IfErr, IfOk, IsOkUnless};
 ghost use Rattle.arrow_types.specs.declared.error.Error.{Error};
 ghost use Rattle.arrow_memory.specs.Grown.{IsGrowthError};
-ghost use Rattle.arrow_arrays.specs.Crowded.{Unjoined};
 ghost use Rattle.arrow_flat_growable.specs.Grown.{AreOfOneType, bound_to, first_type};
 ghost use Rattle.arrow_growable.specs.AnyGrowable.{grown_of};
 ghost use Rattle.arrow_growable.specs.Bound.{bound_layouts};
 ghost use Rattle.arrow_growable.specs.Form.{child_types};
 ghost use Rattle.arrow_growable.specs.GrowableSpans.{IsFresh};
+ghost use Rattle.arrow_growable.specs.Made.{Makes};
 ghost use Rattle.arrow_growable.specs.Nested.{SomeUnjoined, fresh_children};
 
 use crate::growable::any::AnyGrowable;
@@ -112,10 +112,7 @@ impl<'a> GrowableNested<'a> {
     ) -> Result<GrowableNested<'a>, Error>
         requires some { 0 < length (bound_layouts arrays) }
         requires one_type { AreOfOneType (bound_layouts arrays) }
-        ensures ok { IfOk result (λ growable. growable ≡ bound_to (bound_layouts arrays.entry)) }
-        ensures overflow { result ≡ Err Error.Overflow → Unjoined (bound_layouts arrays.entry) }
-        ensures alone { length (bound_layouts arrays.entry) ≡ 1 → IsOkUnless result Error.OutOfMemory }
-        ensures others { IfErr result IsGrowthError }
+        ensures { Makes (λ growable. growable) (bound_layouts arrays.entry) result }
     {
         let spans = arrays.grown_spans(alloc, capacity)?;
         let room = capacity.saturating_mul(spans.null_slots());

@@ -1,11 +1,9 @@
 //! Growables over arrays with children, of one kind.
 
-ghost use Rattle.std.specs.Prelude.{◌≡◌, ◌<◌, ◌↔◌, true, Err, length, map, IfOk, IfErr, IsOkUnless};
-ghost use Rattle.arrow_types.specs.declared.error.Error.{Error};
-ghost use Rattle.arrow_memory.specs.Grown.{IsGrowthError};
-ghost use Rattle.arrow_arrays.specs.Crowded.{Unjoined};
+ghost use Rattle.std.specs.Prelude.{◌<◌, length, map};
 ghost use Rattle.arrow_arrays.specs.Layout.{rows, type_of_layout};
-ghost use Rattle.arrow_flat_growable.specs.Grown.{AreOfOneType, HandsOut, bound_to, first_type};
+ghost use Rattle.arrow_flat_growable.specs.Grown.{AreOfOneType, HandsOut, first_type};
+ghost use Rattle.arrow_growable.specs.Made.{Makes};
 
 use crate::growable::Growable;
 use crate::growable::bound::NestedArray;
@@ -70,12 +68,7 @@ impl<'a, A: NestedArray> GrowableOf<'a, A> {
     ) -> Result<GrowableOf<'a, A>, Error>
         requires some { 0 < length arrays.items }
         requires one_type { AreOfOneType (map (λ r. A.layout_in r.now) arrays.items) }
-        ensures ok { IfOk result (λ growable. growable
-            ≡ bound_to (map (λ r. A.layout_in r.now) arrays.entry.items)) }
-        ensures overflow { result ≡ Err Error.Overflow
-            → Unjoined (map (λ r. A.layout_in r.now) arrays.entry.items) }
-        ensures alone { length arrays.entry.items ≡ 1 → IsOkUnless result Error.OutOfMemory }
-        ensures others { IfErr result IsGrowthError }
+        ensures { Makes (λ growable. growable) (map (λ r. A.layout_in r.now) arrays.entry.items) result }
     {
         // The kind of arrays follows from their data type.
         let first: &'a A = arrays[0];

@@ -6,15 +6,15 @@ ghost use Rattle.arrow_types.specs.TypeOf.{type_of};
 ghost use Rattle.arrow_types.specs.declared.datatypes.physical_type.PhysicalType.TheVariants as physical;
 ghost use Rattle.arrow_flat.specs.Faults.{IsCarriedAs};
 ghost use Rattle.arrow_types.specs.Physical.{physical_type_of};
-ghost use Rattle.arrow_memory.specs.Grown.{IsGrowthError};
 ghost use Rattle.arrow_arrays.specs.Any.{kind_in, kind_of, layout_of, union_kind};
-ghost use Rattle.arrow_arrays.specs.Crowded.{Unjoined, child_at};
+ghost use Rattle.arrow_arrays.specs.Crowded.{child_at};
 ghost use Rattle.arrow_arrays.specs.Layout.{type_of_layout};
 ghost use Rattle.arrow_arrays.specs.TypeParts.{field_types};
 ghost use Rattle.arrow_arrays.specs.UnionParts.{union_layout, union_rows};
 ghost use Rattle.arrow_flat_growable.specs.Grown.{AreOfOneType, HandsOut, HasFailed, IsFailedOrMemory, bound_to, empty_over, first_type};
 ghost use Rattle.arrow_growable.specs.AnyGrowable.{grown_of};
 ghost use Rattle.arrow_growable.specs.GrownUnion.{HaveFieldTypes, no_offsets, offsets_in, union_children};
+ghost use Rattle.arrow_growable.specs.Made.{Makes};
 ghost use Rattle.arrow_growable.specs.Variants.{variant_type};
 
 use crate::growable::Growable;
@@ -115,12 +115,7 @@ impl<'a> GrowableUnion<'a> {
     ) -> Result<GrowableUnion<'a>, Error>
         requires some { 0 < length arrays.items }
         requires one_type { AreOfOneType (map (λ r. union_layout r.now) arrays.items) }
-        ensures ok { IfOk result (λ growable. growable
-            ≡ bound_to (map (λ r. union_layout r.now) arrays.entry.items)) }
-        ensures overflow { result ≡ Err Error.Overflow
-            → Unjoined (map (λ r. union_layout r.now) arrays.entry.items) }
-        ensures alone { length arrays.entry.items ≡ 1 → IsOkUnless result Error.OutOfMemory }
-        ensures others { IfErr result IsGrowthError }
+        ensures { Makes (λ growable. growable) (map (λ r. union_layout r.now) arrays.entry.items) result }
     {
         let columns = all_columns(alloc, &arrays)?;
         let children = make_each(alloc, &columns, false, capacity)?;

@@ -6,7 +6,7 @@ ghost use Rattle.arrow_types.specs.declared.error.Error.{Error};
 ghost use Rattle.arrow_flat.specs.Parts.{FitsRows};
 ghost use Rattle.arrow_memory.specs.Sliced.{sliced};
 ghost use Rattle.arrow_memory.specs.Words.{low_bits, word_of};
-ghost use Rattle.arrow_select.specs.Selected.{at_set, set_in_word, word_bits, IsRunOf};
+ghost use Rattle.arrow_select.specs.Selected.{AppendsOrStays, at_set, set_in_word, word_bits, IsRunOf};
 
 use arrow_memory::bitmap::{Bitmap, MutableBitmap, WORD_BITS};
 use arrow_types::error::Error;
@@ -30,9 +30,7 @@ pub fn extend_from_word<T: NativeType>(
     mask: u64,
 ) -> Result<(), Error>
     requires { length values.now ≤ 64 }
-    ensures ok { OnOk result (out.new.items ≡ out.old.items ++ set_in_word mask values.now) }
-    ensures err { IsOkUnless result Error.OutOfMemory }
-    ensures unchanged { OnErr result (out.new.items ≡ out.old.items) }
+    ensures { AppendsOrStays out.old.items out.new.items (set_in_word mask values.now) result }
 {
     let word = low_word(mask, values.len());
     out.reserve(word.count_ones() as usize)?;

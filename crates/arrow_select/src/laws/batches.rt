@@ -1,11 +1,10 @@
 //! Laws over batches: what an engine that cuts a table into batches may do with each by itself.
 
-ghost use Rattle.std.specs.Prelude.{◌≡◌, ◌++◌, ◌≤◌, length, unsigned_abs};
-ghost use Rattle.arrow_types.specs.Rows.{chosen, gather, joined, mask_of, select, shifted};
+ghost use Rattle.std.specs.Prelude.{◌++◌, length, unsigned_abs};
 ghost use Rattle.arrow_types.specs.TypeOf.{type_of};
 ghost use Rattle.arrow_arrays.specs.Any.{any_array_rows};
 ghost use Rattle.arrow_select.specs.Arrays.{rows_in};
-ghost use Rattle.arrow_select.specs.Batches.{AreIndicesByBatch, HavePredicates, chosen_by_batch, gathered_each, indices_in, kept_by_batch, met, moved_by_batch, moved_ranges, predicates_in, shifted_by_edge, taken_by_batch};
+ghost use Rattle.arrow_select.specs.Batches.{AreAtLeast, AreIndicesByBatch, AreRangesOf, ChoosesByBatch, GathersByBatch, GathersByParts, HavePairPredicates, HavePredicates, KeepsByBatch, ShiftsByEdge, indices_in, met_behind, predicates_in};
 ghost use Rattle.arrow_select.specs.Ranges.{IsRangesOf};
 
 use crate::filter::Filter;
@@ -20,8 +19,7 @@ use arrow_types::types::Index;
 /// There is a predicate for each batch, and it has as many rows.
 pub fn filter_goes_by_batches(filters: &[&BooleanArray], batches: &[&AnyArray])
     requires { HavePredicates batches.now filters.now }
-    ensures { select (mask_of (joined (predicates_in filters.now))) (joined (rows_in batches.now))
-        ≡ joined (kept_by_batch (predicates_in filters.now) (rows_in batches.now)) }
+    ensures { KeepsByBatch (predicates_in filters.now) (rows_in batches.now) }
 {}
 
 /// The shortest ranges of two masks, one behind the other, are those of both, moved by the rows before them, with two that
@@ -35,9 +33,8 @@ pub fn ranges_go_by_batches(
     second: &Filter,
     second_ranges: &[(usize, usize)],
 )
-    requires first { IsRangesOf first_ranges.now first.now }
-    requires second { IsRangesOf second_ranges.now second.now }
-    ensures { IsRangesOf (met first_ranges.now (moved_ranges (length first.now) second_ranges.now))
+    requires { AreRangesOf first_ranges.now first.now second_ranges.now second.now }
+    ensures { IsRangesOf (met_behind first_ranges.now (length first.now) second_ranges.now)
         (first.now ++ second.now) }
 {}
 
@@ -47,10 +44,8 @@ pub fn take_goes_by_batches<I: Index>(
     indices: &[&PrimitiveArray<I>],
     data_type: &DataType,
 )
-    ensures { gather (any_array_rows array.now)
-        (joined (indices_in I.slot indices.now)) (type_of data_type.now)
-        ≡ joined (gathered_each (any_array_rows array.now) (indices_in I.slot indices.now)
-        (type_of data_type.now)) }
+    ensures { GathersByBatch (any_array_rows array.now) (indices_in I.slot indices.now)
+        (type_of data_type.now) }
 {}
 
 /// What `take` answers of batches that are concatenated, by indices of each batch that are moved by the rows before it, is
@@ -64,11 +59,7 @@ pub fn take_goes_by_parts<I: Index>(
     data_type: &DataType,
 )
     requires { AreIndicesByBatch (rows_in batches.now) (indices_in I.slot indices.now) }
-    ensures { gather (joined (rows_in batches.now))
-        (joined (moved_by_batch 0 (rows_in batches.now)
-        (indices_in I.slot indices.now))) (type_of data_type.now)
-        ≡ joined (taken_by_batch (rows_in batches.now) (indices_in I.slot indices.now)
-        (type_of data_type.now)) }
+    ensures { GathersByParts (rows_in batches.now) (indices_in I.slot indices.now) (type_of data_type.now) }
 {}
 
 /// What `if_then_else` chooses of batches that are concatenated, by predicates that are, is what it chooses of each pair,
@@ -82,12 +73,9 @@ pub fn choice_goes_by_batches(
     rhs: &[&AnyArray],
     data_type: &DataType,
 )
-    requires left { HavePredicates lhs.now predicates.now }
-    requires right { HavePredicates rhs.now predicates.now }
-    ensures { chosen (joined (predicates_in predicates.now)) (joined (rows_in lhs.now))
-        (joined (rows_in rhs.now)) (type_of data_type.now)
-        ≡ joined (chosen_by_batch (predicates_in predicates.now) (rows_in lhs.now) (rows_in rhs.now)
-        (type_of data_type.now)) }
+    requires { HavePairPredicates lhs.now rhs.now predicates.now }
+    ensures { ChoosesByBatch (predicates_in predicates.now) (rows_in lhs.now) (rows_in rhs.now)
+        (type_of data_type.now) }
 {}
 
 /// Two batches that are shifted as one need no more of each other than the rows at the edge between them: as many as the
@@ -96,9 +84,7 @@ pub fn choice_goes_by_batches(
 /// # Requires
 /// Each batch has as many rows as the offset moves by.
 pub fn shift_goes_by_edge(first: &AnyArray, second: &AnyArray, offset: i64, data_type: &DataType)
-    requires first { unsigned_abs offset ≤ length (any_array_rows first.now) }
-    requires second { unsigned_abs offset ≤ length (any_array_rows second.now) }
-    ensures { shifted (any_array_rows first.now ++ any_array_rows second.now) offset (type_of data_type.now)
-        ≡ shifted_by_edge (any_array_rows first.now) (any_array_rows second.now) offset
+    requires { AreAtLeast (unsigned_abs offset) first.now second.now }
+    ensures { ShiftsByEdge (any_array_rows first.now) (any_array_rows second.now) offset
         (type_of data_type.now) }
 {}

@@ -1,4 +1,4 @@
-use Rattle.std.proofs.Common.{arith, ◌≡◌, ◌<◌, Bor, Err, Global, List, [], Vec, get_or, length, map, ap, sym, subst, ◌∙◌}
+use Rattle.std.proofs.Common.{arith, rules, ◌≡◌, ◌<◌, Bor, Err, Global, List, [], Vec, get_or, length, map, ap, sym, subst, ◌∙◌}
 use Rattle.std.specs.List.{All}
 use Rattle.std.proofs.lemmas.List.{get_or_default, length-map, take_all}
 use Rattle.arrow_types.specs.Physical.{physical_type_of}
@@ -102,11 +102,16 @@ join::join_arrays-returns-clause-overflow t c overflows =
 
 -- dictionaries inside that can't be joined
 
-pub nested::GrowableNested::new-returns-in_err-children-clause-overflow :
-    goal.nested::GrowableNested::new-returns-in_err-children-clause-overflow
-nested::GrowableNested::new-returns-in_err-children-clause-overflow t c overflows =
-    let refused = c.in_err-children.ensures.overflow (ap Err (passed_on c.from_residual-in_err-children.result _ _ c.from_residual-in_err-children.ensures.1 overflows)) in
-    child_unjoined (form_of c.in_ok-spans.spans) (bound_layouts c.args.arrays) refused.0 c.in_ok-spans.ensures.ok.form refused.1
+pub nested::GrowableNested::new-returns-in_err-children : goal.nested::GrowableNested::new-returns-in_err-children
+nested::GrowableNested::new-returns-in_err-children t c =
+    record {
+      ok = search rules;
+      overflow = λ overflows.
+          let refused = c.in_err-children.ensures.overflow (ap Err (passed_on c.from_residual-in_err-children.result _ _ c.from_residual-in_err-children.ensures.1 overflows)) in
+          child_unjoined (form_of c.in_ok-spans.spans) (bound_layouts c.args.arrays) refused.0 c.in_ok-spans.ensures.ok.form refused.1;
+      alone = search rules;
+      others = search rules;
+    }
 
 -- unions
 
@@ -147,7 +152,7 @@ make::make_each-returns-in_err-make_growable-clause-alone t c alone =
     let k = c.loop-column.column-index in
     let within : k < length columns = omega (arith, c.loop-column-test.true, length-map c.args.columns.now layouts_by) in
     let lent : map (λ (a : Bor _). layout_of a.now) c.deref.result.now ≡ get_or columns k [] = ap (map (λ (a : Bor _). layout_of a.now)) c.deref.ensures.value ∙ column_read layouts_by c.args.columns.now k c.column-item.result [] c.loop-column-test.true c.column-item.is in
-    only_memory c.from_residual-in_err-make_growable.result _ c.from_residual-in_err-make_growable.ensures.1 (c.in_err-make_growable.ensures.alone (omega (arith, alone k [] within, ap length lent, length-map c.deref.result.now (λ (a : Bor _). layout_of a.now))))
+    only_memory c.from_residual-in_err-make_growable.result _ c.from_residual-in_err-make_growable.ensures.1 (c.in_err-make_growable.ensures.alone (omega (arith, alone k [] within, ap length lent)))
 
 pub union::GrowableUnion::new-make_each-requires : goal.union::GrowableUnion::new-make_each-requires
 union::GrowableUnion::new-make_each-requires t c =
@@ -168,21 +173,17 @@ union::GrowableUnion::new-over-requires t c =
     let made = c.in_ok-children.ensures.ok ∙ ap (map bound_to) columns in
     record { some = c.requires.some; one_type = c.requires.one_type; children = made; types = grown_types (union_children layouts) _ made ∙ columns_types layouts some types }
 
-pub union::GrowableUnion::new-returns-in_err-children-clause-overflow :
-    goal.union::GrowableUnion::new-returns-in_err-children-clause-overflow
-union::GrowableUnion::new-returns-in_err-children-clause-overflow t c overflows =
+pub union::GrowableUnion::new-returns-in_err-children : goal.union::GrowableUnion::new-returns-in_err-children
+union::GrowableUnion::new-returns-in_err-children t c =
     let layouts = map (λ (r : Bor _). union_layout r.now) c.args.arrays.items in
     let lent = ap (map (λ (r : Bor _). union_layout r.now)) c.deref.ensures.value in
     let columns : map layouts_by c.deref-2.result.now ≡ union_children layouts = ap (map layouts_by) c.deref-2.ensures.value ∙ (c.in_ok-columns.ensures.ok ∙ ap union_children lent) in
-    let refused = subst SomeColumnUnjoined columns (c.in_err-children.ensures.overflow (ap Err (passed_on c.from_residual-in_err-children.result _ _ c.from_residual-in_err-children.ensures.1 overflows))) in
-    let within : refused.0 < length (field_types (first_type layouts)) = omega (arith, refused.1, children_many layouts) in
-    field_unjoined (λ (r : Bor _). r.now) c.args.arrays.items refused.0 (subst Unjoined (child_list layouts refused.0 within []) (refused.2 []))
-
-pub union::GrowableUnion::new-returns-in_err-children-clause-alone :
-    goal.union::GrowableUnion::new-returns-in_err-children-clause-alone
-union::GrowableUnion::new-returns-in_err-children-clause-alone t c one =
-    let layouts = map (λ (r : Bor _). union_layout r.now) c.args.arrays.items in
-    let lent = ap (map (λ (r : Bor _). union_layout r.now)) c.deref.ensures.value in
-    let columns : map layouts_by c.deref-2.result.now ≡ union_children layouts = ap (map layouts_by) c.deref-2.ensures.value ∙ (c.in_ok-columns.ensures.ok ∙ ap union_children lent) in
-    let alone = columns_alone layouts (length-map c.args.arrays.items (λ (r : Bor _). union_layout r.now) ∙ one) in
-    only_memory c.from_residual-in_err-children.result _ c.from_residual-in_err-children.ensures.1 (c.in_err-children.ensures.alone (subst (All (λ column. length column ≡ 1)) (sym columns) alone))
+    record {
+      ok = search rules;
+      overflow = λ overflows.
+          let refused = subst SomeColumnUnjoined columns (c.in_err-children.ensures.overflow (ap Err (passed_on c.from_residual-in_err-children.result _ _ c.from_residual-in_err-children.ensures.1 overflows))) in
+          let within : refused.0 < length (field_types (first_type layouts)) = omega (arith, refused.1, children_many layouts) in
+          field_unjoined (λ (r : Bor _). r.now) c.args.arrays.items refused.0 (subst Unjoined (child_list layouts refused.0 within []) (refused.2 []));
+      alone = λ one. only_memory c.from_residual-in_err-children.result _ c.from_residual-in_err-children.ensures.1 (c.in_err-children.ensures.alone (subst (All (λ column. length column ≡ 1)) (sym columns) (columns_alone layouts one)));
+      others = search rules;
+    }

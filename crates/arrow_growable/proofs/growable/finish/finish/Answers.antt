@@ -44,7 +44,7 @@ fixed_size_list_array-requires-clause-child c =
 
 pub fixed_size_list_array-requires-clause-fits : goal.fixed_size_list_array-requires-clause-fits
 fixed_size_list_array-requires-clause-fits c =
-    sized_fit (type_of c.args.data_type) _ _ _ _ c.args.validity _ c.in-FixedSize.is c.requires.kind c.requires.form c.in_ok-first_boxed-in-FixedSize.ensures.ok c.requires.whole c.in_ok-validity.ensures.fits
+    sized_fit (type_of c.args.data_type) _ _ _ _ c.args.validity _ c.in-FixedSize.is c.requires.kind c.requires.form c.in_ok-first_boxed-in-FixedSize.ensures.ok c.requires.whole c.in_ok-validity.ensures.ok.fits
 
 pub struct_array-requires-clause-children : goal.struct_array-requires-clause-children
 struct_array-requires-clause-children c =
@@ -52,27 +52,27 @@ struct_array-requires-clause-children c =
 
 pub struct_array-requires-clause-fits : goal.struct_array-requires-clause-fits
 struct_array-requires-clause-fits c =
-    fields_fit (type_of c.args.data_type) _ _ c.args.validity _ c.in-Fields.is c.requires.kind c.requires.types c.requires.whole c.in_ok-validity.ensures.fits
+    fields_fit (type_of c.args.data_type) _ _ c.args.validity _ c.in-Fields.is c.requires.kind c.requires.types c.requires.whole c.in_ok-validity.ensures.ok.fits
 
 -- the rows
 
 pub returns-in_ok-first_boxed-in-Small-clause-ok : goal.returns-in_ok-first_boxed-in-Small-clause-ok
 returns-in_ok-first_boxed-in-Small-clause-ok c =
-    (c.list_array.ensures.same_type, c.list_array.ensures.rows ∙ lists_made _ _ _ _ _ _ _ (ap form_of c.in-Small.is) c.in_ok-into_buffer-in-Small.ensures.ok c.in_ok-first_boxed-in-Small.ensures.ok c.requires.whole c.in_ok-validity.ensures.rows)
+    (c.list_array.ensures.same_type, c.list_array.ensures.rows ∙ lists_made _ _ _ _ _ _ _ (ap form_of c.in-Small.is) c.in_ok-into_buffer-in-Small.ensures.ok c.in_ok-first_boxed-in-Small.ensures.ok c.requires.whole c.in_ok-validity.ensures.ok.rows)
 
 pub returns-in_ok-first_boxed-in-Large-clause-ok : goal.returns-in_ok-first_boxed-in-Large-clause-ok
 returns-in_ok-first_boxed-in-Large-clause-ok c =
-    (c.list_array-in-Large.ensures.same_type, c.list_array-in-Large.ensures.rows ∙ lists_made _ _ _ _ _ _ _ (ap form_of c.in-Large.is) c.in_ok-into_buffer-in-Large.ensures.ok c.in_ok-first_boxed-in-Large.ensures.ok c.requires.whole c.in_ok-validity.ensures.rows)
+    (c.list_array-in-Large.ensures.same_type, c.list_array-in-Large.ensures.rows ∙ lists_made _ _ _ _ _ _ _ (ap form_of c.in-Large.is) c.in_ok-into_buffer-in-Large.ensures.ok c.in_ok-first_boxed-in-Large.ensures.ok c.requires.whole c.in_ok-validity.ensures.ok.rows)
 
 pub returns-in_ok-first_boxed-in-Map-clause-ok : goal.returns-in_ok-first_boxed-in-Map-clause-ok
 returns-in_ok-first_boxed-in-Map-clause-ok c =
-    (c.map_array.ensures.same_type, c.map_array.ensures.rows ∙ lists_made _ _ _ _ _ _ _ (ap form_of c.in-Map.is) c.in_ok-offsets-in-Map.ensures.ok c.in_ok-first_boxed-in-Map.ensures.ok c.requires.whole c.in_ok-validity.ensures.rows)
+    (c.map_array.ensures.same_type, c.map_array.ensures.rows ∙ lists_made _ _ _ _ _ _ _ (ap form_of c.in-Map.is) c.in_ok-offsets-in-Map.ensures.ok c.in_ok-first_boxed-in-Map.ensures.ok c.requires.whole c.in_ok-validity.ensures.ok.rows)
 
 pub returns-in_ok-first_boxed-in-FixedSize-clause-ok :
     goal.returns-in_ok-first_boxed-in-FixedSize-clause-ok
 returns-in_ok-first_boxed-in-FixedSize-clause-ok c =
-    (c.fixed_size_list_array.ensures.same_type, c.fixed_size_list_array.ensures.rows ∙ sized_made (type_of c.args.data_type) _ _ _ _ _ _ c.in-FixedSize.is c.requires.kind c.requires.form c.in_ok-first_boxed-in-FixedSize.ensures.ok c.requires.whole c.in_ok-validity.ensures.rows)
+    (c.fixed_size_list_array.ensures.same_type, c.fixed_size_list_array.ensures.rows ∙ sized_made (type_of c.args.data_type) _ _ _ _ _ _ c.in-FixedSize.is c.requires.kind c.requires.form c.in_ok-first_boxed-in-FixedSize.ensures.ok c.requires.whole c.in_ok-validity.ensures.ok.rows)
 
 pub returns-in-Fields-clause-ok : goal.returns-in-Fields-clause-ok
 returns-in-Fields-clause-ok c =
-    (c.struct_array.ensures.same_type, c.struct_array.ensures.rows ∙ fields_made (type_of c.args.data_type) _ _ _ _ c.in-Fields.is c.requires.kind c.requires.types c.requires.whole c.in_ok-validity.ensures.rows)
+    (c.struct_array.ensures.same_type, c.struct_array.ensures.rows ∙ fields_made (type_of c.args.data_type) _ _ _ _ c.in-Fields.is c.requires.kind c.requires.types c.requires.whole c.in_ok-validity.ensures.ok.rows)

@@ -7,8 +7,8 @@ pub push_set-requires-clause-room : goal.push_set-requires-clause-room
 push_set-requires-clause-room g c =
     omega (arith, c.in_ok-reserve.ensures.ok, ones_in_word c.low_word-word.result c.args.values.now c.low_word-word.ensures.below)
 
-pub returns-clause-ok : goal.returns-clause-ok
-returns-clause-ok g c =
+pub returns : goal.returns
+returns g c =
     let values = c.args.values.now in
     let same : set_in_word c.low_word-word.result values ≡ set_in_word c.args.mask values = ap (λ bits. at_set bits values) c.low_word-word.ensures.same in
-    c.push_set.ensures.items ∙ (ap (λ ys. ys ++ set_in_word c.low_word-word.result values) c.reserve.ensures.items ∙ ap (λ ys. c.args.out.now.items ++ ys) same)
+    record { ok = c.push_set.ensures.items ∙ (ap (λ ys. ys ++ set_in_word c.low_word-word.result values) c.reserve.ensures.items ∙ ap (λ ys. c.args.out.now.items ++ ys) same); unchanged = tt; err = tt }

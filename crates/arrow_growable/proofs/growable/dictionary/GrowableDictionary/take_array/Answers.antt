@@ -15,5 +15,5 @@ returns-clause-ok c =
     let same_values : layout_of c.in_ok-values.values.value ≡ layout_of c.self.inside.values = search rules in
     let bits : c.replace.result ≡ c.self.inside.validity = search rules in
     let slots : key_slots c.replace-2.result ≡ key_slots c.self.inside.keys = search rules in
-    let all : key_rows c.in_ok-keys.keys ≡ mask c.self.inside.validity (key_slots c.self.inside.keys) = c.in_ok-keys.ensures.ok ∙ (ap (masked c.in_ok-validity.validity) slots ∙ (c.in_ok-validity.ensures.rows (key_slots c.self.inside.keys) (was.counted ∙ (sym was.covered ∙ ap length (sym bits))) ∙ ap (λ bs. mask bs (key_slots c.self.inside.keys)) bits)) in
+    let all : key_rows c.in_ok-keys.keys ≡ mask c.self.inside.validity (key_slots c.self.inside.keys) = c.in_ok-keys.ensures.ok ∙ (ap (masked c.in_ok-validity.validity) slots ∙ (c.in_ok-validity.ensures.ok.rows (key_slots c.self.inside.keys) (was.counted ∙ (sym was.covered ∙ ap length (sym bits))) ∙ ap (λ bs. mask bs (key_slots c.self.inside.keys)) bits)) in
     rw (← c.self.view_is, c.new-array.ensures) (same_type, λ i. map (keyed_item (rows (same_values i))) (keys_in (all i)))
