@@ -91,15 +91,15 @@ impl GrowableValidity {
     ///
     /// # Errors
     /// As of [`GrowableValidity::extend_from`].
-    pub fn extend_nulls(&mut self, additional: usize) -> Result<(), Error>
-        ensures ok { OnOk result (self.new ≡ self.old ++ replicate additional false) }
-        ensures overflow { result ≡ Err Error.Overflow → 2 ^ 64 ≤ length self.old + additional }
+    pub fn extend_nulls(&mut self, count: usize) -> Result<(), Error>
+        ensures ok { OnOk result (self.new ≡ self.old ++ replicate count false) }
+        ensures overflow { result ≡ Err Error.Overflow → 2 ^ 64 ≤ length self.old + count }
         ensures others { IfErr result IsGrowthError }
     {
-        let Some(total) = self.len.checked_add(additional) else {
+        let Some(total) = self.len.checked_add(count) else {
             return Err(Error::Overflow);
         };
-        append_nulls(self.alloc, &mut self.bits, self.len, additional)?;
+        append_nulls(self.alloc, &mut self.bits, self.len, count)?;
         self.len = total;
         Ok(())
     }
