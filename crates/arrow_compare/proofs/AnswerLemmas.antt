@@ -1,5 +1,5 @@
 -- Answers to the values of a dictionary, taken by its keys, and answers that are null.
-use Rattle.std.proofs.Common.{arith, ◌≡◌, ◌∙◌, pos, negsuc, Bool, true, false, not, Option, Some, None, List, [], ◌∷◌, length, map, refl, ap, sym}
+use Rattle.std.proofs.Common.{arith, ◌≡◌, ◌∙◌, pos, Bool, true, false, not, Option, Some, None, List, [], ◌∷◌, length, map, refl, ap, sym}
 use Rattle.std.specs.Prelude.{slice_index_or, unwrap_or, option_map}
 use Rattle.std.proofs.Math.Bool.{and-false, and-true, or-false, or-true}
 use Rattle.std.proofs.lemmas.List.Elements.{All-tail}

@@ -3,13 +3,11 @@ use Rattle.std.proofs.Common.{◌≡◌, Bool, true, false, not, refl, ap, sym, 
 use Rattle.std.specs.Prelude.{◌&&◌, if◌then◌else◌}
 use Rattle.std.specs.declared.cmp.Ordering.{Ordering}
 use Rattle.std.specs.declared.cmp.Ordering.TheVariants.{Less, Equal, Greater}
-use Rattle.std.specs.Cmp.{IsTotalOrder}
-use Rattle.std.specs.Cmp.Lexicographic.{slice_cmp}
-use Rattle.std.specs.Ordering.{int_cmp, nat_cmp, ordering_reverse}
+use Rattle.std.specs.Ordering.{int_cmp, ordering_reverse}
 use Rattle.std.proofs.lemmas.Bool.Decides.{same_from_decides}
 use Rattle.std.proofs.lemmas.Cmp.{int_cmp_total, nat_list_cmp_total}
 use Rattle.arrow_types.specs.Logic.{negated}
-use Rattle.arrow_types.specs.Relation.{Relation, eq, lt, lt_eq, gt, gt_eq, holds, bool_order, byte_order, by_equality, related, same, is_null, nulled}
+use Rattle.arrow_types.specs.Relation.{eq, lt, lt_eq, gt, gt_eq, holds, byte_order, related, same, is_null, nulled}
 use Rattle.arrow_types.specs.SameTree.{same_by-decides, same_by-equivalence}
 use Rattle.arrow_types.specs.Slot.{Slot, Null, Boolean, Number, DayTime, MonthDayNano, Bytes, Text}
 use Rattle.arrow_types.specs.StoredSlot.{slot_code}

@@ -1,5 +1,5 @@
 -- Rows and scalars that are themselves through dictionaries, since none is around them.
-use Rattle.std.proofs.Common.{rules, ◌≡◌, Bool, false, Option, Some, None, List, length, map, replicate, refl, ap, subst, sym, ◌∙◌}
+use Rattle.std.proofs.Common.{rules, ◌≡◌, Bool, false, Option, Some, None, List, map, refl, ap, subst, sym, ◌∙◌}
 use Rattle.std.specs.Borrow.{Bor}
 use Rattle.std.specs.Option.{MatchOption}
 use Rattle.std.proofs.lemmas.Simd.{map-map}

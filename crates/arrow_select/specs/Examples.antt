@@ -12,6 +12,7 @@ use Rattle.arrow_types.specs.Rows.{joined, mask_of, select}
 use Rattle.arrow_types.specs.Slot.{Slot, Boolean, Null, Number}
 use Rattle.arrow_flat.specs.Parts.{Parts, boolean_rows}
 use Rattle.arrow_arrays.specs.Layout.{flat}
+use Rattle.arrow_select.specs.Batches.{GathersByParts, KeepsByBatch, ShiftsByEdge, met_behind}
 use Rattle.arrow_select.specs.Laws.{true_places}
 use Rattle.arrow_select.specs.Ranges.{mask_at}
 use Rattle.arrow_select.specs.Refusals.{PassesLength}
@@ -63,3 +64,23 @@ three_named = refl
 
 mask_again : mask_at 0 4 (named ((0, 2) ∷ (3, 1) ∷ [])) ≡ true ∷ true ∷ false ∷ true ∷ []
 mask_again = refl
+
+-- of the mask [t, t] and then [t, f, t] the first ranges of both are one: they touch
+ranges_met : met_behind ((0, 2) ∷ []) 2 ((0, 1) ∷ (2, 1) ∷ []) ≡ (0, 3) ∷ (4, 1) ∷ []
+ranges_met = refl
+
+-- the batches [1] and [2, 3] by [f] and [f, t], by the indices [0] and [1, null], and shifted by one
+abbrev one_row : List Slot
+one_row = Number (pos 1) ∷ []
+
+abbrev two_rows : List Slot
+two_rows = Number (pos 2) ∷ Number (pos 3) ∷ []
+
+batches_kept : KeepsByBatch ((Boolean false ∷ []) ∷ (Boolean false ∷ Boolean true ∷ []) ∷ []) (one_row ∷ two_rows ∷ [])
+batches_kept = refl
+
+batches_taken : GathersByParts (one_row ∷ two_rows ∷ []) ((Number (pos 0) ∷ []) ∷ (Number (pos 1) ∷ Null ∷ []) ∷ []) (plain (integer Int32))
+batches_taken = refl
+
+batches_shifted : ShiftsByEdge one_row two_rows (pos 1) (plain (integer Int32))
+batches_shifted = refl

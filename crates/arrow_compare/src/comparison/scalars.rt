@@ -43,7 +43,7 @@ pub(super) fn relate_scalar(
 {
     match value_of(rhs) {
         None => all_null(alloc, lhs.len()),
-        Some(value) => relate_value(alloc, by, lhs, value),
+        Some(value) => relate_rows(alloc, by, lhs, value),
     }
 }
 
@@ -64,7 +64,7 @@ pub(super) fn same_scalar(
     match value_of(rhs) {
         None => null_rows(alloc, lhs),
         Some(value) => {
-            let equal = relate_value(alloc, Relation::Eq, lhs, value)?;
+            let equal = relate_rows(alloc, Relation::Eq, lhs, value)?;
             known_or(alloc, false, &equal)
         }
     }
@@ -90,7 +90,34 @@ fn value_of(scalar: &AnyScalar) -> Option<&AnyScalar>
     }
 }
 
-// Whether each row, through its dictionaries, is so related to a value, and null where it is.
+// Whether each row, through its dictionaries, is so related to a value, and null where it is. Rows that lie in no dictionary are
+// related in place, so that the answer is made where the caller wants it.
+#[inline(always)]
+fn relate_rows(
+    alloc: Global,
+    by: Relation,
+    lhs: &AnyArray,
+    value: &AnyScalar,
+) -> Result<BooleanArray, Error>
+    requires one_kind { scalar_kind value.now
+        ≡ kind_in (physical_type_of (type_through (any_array_type lhs.now))) }
+    requires has_relation { KindHasRelation (relation_of by) (scalar_kind value.now) }
+    requires valid { is_null (meaning_of value.now).1 ≡ false }
+    ensures array_type { IfOk result (λ array. array.arrow_type ≡ plain boolean) }
+    ensures rows { IfOk result (λ array. boolean_rows array
+        ≡ map (λ s. related (relation_of by) (through s) (meaning_of value.now).1)
+        (any_array_rows lhs.now)) }
+    ensures err { IsOkUnless result Error.OutOfMemory }
+{
+    // The kind of the array follows from its data type.
+    let _ = lhs.data_type();
+    match lhs {
+        AnyArray::Dictionary(_) => relate_value(alloc, by, lhs, value),
+        _ => relate_flat(alloc, by, lhs, value),
+    }
+}
+
+// The same, a dictionary at a time.
 #[cycle(relate)]
 fn relate_value(
     alloc: Global,

@@ -22,6 +22,7 @@ use arrow_types::types::NativeOrd;
 use std::alloc::Global;
 
 // Whether each row is so related to the value, and null where the row is.
+#[inline(always)]
 pub(super) fn relate_flat(
     alloc: Global,
     by: Relation,

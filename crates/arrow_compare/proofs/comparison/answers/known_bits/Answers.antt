@@ -1,4 +1,4 @@
-use Rattle.std.proofs.Common.{◌∙◌, sym}
+use Rattle.std.proofs.Common.{◌∙◌}
 use Rattle.std.proofs.lemmas.Result.{IfOk-weaker}
 use Rattle.arrow_compare.proofs.AnswerLemmas.{none_null, nulls_false, nulls_true}
 use Rattle.arrow_compare.proofs.comparison.answers.known_bits.Goals as goal

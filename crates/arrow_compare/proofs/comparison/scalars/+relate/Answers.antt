@@ -1,4 +1,4 @@
-use Rattle.std.proofs.Common.{arith, ap, refl, sym}
+use Rattle.std.proofs.Common.{arith, ap, refl}
 use Rattle.std.proofs.lemmas.List.{map-id}
 use Rattle.arrow_types.specs.Relation.{related, through}
 use Rattle.arrow_flat.specs.AnyScalar.{meaning_of}

@@ -1,4 +1,3 @@
-use Rattle.arrow_types.specs.Relation.{related, through}
 use Rattle.arrow_arrays.specs.Any.{any_array_rows}
 use Rattle.arrow_relate.specs.Related.{relation_of}
 use Rattle.arrow_compare.proofs.PairLemmas.{related_nulls}

@@ -6,8 +6,8 @@ use Rattle.arrow_compare.proofs.PairLemmas.{same_nulls, same_values}
 use Rattle.arrow_compare.proofs.ThroughLemmas.{scalar_compares}
 use Rattle.arrow_compare.proofs.comparison.scalars.same_scalar.Goals as goal
 
-pub relate_value-requires-clause-has_relation : goal.relate_value-requires-clause-has_relation
-relate_value-requires-clause-has_relation c =
+pub relate_rows-requires-clause-has_relation : goal.relate_rows-requires-clause-has_relation
+relate_rows-requires-clause-has_relation c =
     value_relation eq (any_array_type c.args.lhs.now) (meaning_of c.args.rhs.now) c.in-Some.value.now c.requires.one_type c.in-Some.ensures c.requires.has_equality
 
 pub returns-in-None-clause-rows : goal.returns-in-None-clause-rows
