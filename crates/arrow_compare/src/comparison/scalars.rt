@@ -13,6 +13,7 @@ ghost use Rattle.arrow_relate.specs.Related.{relation_of};
 ghost use Rattle.arrow_relate.specs.Same.{is_same};
 ghost use Rattle.arrow_compare.specs.Compared.{HasEqualityThrough, HasRelationThrough, type_through};
 ghost use Rattle.arrow_compare.specs.Kinds.{IsThrough, KindHasRelation, scalar_kind};
+ghost use Rattle.arrow_logic.specs.Truths.{AnswersTruths};
 
 use crate::comparison::answers::{all_null, known_or, take_answers};
 use crate::comparison::values::relate_flat;
@@ -103,11 +104,8 @@ fn relate_rows(
         ≡ kind_in (physical_type_of (type_through (any_array_type lhs.now))) }
     requires has_relation { KindHasRelation (relation_of by) (scalar_kind value.now) }
     requires valid { is_null (meaning_of value.now).1 ≡ false }
-    ensures array_type { IfOk result (λ array. array.arrow_type ≡ plain boolean) }
-    ensures rows { IfOk result (λ array. boolean_rows array
-        ≡ map (λ s. related (relation_of by) (through s) (meaning_of value.now).1)
-        (any_array_rows lhs.now)) }
-    ensures err { IsOkUnless result Error.OutOfMemory }
+    ensures { AnswersTruths result
+        (map (λ s. related (relation_of by) (through s) (meaning_of value.now).1) (any_array_rows lhs.now)) }
 {
     // The kind of the array follows from its data type.
     let _ = lhs.data_type();
@@ -129,11 +127,8 @@ fn relate_value(
         ≡ kind_in (physical_type_of (type_through (any_array_type lhs.now))) }
     requires has_relation { KindHasRelation (relation_of by) (scalar_kind value.now) }
     requires valid { is_null (meaning_of value.now).1 ≡ false }
-    ensures array_type { IfOk result (λ array. array.arrow_type ≡ plain boolean) }
-    ensures rows { IfOk result (λ array. boolean_rows array
-        ≡ map (λ s. related (relation_of by) (through s) (meaning_of value.now).1)
-        (any_array_rows lhs.now)) }
-    ensures err { IsOkUnless result Error.OutOfMemory }
+    ensures { AnswersTruths result
+        (map (λ s. related (relation_of by) (through s) (meaning_of value.now).1) (any_array_rows lhs.now)) }
 {
     // The kind of the array follows from its data type.
     let _ = lhs.data_type();

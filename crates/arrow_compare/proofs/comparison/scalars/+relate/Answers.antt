@@ -1,4 +1,4 @@
-use Rattle.std.proofs.Common.{arith, ap, refl}
+use Rattle.std.proofs.Common.{arith, rules, ap, refl}
 use Rattle.std.proofs.lemmas.List.{map-id}
 use Rattle.arrow_types.specs.Relation.{related, through}
 use Rattle.arrow_flat.specs.AnyScalar.{meaning_of}
@@ -22,13 +22,13 @@ pub relate_flat-requires-clause-one_kind : goal.relate_flat-requires-clause-one_
 relate_flat-requires-clause-one_kind t c =
     rw c.requires.one_kind (own_kind c.args.lhs.now c.data_type.ensures.kind c.in_default.not-Dictionary)
 
-pub returns-in_ok-answers-in-Dictionary-clause-rows : goal.returns-in_ok-answers-in-Dictionary-clause-rows
-returns-in_ok-answers-in-Dictionary-clause-rows t c =
+pub returns-in_ok-answers-in-Dictionary : goal.returns-in_ok-answers-in-Dictionary
+returns-in_ok-answers-in-Dictionary t c =
     let answers = c.in_ok-answers-in-Dictionary.answers in
     let taken = taken_by_keys (λ s. related (relation_of c.args.by) (through s) (meaning_of c.args.value.now).1) (λ s. s) (λ x. refl) refl c.args.lhs.now c.values.result.now c.in-Dictionary.array (key_rows c.keys.result.now) (boolean_rows answers) answers.arrow_type c.in-Dictionary.is c.values.ensures.same c.keys.ensures.same c.keys.ensures.within c.in_ok-answers-in-Dictionary.ensures.rows c.in_ok-answers-in-Dictionary.ensures.array_type in
-    rw (← taken, map-id) c.take_answers.ensures.rows
+    record { array_type = search rules; rows = rw (← taken, map-id) c.take_answers.ensures.rows; err = c.take_answers.ensures.err }
 
-pub returns-in_default-clause-rows : goal.returns-in_default-clause-rows
-returns-in_default-clause-rows t c =
+pub returns-in_default : goal.returns-in_default
+returns-in_default t c =
     let op = relation_of c.args.by in
-    rw (own_rows c.args.lhs.now c.data_type.ensures.kind c.in_default.not-Dictionary (scalar_kind c.args.value.now) c.requires.one_kind op c.requires.has_relation (λ s. related op s (meaning_of c.args.value.now).1)) c.relate_flat.ensures.rows
+    rw (own_rows c.args.lhs.now c.data_type.ensures.kind c.in_default.not-Dictionary (scalar_kind c.args.value.now) c.requires.one_kind op c.requires.has_relation (λ s. related op s (meaning_of c.args.value.now).1)) c.relate_flat.ensures

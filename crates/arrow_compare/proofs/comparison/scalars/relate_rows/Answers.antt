@@ -10,7 +10,7 @@ pub relate_flat-requires-clause-one_kind : goal.relate_flat-requires-clause-one_
 relate_flat-requires-clause-one_kind c =
     rw c.requires.one_kind (own_kind c.args.lhs.now c.data_type.ensures.kind c.in_default.not-Dictionary)
 
-pub returns-in_default-clause-rows : goal.returns-in_default-clause-rows
-returns-in_default-clause-rows c =
+pub returns-in_default : goal.returns-in_default
+returns-in_default c =
     let op = relation_of c.args.by in
-    rw (own_rows c.args.lhs.now c.data_type.ensures.kind c.in_default.not-Dictionary (scalar_kind c.args.value.now) c.requires.one_kind op c.requires.has_relation (λ s. related op s (meaning_of c.args.value.now).1)) c.relate_flat.ensures.rows
+    rw (own_rows c.args.lhs.now c.data_type.ensures.kind c.in_default.not-Dictionary (scalar_kind c.args.value.now) c.requires.one_kind op c.requires.has_relation (λ s. related op s (meaning_of c.args.value.now).1)) c.relate_flat.ensures
