@@ -1,22 +1,19 @@
 //! Texts and bytes by index: where the rows lie and end first, and then the bytes, for which there is room.
 
-ghost use Rattle.std.specs.Prelude.{◌≡◌, ◌+◌, ◌-◌, ◌<◌, ◌≤◌, ◌∷◌, Err, length, map, slice_index_or, option_copied, sum, IfOk, IfErr, OnOk};
+ghost use Rattle.std.specs.Prelude.{◌≡◌, ◌+◌, ◌-◌, ◌<◌, ◌≤◌, ◌∷◌, Err, length, map, option_copied, sum, IfOk, IfErr, OnOk};
 ghost use Rattle.std.specs.List.{concat};
 ghost use Rattle.arrow_types.specs.declared.error.Error.{Error};
 ghost use Rattle.arrow_types.specs.Fits.{Fits};
-ghost use Rattle.arrow_types.specs.Rows.{gather, masked};
-ghost use Rattle.arrow_types.specs.Slot.{Null};
+ghost use Rattle.arrow_types.specs.Rows.{gather};
 ghost use Rattle.arrow_memory.specs.Grown.{IsGrowthError};
-ghost use Rattle.arrow_memory.specs.Offsets.{last_of};
 ghost use Rattle.arrow_flat.specs.ByteRows.{byte_slots};
-ghost use Rattle.arrow_flat.specs.Parts.{FitsRows, MarksNulls, rows_by};
-ghost use Rattle.arrow_arrays.specs.KeyedParts.{key_in};
-ghost use Rattle.arrow_take.specs.Taken.{AreIndices, span_length, span_of, taken_bytes, taken_span};
+ghost use Rattle.arrow_flat.specs.Parts.{FitsRows, rows_by};
+ghost use Rattle.arrow_take.specs.Taken.{AreIndices, span_length, taken_bytes, taken_span};
 ghost use Rattle.arrow_flat_growable.specs.Ends.{ends_from};
 
 use crate::spans::copy_spans;
-use crate::take::indices::{index_at, take_validity};
-use crate::validity::is_valid;
+use crate::take::indices::{ByIndex, append_named, take_validity};
+use crate::validity;
 use arrow_flat::array::{ByteKind, ByteRows, FlatArray, PrimitiveArray};
 use arrow_flat_growable::growable::GrowableKind;
 use arrow_memory::bitmap::Bitmap;
@@ -93,40 +90,41 @@ fn take_rows<O: Offset, K: ByteKind, I: Index>(
     Ok((offsets.into_buffer()?, bytes))
 }
 
-// Where the bytes of the row lie that index `row` names: nowhere where the index or that row is null. Both are read
-// before the test, so that the test is a choice of values and no branch.
-fn span_at<O: Offset, I: Index>(
-    rows: &OffsetsBuffer<O>,
-    validity: Option<&Bitmap>,
-    stored: &[I],
-    nulls: Option<&Bitmap>,
-    row: usize,
-) -> (usize, usize)
-    requires fits { FitsRows (option_copied validity) (length rows.now - 1) }
-    requires index_fits { FitsRows (option_copied nulls) (length stored.now) }
-    requires marks { MarksNulls (option_copied nulls) (masked (option_copied nulls) (map I.slot stored.now)) }
-    requires within { row < length stored.now }
-    requires inside { AreIndices (length rows.now - 1)
-        (masked (option_copied nulls) (map I.slot stored.now)) }
-    ensures span { result ≡ span_of (option_copied validity.entry) rows.now
-        (key_in (slice_index_or (masked (option_copied nulls.entry) (map I.slot stored.now)) row Null)) }
-    ensures rises { result.0 ≤ result.1 }
-    ensures within { result.1 ≤ last_of rows.now }
-{
-    let place = index_at(stored, nulls, row).unwrap_or(0);
-    if rows.len() <= place + 1 {
-        // Without a row each index is null.
-        return (0, 0);
-    }
-    let span = rows.start_end(place);
-    if is_valid(nulls, row) & is_valid(validity, place) {
-        span
-    } else {
-        (0, 0)
+/// Where the bytes of rows lie: nowhere where a row or an index is null.
+#[derive(Drop)]
+struct Spans<'a, O: Offset> {
+    rows: &'a OffsetsBuffer<O>,
+    validity: Option<&'a Bitmap>,
+}
+
+impl<'a, O: Offset, I: Index> ByIndex<I> for Spans<'a, O> {
+    type Item = (usize, usize);
+
+    ghost count = { λ s. length s.rows.now - 1 };
+
+    ghost named = { λ s. taken_span (option_copied s.validity) s.rows.now };
+
+    ghost holds = { λ s. FitsRows (option_copied s.validity) (length s.rows.now - 1) };
+
+    // The place is read before the test whether its row is null, so that this too is a choice of values.
+    fn at(&self, index: I, is_valid: bool) -> (usize, usize) {
+        let index = if is_valid { index } else { I::default() };
+        let place = index.to_usize();
+        if self.rows.len() <= place + 1 {
+            // Without a row each index is null.
+            return (0, 0);
+        }
+        let span = self.rows.start_end(place);
+        if is_valid & validity::is_valid(self.validity, place) {
+            span
+        } else {
+            (0, 0)
+        }
     }
 }
 
-// Where the bytes lie of the rows that the indices name, and their offsets by index.
+// Where the bytes lie of the rows that the indices name, and their offsets by index. The spans come first, in a loop that does
+// nothing else: so a processor waits for the memory of many rows at once.
 fn take_spans<O: Offset, K: ByteKind, I: Index>(
     alloc: Global,
     values: &FlatArray<ByteRows<O, K>>,
@@ -146,12 +144,13 @@ fn take_spans<O: Offset, K: ByteKind, I: Index>(
 {
     let (rows, validity) = (values.offsets(), values.validity());
     let (stored, nulls) = (indices.values().as_slice(), indices.validity());
+    // No offset is less than the one before it.
+    let _ = rows.len();
     let mut spans = Vec::with_capacity(alloc, stored.len())?;
-    let mut offsets = Offsets::with_capacity(alloc, stored.len())?;
-    for row in 0..stored.len() {
-        let span = span_at(rows, validity, stored, nulls, row);
-        spans.push_reserved(span);
-        offsets.try_push_usize(span.1 - span.0)?;
+    append_named(&mut spans, &Spans { rows, validity }, stored, nulls);
+    let mut offsets = Offsets::with_capacity(alloc, spans.len())?;
+    for &(first, end) in &spans {
+        offsets.try_push_usize(end - first)?;
     }
     Ok((spans, offsets))
 }

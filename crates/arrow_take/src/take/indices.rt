@@ -1,11 +1,11 @@
 //! Indices of rows, and what they name of what stores the rows.
 
-ghost use Rattle.std.specs.Prelude.{◌≡◌, ◌+◌, ◌*◌, ◌<◌, ◌≤◌, ◌==◌, ℕ, [], ◌++◌, false, length, map, replicate, slice_index_or, option_copied, if◌then◌else◌, IfOk, IfSome, IsOkUnless, OnOk};
+ghost use Rattle.std.specs.Prelude.{◌≡◌, ◌+◌, ◌*◌, ◌<◌, ◌≤◌, ◌==◌, ℕ, [], ◌++◌, length, map, replicate, slice_index_or, option_copied, if◌then◌else◌, IfOk, IfSome, IsOkUnless, OnOk};
 ghost use Rattle.std.specs.Int.{bit_at};
 ghost use Rattle.std.specs.Vec.{vec_len, vec_capacity};
 ghost use Rattle.arrow_types.specs.declared.error.Error.{Error};
-ghost use Rattle.arrow_types.specs.Rows.{masked, valid_at};
-ghost use Rattle.arrow_types.specs.Slot.{Null};
+ghost use Rattle.arrow_types.specs.Rows.{masked};
+ghost use Rattle.arrow_types.specs.Slot.{Slot, Null};
 ghost use Rattle.arrow_flat.specs.Parts.{FitsRows, rows_by};
 ghost use Rattle.arrow_memory.specs.Sliced.{sliced};
 ghost use Rattle.arrow_memory.specs.Words.{low_bits};
@@ -58,7 +58,7 @@ pub(super) fn gather_values<T: NativeType, I: Index>(
         return zeros(alloc, stored.len());
     }
     let mut taken = Vec::with_capacity(alloc, stored.len())?;
-    append_values(&mut taken, values, stored, validity);
+    append_named(&mut taken, &Values { values }, stored, validity);
     Ok(taken)
 }
 
@@ -72,48 +72,88 @@ fn zeros<T: NativeType>(alloc: Global, count: usize) -> Result<Vec<T>, Error>
     Ok(values)
 }
 
-// Appends the values that the indices name, 64 at a time. There is room for them.
-fn append_values<T: NativeType, I: Index>(
-    taken: &mut Vec<T>,
-    values: &[T],
+/// What indices name, read one by one.
+pub(super) trait ByIndex<I: Index> {
+    /// What is there for an index.
+    type Item: Drop;
+
+    // how many places there are to be named, what an index gives, and what is asked of them
+    ghost count: { Self → ℕ };
+
+    ghost named: { Self → Slot → Self.Item };
+
+    ghost holds: { Self → Type 0 };
+
+    /// What is there for an index. What is stored beneath a null one does not count: the index is chosen before it is turned
+    /// into a place, so that the test is a choice of values and no branch.
+    fn at(&self, index: I, is_valid: bool) -> Self::Item
+        requires holds { holds self.now }
+        requires inside { IsIndex (count self.now) (if is_valid then I.slot index else Null) }
+        ensures { result ≡ named self.now (if is_valid then I.slot index else Null) };
+}
+
+/// Values, of which there is one at least; a null index names the first.
+#[derive(Drop)]
+struct Values<'a, T: NativeType> {
+    values: &'a [T],
+}
+
+impl<'a, T: NativeType, I: Index> ByIndex<I> for Values<'a, T> {
+    type Item = T;
+
+    ghost count = { λ s. length s.values.now };
+
+    ghost named = { λ s. picked s.values.now T.zero };
+
+    ghost holds = { λ s. 0 < length s.values.now };
+
+    fn at(&self, index: I, is_valid: bool) -> T {
+        let index = if is_valid { index } else { I::default() };
+        self.values[index.to_usize()]
+    }
+}
+
+// Appends what the indices name, 64 of them at a time. There is room for it.
+pub(super) fn append_named<S: ByIndex<I>, I: Index>(
+    taken: &mut Vec<S::Item>,
+    source: &S,
     stored: &[I],
     validity: Option<&Bitmap>,
 )
-    requires some { 0 < length values.now }
+    requires holds { S.holds source.now }
     requires room { vec_len taken.old + length stored.now ≤ vec_capacity taken.old }
     requires fits { FitsRows (option_copied validity) (length stored.now) }
-    requires inside { AreIndices (length values.now)
+    requires inside { AreIndices (S.count source.now)
         (masked (option_copied validity) (map I.slot stored.now)) }
     ensures { taken.new.items ≡ taken.old.items
-        ++ map (picked values.now T.zero) (masked (option_copied validity.entry) (map I.slot stored.now)) }
+        ++ map (S.named source.now) (masked (option_copied validity.entry) (map I.slot stored.now)) }
 {
     let mut row = 0;
     while row < stored.len() {
         let count = WORD_BITS.min(stored.len() - row);
-        append_picked(taken, values, stored, validity, row / WORD_BITS, count);
+        append_word_named(taken, source, stored, validity, row / WORD_BITS, count);
         row += count;
     }
 }
 
-// Appends the values that `count` indices from index `64 * j` on name. There is room for them, and no branch depends on a
-// bit.
-fn append_picked<T: NativeType, I: Index>(
-    taken: &mut Vec<T>,
-    values: &[T],
+// Appends what `count` indices from index `64 * j` on name. There is room for it, and no branch depends on a bit.
+fn append_word_named<S: ByIndex<I>, I: Index>(
+    taken: &mut Vec<S::Item>,
+    source: &S,
     stored: &[I],
     validity: Option<&Bitmap>,
     j: usize,
     count: usize,
 )
-    requires some { 0 < length values.now }
+    requires holds { S.holds source.now }
     requires room { vec_len taken.old + count ≤ vec_capacity taken.old }
     requires fits { FitsRows (option_copied validity) (length stored.now) }
     requires within { 64 * j + count ≤ length stored.now }
     requires in_word { count ≤ 64 }
-    requires inside { AreIndices (length values.now)
+    requires inside { AreIndices (S.count source.now)
         (masked (option_copied validity) (map I.slot stored.now)) }
     ensures items { taken.new.items
-        ≡ taken.old.items ++ map (picked values.now T.zero)
+        ≡ taken.old.items ++ map (S.named source.now)
         (sliced (masked (option_copied validity.entry) (map I.slot stored.now)) (64 * j) count) }
     ensures len { vec_len taken.new ≡ vec_len taken.old + count }
     ensures capacity { vec_capacity taken.new ≡ vec_capacity taken.old }
@@ -121,19 +161,8 @@ fn append_picked<T: NativeType, I: Index>(
     let word = valid_word(validity, j);
     let start = WORD_BITS * j;
     for k in 0..count {
-        taken.push_reserved(value_at(values, stored[start + k], word >> k & 1 == 1));
+        taken.push_reserved(source.at(stored[start + k], word >> k & 1 == 1));
     }
-}
-
-// The value that an index names, and the first one where it is null. What is stored beneath a null does not count: the
-// index is chosen before it is turned into a place, so that the test is a choice of values and no branch.
-fn value_at<T: NativeType, I: Index>(values: &[T], index: I, is_valid: bool) -> T
-    requires some { 0 < length values.now }
-    requires inside { IsIndex (length values.now) (if is_valid then I.slot index else Null) }
-    ensures { result ≡ picked values.now T.zero (if is_valid then I.slot index else Null) }
-{
-    let index = if is_valid { index } else { I::default() };
-    values[index.to_usize()]
 }
 
 // The bits that the indices name; for a null index one that is not set.

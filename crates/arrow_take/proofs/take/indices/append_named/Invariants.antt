@@ -2,15 +2,14 @@ use Rattle.std.proofs.Common.{◌≡◌, ◌+◌, ◌-◌, ◌%◌, ◌<◌, ◌
 use Rattle.std.specs.Prelude.{option_copied}
 use Rattle.std.specs.Vec.{vec_len, vec_capacity}
 use Rattle.arrow_types.specs.Rows.{masked}
-use Rattle.arrow_take.specs.Taken.{picked}
-use Rattle.arrow_take.proofs.take.indices.append_values.Given as goal
+use Rattle.arrow_take.proofs.take.indices.append_named.Given as goal
 
 -- the values of the indices so far, which are whole words of them where some are left
 abbrev pub invariant-loop-row : goal.invariant-loop-row
 invariant-loop-row g l = record {
   within : l.row ≤ length l.stored;
   aligned : l.row < length l.stored → l.row % 64 ≡ 0;
-  items : l.taken.items ≡ l.initial.taken.items ++ map (picked l.values g.T.NativeType.zero) (take l.row (masked (option_copied l.validity) (map g.I.NativeType.slot l.stored)));
+  items : l.taken.items ≡ l.initial.taken.items ++ map (g.S.ByIndex.named l.source) (take l.row (masked (option_copied l.validity) (map g.I.NativeType.slot l.stored)));
   len : vec_len l.taken ≡ vec_len l.initial.taken + l.row;
   capacity : vec_capacity l.taken ≡ vec_capacity l.initial.taken;
 }
