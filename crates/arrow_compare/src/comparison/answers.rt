@@ -43,15 +43,20 @@ pub(super) fn take_answers(
     }
 }
 
-// Each answer, and the spare one where it is null.
+// Each answer, and the spare one where it is null. Where none is, they are handed on.
+#[inline(always)]
 pub(super) fn known_or(
     alloc: Global,
     spare: bool,
-    answers: &BooleanArray,
+    answers: BooleanArray,
 ) -> Result<BooleanArray, Error>
-    ensures { AnswersTruths result (map (known_or spare) (boolean_rows answers.now)) }
+    requires { answers.arrow_type ≡ plain boolean }
+    ensures { AnswersTruths result (map (known_or spare) (boolean_rows answers)) }
 {
-    Ok(truths(known_bits(alloc, spare, answers)?, None))
+    if answers.validity().is_none() {
+        return Ok(answers);
+    }
+    Ok(truths(known_bits(alloc, spare, &answers)?, None))
 }
 
 // A bit for each answer, and the spare one where it is null, a word at a time.

@@ -66,7 +66,7 @@ pub(super) fn same_scalar(
         None => null_rows(alloc, lhs),
         Some(value) => {
             let equal = relate_rows(alloc, Relation::Eq, lhs, value)?;
-            known_or(alloc, false, &equal)
+            known_or(alloc, false, equal)
         }
     }
 }
@@ -156,7 +156,7 @@ fn null_rows(alloc: Global, lhs: &AnyArray) -> Result<BooleanArray, Error>
         AnyArray::Dictionary(array) => {
             let nulls = null_rows(alloc, array.values())?;
             let nulls = take_answers(alloc, &nulls, array.keys())?;
-            known_or(alloc, true, &nulls)
+            known_or(alloc, true, nulls)
         }
         _ => boolean::is_null(alloc, lhs),
     }
