@@ -27,7 +27,7 @@ use Rattle.arrow_flat_growable.proofs.EndLemmas.{concatenated_length, ends_last}
 
 -- ---- the items of rows, of which none lies beneath a null
 
-all_kept : (xs : List (List Slot)) → all_items (map items_row xs) ≡ concatenated xs
+pub all_kept : (xs : List (List Slot)) → all_items (map items_row xs) ≡ concatenated xs
 all_kept [] = refl
 all_kept (x ∷ xs) = λ i. from_slots-to_slots x i ++ all_kept xs i
 
@@ -48,7 +48,7 @@ kept (Some bits) xs fits none = some_kept bits xs fits none
 
 -- ---- lists fit by their count and their items
 
-lists_fit : (t : ArrowType) (xs items : List Slot) → IsListType (physical_type_of t) → all_items xs ≡ items → length xs < 2 ^ 64 → length items ≤ greatest_in (physical_type_of t) → Fits (item_type t) items → Fits t xs
+pub lists_fit : (t : ArrowType) (xs items : List Slot) → IsListType (physical_type_of t) → all_items xs ≡ items → length xs < 2 ^ 64 → length items ≤ greatest_in (physical_type_of t) → Fits (item_type t) items → Fits t xs
 lists_fit (plain p) xs items is are counted few fits = absurd (no_plain p is)
 lists_fit (list small (field name t nullable)) xs items is are counted few fits =
     (counted, omega (arith, few, ap length are), subst (Fits t) (sym are) fits)

@@ -71,10 +71,6 @@ module _ (unset count : ℕ) (old left : List Bool) (is : old ≡ replicate unse
 
 -- ---- rows by the members at which a mask is set
 
-nil_at : {A : Type 0} (mask : List Bool) → ◌≡◌ {A = List A} (at_set mask []) []
-nil_at [] = refl
-nil_at (b ∷ mask) = refl
-
 nil_under : (validity : List Bool) → ◌≡◌ {A = List Slot} (mask validity []) []
 nil_under [] = refl
 nil_under (b ∷ validity) = refl
@@ -91,7 +87,7 @@ at_set-map f (b ∷ m) [] = refl
 at_set-map f (true ∷ m) (x ∷ xs) = ap (λ ys. f x ∷ ys) (at_set-map f m xs)
 at_set-map f (false ∷ m) (x ∷ xs) = at_set-map f m xs
 
-at_set-mask : (m validity : List Bool) (xs : List Slot) → mask (at_set m validity) (at_set m xs) ≡ at_set m (mask validity xs)
+pub at_set-mask : (m validity : List Bool) (xs : List Slot) → mask (at_set m validity) (at_set m xs) ≡ at_set m (mask validity xs)
 at_set-mask [] validity xs = refl
 at_set-mask (b ∷ m) [] xs = refl
 at_set-mask (b ∷ m) (v ∷ validity) [] = nil_under (at_set (b ∷ m) (v ∷ validity))

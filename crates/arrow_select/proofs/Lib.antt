@@ -6,7 +6,9 @@ pub mod ChunkLemmas
 pub mod EdgeLemmas
 pub mod ExtendLemmas
 pub mod FilterLemmas
+pub mod FixedItemLemmas
 pub mod GrownRanges
+pub mod ItemLemmas
 pub mod KeptFields
 pub mod KeptLemmas
 pub mod LawLemmas

@@ -1,4 +1,4 @@
--- Rows of texts or bytes at which a mask is set: where they end and what bytes they have, a run of rows at a time.
+-- Rows of bytes or items at which a mask is set: where they end and what they have, a run of rows at a time.
 use Rattle.std.proofs.Common.{arith, ◌≡◌, ◌+◌, ◌-◌, ℕ, zero, suc, pos, ◌<◌, ◌≤◌, ◌^◌, Bool, true, false, Option, Some, None, List, [], ◌∷◌, ◌++◌, length, map, replicate, drop, slice_index, refl, ap, sym, subst, ◌∙◌, append_assoc}
 use Rattle.std.specs.Prelude.{option_map, slice_get, sum}
 use Rattle.std.specs.List.{All, concat, range_with_len}
@@ -24,11 +24,10 @@ use Rattle.arrow_flat_growable.specs.Bytes.{IsBytesType}
 use Rattle.arrow_flat_growable.specs.GrownRows.{total, valid_values}
 use Rattle.arrow_select.specs.Laws.{places_from}
 use Rattle.arrow_select.specs.Selected.{at_set}
-use Rattle.arrow_flat_growable.specs.Ends.{ends_from, row_in, row_length}
-use Rattle.arrow_flat_growable.proofs.EndLemmas.{ends_append, ends_last, last_ends}
+use Rattle.arrow_flat_growable.specs.Ends.{concatenated, ends_from, row_in, row_length}
+use Rattle.arrow_flat_growable.proofs.EndLemmas.{concatenated_length, ends_append, ends_last, last_ends, rows_between}
 use Rattle.arrow_select.proofs.FilterLemmas.{set_fits, set_rows}
 use Rattle.arrow_select.proofs.SetLemmas.{at_set-short}
-use Rattle.arrow_take.proofs.TakenBytes.{concat_length, pieces_of_rows}
 
 -- ---- the rows that are left, a run at a time
 
@@ -105,6 +104,12 @@ set_by_place g xs (b ∷ mask) i reads long =
     let by : (b : Bool) → at_set (b ∷ mask) (g i ∷ drop (i + 1) xs) ≡ map g (places_from i (b ∷ mask)) = elim [ true ↦ ap (λ ys. g i ∷ ys) rest | false ↦ rest ] in
     ap (at_set (b ∷ mask)) here ∙ by b
 
+-- what a mask keeps of rows that lie one behind the other
+set_items : {A : Type 0} (os : List ℕ) (xs : List A) (mask : List Bool) (i : ℕ) → valid_values mask os xs i ≡ concatenated (map (row_in os xs) (places_from i mask))
+set_items os xs [] i = refl
+set_items os xs (true ∷ mask) i = ap (λ ys. row_in os xs i ++ ys) (set_items os xs mask (i + 1))
+set_items os xs (false ∷ mask) i = set_items os xs mask (i + 1)
+
 pub set_bytes : (os bytes : List ℕ) (mask : List Bool) (i : ℕ) → valid_values mask os bytes i ≡ concat (map (row_in os bytes) (places_from i mask))
 set_bytes os bytes [] i = refl
 set_bytes os bytes (true ∷ mask) i = ap (λ ys. row_in os bytes i ++ ys) (set_bytes os bytes mask (i + 1))
@@ -120,7 +125,7 @@ all_set P (b ∷ mask) (x ∷ xs) all =
     by b
 
 -- a validity of the rows that are kept has a bit for each
-pub kept_bits : (os bytes offsets made : List ℕ) (mask : List Bool) (v w : Option (List Bool)) → length mask ≡ length os - 1 → w ≡ option_map (at_set mask) v → pieces offsets made ≡ at_set mask (pieces os bytes) → FitsRows v (length os - 1) → FitsRows w (length offsets - 1)
+pub kept_bits : {A : Type 0} (os : List ℕ) (bytes : List A) (offsets : List ℕ) (made : List A) (mask : List Bool) (v w : Option (List Bool)) → length mask ≡ length os - 1 → w ≡ option_map (at_set mask) v → pieces offsets made ≡ at_set mask (pieces os bytes) → FitsRows v (length os - 1) → FitsRows w (length offsets - 1)
 kept_bits os bytes offsets made mask v w long is are fits =
     let count = length-pieces os bytes in
     let bits = set_fits mask v w (pieces os bytes) (pieces offsets made) is are (omega (arith, long, count)) (subst (FitsRows v) (sym count) fits) in
@@ -133,63 +138,66 @@ last_below rows os len end greatest same count is most =
     let last : slice_index rows (0 + (len - 1)) ≡ last_of os = λ i. slice_index (same i) (at i) in
     omega (arith, most, is, last)
 
--- rows that lie in bytes
-module _ (os bytes : List ℕ) (sound : IsOffsets os) (within : last_of os ≤ length bytes) (mask : List Bool) (long : length mask ≡ length os - 1) where
-  abbrev kept : List (List ℕ)
-  kept = at_set mask (pieces os bytes)
+-- rows of bytes or items that a mask keeps
+module _ {A : Type 0} (os : List ℕ) (xs : List A) (sound : IsOffsets os) (within : last_of os ≤ length xs) (mask : List Bool) (long : length mask ≡ length os - 1) where
+  abbrev kept : List (List A)
+  kept = at_set mask (pieces os xs)
 
   some_offset : 0 < length os
   some_offset = omega (arith, sound.some, length-map os pos)
 
-  by_place : kept ≡ map (row_in os bytes) (places_from 0 mask)
+  by_place : kept ≡ map (row_in os xs) (places_from 0 mask)
   by_place =
-      set_by_place (row_in os bytes) (pieces os bytes) mask 0 (λ n has. piece_at os bytes n (omega (arith, has, length-pieces os bytes))) (omega (arith, long, length-pieces os bytes))
+      set_by_place (row_in os xs) (pieces os xs) mask 0 (λ n has. piece_at os xs n (omega (arith, has, length-pieces os xs))) (omega (arith, long, length-pieces os xs))
 
-  row_long : (n : ℕ) → n + 1 < length os → length (row_in os bytes n) ≡ row_length os n
+  row_long : (n : ℕ) → n + 1 < length os → length (row_in os xs n) ≡ row_length os n
   row_long n has =
-      length-sliced bytes (slice_index os n) (row_length os n) (omega (arith, within, offsets_rise os n (n + 1) sound (omega arith) has, at_most_last os (n + 1) sound has))
+      length-sliced xs (slice_index os n) (row_length os n) (omega (arith, within, offsets_rise os n (n + 1) sound (omega arith) has, at_most_last os (n + 1) sound has))
 
-  rows_long : (bits : List Bool) (i : ℕ) → i + length bits < length os → map length (map (row_in os bytes) (places_from i bits)) ≡ map (row_length os) (places_from i bits)
+  rows_long : (bits : List Bool) (i : ℕ) → i + length bits < length os → map length (map (row_in os xs) (places_from i bits)) ≡ map (row_length os) (places_from i bits)
   rows_long [] i has = refl
   rows_long (b ∷ bits) i has =
       let first = row_long i (omega (arith, has)) in
       let rest = rows_long bits (i + 1) (omega (arith, has)) in
-      let by : (b : Bool) → map length (map (row_in os bytes) (places_from i (b ∷ bits))) ≡ map (row_length os) (places_from i (b ∷ bits)) = elim [ true ↦ (λ t. first t ∷ rest t) | false ↦ rest ] in
+      let by : (b : Bool) → map length (map (row_in os xs) (places_from i (b ∷ bits))) ≡ map (row_length os) (places_from i (b ∷ bits)) = elim [ true ↦ (λ t. first t ∷ rest t) | false ↦ rest ] in
       by b
 
   lengths_are : map length kept ≡ map (row_length os) (places_from 0 mask)
   lengths_are = ap (map length) by_place ∙ rows_long mask 0 (omega (arith, long, some_offset))
 
-  -- offsets and bytes that were made so
-  module _ (offsets made : List ℕ) (ends : offsets ≡ 0 ∷ ends_from 0 (map (row_length os) (places_from 0 mask))) (are : made ≡ valid_values mask os bytes 0) where
+  -- offsets, and bytes or items, that were made so
+  module _ (offsets : List ℕ) (made : List A) (ends : offsets ≡ 0 ∷ ends_from 0 (map (row_length os) (places_from 0 mask))) (are : made ≡ valid_values mask os xs 0) where
     ends_are : offsets ≡ 0 ∷ ends_from 0 (map length kept)
     ends_are = ends ∙ ap (λ ls. 0 ∷ ends_from 0 ls) (sym lengths_are)
 
-    bytes_are : made ≡ concat kept
-    bytes_are = are ∙ (set_bytes os bytes mask 0 ∙ ap concat (sym by_place))
+    pub kept_items : made ≡ concatenated kept
+    kept_items = are ∙ (set_items os xs mask 0 ∙ ap concatenated (sym by_place))
 
-    pub kept_pieces : pieces offsets made ≡ at_set mask (pieces os bytes)
-    kept_pieces = (λ i. pieces (ends_are i) (bytes_are i)) ∙ pieces_of_rows kept
+    pub kept_pieces : pieces offsets made ≡ at_set mask (pieces os xs)
+    kept_pieces = (λ i. pieces (ends_are i) (kept_items i)) ∙ rows_between kept
 
-    pub kept_end : last_of offsets ≤ length made
+    pub kept_end : last_of offsets ≡ length made
     kept_end =
-        omega (arith, ap last_of ends_are ∙ ends_last 0 (map length kept), concat_length kept, ap length bytes_are)
+        omega (arith, ap last_of ends_are ∙ ends_last 0 (map length kept), concatenated_length kept, ap length kept_items)
 
-  -- they have no more bytes than all rows, so they fit the type
-  few : total kept ≤ last_of os
+  -- they have no more than all rows
+  pub few : total kept ≤ last_of os
   few =
       let at : slice_index os (0 + length mask) ≡ last_of os = ap (slice_index os) (omega (arith, long)) in
       omega (arith, sum-map length kept, ap sum lengths_are, set_sum os mask 0 sound (omega (arith, long, some_offset)), at)
 
-  fit_under : (slot : List ℕ → Slot) (is_large : Bool) (t : ArrowType) (physical_type : PhysicalType) → IsBytesType is_large physical_type → physical_type_of t ≡ physical_type → (w : Option (List Bool)) → FitsRows w (length kept) → Fits t (map slot kept) → Fits t (masked w (map slot kept))
+-- so rows of bytes fit the type
+module _ (os bytes : List ℕ) (sound : IsOffsets os) (within : last_of os ≤ length bytes) (mask : List Bool) (long : length mask ≡ length os - 1) where
+  fit_under : (slot : List ℕ → Slot) (is_large : Bool) (t : ArrowType) (physical_type : PhysicalType) → IsBytesType is_large physical_type → physical_type_of t ≡ physical_type → (w : Option (List Bool)) → FitsRows w (length (at_set mask (pieces os bytes))) → Fits t (map slot (at_set mask (pieces os bytes))) → Fits t (masked w (map slot (at_set mask (pieces os bytes))))
   fit_under slot is_large t physical_type lies kind None fits fit = fit
   fit_under slot is_large t physical_type lies kind (Some bits) fits fit =
-      fits_rows is_large t physical_type lies kind bits (map slot kept) (fits ∙ sym (length-map kept slot)) fit
+      fits_rows is_large t physical_type lies kind bits (map slot (at_set mask (pieces os bytes))) (fits ∙ sym (length-map (at_set mask (pieces os bytes)) slot)) fit
 
   pub kept_fit : (slot : List ℕ → Slot) → ((bytes : List ℕ) → byte_count (slot bytes) ≡ length bytes) → (is_large : Bool) (t : ArrowType) (physical_type : PhysicalType) → IsBytesType is_large physical_type → physical_type_of t ≡ physical_type → (v : Option (List Bool)) (greatest : ℕ) → greatest ≡ greatest_offset is_large → FitsRows v (length os - 1) → length mask < 2 ^ 64 → last_of os ≤ greatest → Fits t (select mask (masked v (map slot (pieces os bytes))))
   kept_fit slot counts is_large t physical_type lies kind v greatest is fits counted most =
+      let kept = at_set mask (pieces os bytes) in
       let count = length-pieces os bytes in
       let same = set_rows slot mask v (option_map (at_set mask) v) (pieces os bytes) kept refl refl in
       let bits = set_fits mask v (option_map (at_set mask) v) (pieces os bytes) kept refl refl (omega (arith, long, count)) (subst (FitsRows v) (sym count) fits) in
-      let stored = slots_fit slot counts is_large t physical_type lies kind kept (length kept) greatest refl (omega (arith, counted, long, count, at_set-short mask (pieces os bytes))) (omega (arith, few, most)) is in
+      let stored = slots_fit slot counts is_large t physical_type lies kind kept (length kept) greatest refl (omega (arith, counted, long, count, at_set-short mask (pieces os bytes))) (omega (arith, few os bytes sound within mask long, most)) is in
       subst (Fits t) same (fit_under slot is_large t physical_type lies kind (option_map (at_set mask) v) bits stored)

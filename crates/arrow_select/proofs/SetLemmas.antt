@@ -27,7 +27,7 @@ length-at_set (b ∷ mask) [] h = absurd (omega (arith, h))
 length-at_set (true ∷ mask) (x ∷ xs) h = omega (arith, length-at_set mask xs (omega (arith, h)), sum_by-cons (λ b. cond b 1 0) true mask)
 length-at_set (false ∷ mask) (x ∷ xs) h = omega (arith, length-at_set mask xs (omega (arith, h)), sum_by-cons (λ b. cond b 1 0) false mask)
 
-nil_at : {A : Type 0} (mask : List Bool) → ◌≡◌ {A = List A} (at_set mask []) []
+pub nil_at : {A : Type 0} (mask : List Bool) → ◌≡◌ {A = List A} (at_set mask []) []
 nil_at [] = refl
 nil_at (b ∷ mask) = refl
 

@@ -1,5 +1,5 @@
 -- Rows of columns that a mask keeps, and values and bits at which a mask is set.
-use Rattle.std.specs.Prelude.{◌≡◌, ◌+◌, ◌<◌, ◌≤◌, ℕ, Bool, List, Option, Result, [], ◌∷◌, ◌++◌, Some, length, map, slice_get, take, if◌then◌else◌, IsOkUnless, OnErr, OnOk}
+use Rattle.std.specs.Prelude.{◌≡◌, ◌+◌, ◌-◌, ◌<◌, ◌≤◌, ℕ, Bool, false, List, Option, Result, [], ◌∷◌, ◌++◌, Some, length, map, replicate, slice_get, slice_index, take, if◌then◌else◌, IsOkUnless, OnErr, OnOk}
 use Rattle.std.specs.Int.{bit_at}
 use Rattle.std.specs.List.{All}
 use Rattle.arrow_types.specs.declared.error.Error.{Error}
@@ -7,10 +7,12 @@ use Rattle.arrow_types.specs.declared.error.Error.TheVariants.{OutOfMemory}
 use Rattle.arrow_types.specs.Fits.{Fits}
 use Rattle.arrow_types.specs.Rows.{masked, select}
 use Rattle.arrow_types.specs.Slot.{Slot, Null, null_slot}
+use Rattle.arrow_memory.specs.Offsets.{last_of}
 use Rattle.arrow_memory.specs.Words.{low_bits}
 use Rattle.arrow_arrays.specs.declared.array.any.AnyArray.{AnyArray}
 use Rattle.arrow_arrays.specs.Any.{any_array_rows, any_array_type}
 use Rattle.arrow_arrays.specs.Layout.{Layout, rows, type_of_layout}
+use Rattle.arrow_flat_growable.specs.Ends.{row_length}
 
 -- those of one column
 abbrev pub selected_rows : List Bool → Layout → List Slot
@@ -43,6 +45,16 @@ pub record KeptColumns (mask : List Bool) (validity : Option (List Bool)) (colum
 abbrev pub at_set : {A : Type 0} → List Bool → List A → List A
 at_set (bit ∷ mask) (x ∷ xs) = if bit then x ∷ at_set mask xs else at_set mask xs
 at_set _ _ = []
+
+-- a bit for each item of the rows from row i on, which is that of its row
+abbrev pub item_bits : List Bool → List ℕ → ℕ → List Bool
+item_bits [] offsets i = []
+item_bits (bit ∷ bits) offsets i = replicate (row_length offsets i) bit ++ item_bits bits offsets (i + 1)
+
+-- of n items, set for those of rows at which a mask is set
+abbrev pub item_mask : List Bool → List ℕ → ℕ → List Bool
+item_mask mask offsets n =
+    replicate (slice_index offsets 0) false ++ (item_bits mask offsets 0 ++ replicate (n - last_of offsets) false)
 
 -- the values at which the bits of a word are set, from the least significant one on; bits past the values count for nothing
 abbrev pub set_in_word : {A : Type 0} → ℕ → List A → List A

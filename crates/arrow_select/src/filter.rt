@@ -16,6 +16,8 @@ mod boolean;
 mod bytes;
 mod columns;
 mod dict;
+mod fixed_size_list;
+mod list;
 mod prepared;
 mod primitive;
 mod ranged;

@@ -18,6 +18,8 @@ ghost use Rattle.arrow_select.specs.Selection.{mask_in};
 use crate::filter::boolean::filter_boolean;
 use crate::filter::bytes::filter_bytes;
 use crate::filter::dict::filter_dictionary;
+use crate::filter::fixed_size_list::filter_fixed_size_list;
+use crate::filter::list::filter_list;
 use crate::filter::prepared::Filter;
 use crate::filter::primitive::filter_primitive;
 use crate::filter::selection::Selection;
@@ -95,6 +97,16 @@ pub(super) fn kept(
         AnyArray::Dictionary(values) => {
             let kept = filter_dictionary(alloc, values, selection, count)?;
             Ok(AnyArray::Dictionary(kept))
+        }
+        AnyArray::List(values) => match filter_list(alloc, values, selection, count)? {
+            Some(kept) => Ok(AnyArray::List(kept)),
+            None => kept_by_growable(alloc, array, selection, count),
+        },
+        AnyArray::FixedSizeList(values) => {
+            match filter_fixed_size_list(alloc, values, selection, count)? {
+                Some(kept) => Ok(AnyArray::FixedSizeList(kept)),
+                None => kept_by_growable(alloc, array, selection, count),
+            }
         }
         AnyArray::Struct(values) => match filter_struct(alloc, values, selection, count)? {
             Some(kept) => Ok(AnyArray::Struct(kept)),

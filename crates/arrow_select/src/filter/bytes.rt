@@ -163,7 +163,7 @@ fn ranged_spans<O: Offset>(
 }
 
 // Appends where `len` rows from row `start` on end. These offsets fit.
-fn append_ends<O: Offset>(
+pub(super) fn append_ends<O: Offset>(
     ends: &mut Offsets<O>,
     rows: &OffsetsBuffer<O>,
     start: usize,

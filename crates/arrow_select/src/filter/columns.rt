@@ -3,7 +3,6 @@
 ghost use Rattle.std.specs.Prelude.{◌≡◌, count_by, length, map, option_copied, IfOk, IfSome, IsOkUnless};
 ghost use Rattle.arrow_types.specs.declared.error.Error.{Error};
 ghost use Rattle.arrow_types.specs.Fits.{Fits};
-ghost use Rattle.arrow_types.specs.Rows.{masked};
 ghost use Rattle.arrow_flat.specs.AnyPrimitive.{any_rows, any_type};
 ghost use Rattle.arrow_flat.specs.ByteRows.{byte_slots};
 ghost use Rattle.arrow_flat.specs.Parts.{FitsRows, boolean_rows, rows_by};
@@ -27,14 +26,21 @@ use std::alloc::Global;
 // Whether no column has children, so that the rows of each can be kept by themselves.
 pub(super) fn are_flat(columns: &[AnyArray]) -> bool {
     for column in columns {
-        match column {
-            AnyArray::Primitive(_) | AnyArray::Boolean(_) => {}
-            AnyArray::Utf8(_) | AnyArray::LargeUtf8(_) => {}
-            AnyArray::Binary(_) | AnyArray::LargeBinary(_) => {}
-            _ => return false,
+        if !is_flat(column) {
+            return false;
         }
     }
     true
+}
+
+// Whether a column has no children.
+pub(super) fn is_flat(column: &AnyArray) -> bool {
+    match column {
+        AnyArray::Primitive(_) | AnyArray::Boolean(_) => true,
+        AnyArray::Utf8(_) | AnyArray::LargeUtf8(_) => true,
+        AnyArray::Binary(_) | AnyArray::LargeBinary(_) => true,
+        _ => false,
+    }
 }
 
 // The rows of a column that are kept, null where a bit of the validity is not set: none where the column has children.

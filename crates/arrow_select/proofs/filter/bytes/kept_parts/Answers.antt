@@ -36,4 +36,4 @@ returns-clause-within g c =
     let within : last_of c.offsets-rows.result.now ≤ length c.as_slice-values.result.now = omega (arith, c.values.ensures.within, ap last_of c.offsets-rows.ensures, ap length lent) in
     let ends = c.in_ok-into_buffer.ensures.ok ∙ (c.in_ok-spans.ensures.ends ∙ ap (λ os. 0 ∷ ends_from 0 (map (row_length os) (places_from 0 mask))) c.offsets-rows.ensures) in
     let bytes = c.in_ok-bytes.ensures.ok ∙ (ap (spanned c.as_slice-values.result.now) c.deref.ensures.value ∙ (c.in_ok-spans.ensures.bytes c.as_slice-values.result.now within ∙ (λ i. valid_values mask (c.offsets-rows.ensures i) (lent i) 0))) in
-    kept_end p.offsets p.bytes sound c.values.ensures.within mask c.requires.lengths c.in_ok-into_buffer.field-0 c.in_ok-bytes.bytes.items ends bytes
+    omega (arith, kept_end p.offsets p.bytes sound c.values.ensures.within mask c.requires.lengths c.in_ok-into_buffer.field-0 c.in_ok-bytes.bytes.items ends bytes)
