@@ -98,25 +98,44 @@ pub(super) fn kept(
             let kept = filter_dictionary(alloc, values, selection, count)?;
             Ok(AnyArray::Dictionary(kept))
         }
-        AnyArray::List(values) => match filter_list(alloc, values, selection, count)? {
-            Some(kept) => Ok(AnyArray::List(kept)),
+        _ => match kept_nested(alloc, array, selection, count)? {
+            Some(kept) => Ok(kept),
             None => kept_by_growable(alloc, array, selection, count),
         },
-        AnyArray::FixedSizeList(values) => {
-            match filter_fixed_size_list(alloc, values, selection, count)? {
-                Some(kept) => Ok(AnyArray::FixedSizeList(kept)),
-                None => kept_by_growable(alloc, array, selection, count),
-            }
+    }
+}
+
+// The rows that are kept of an array whose children have none, a child at a time: none of another one.
+fn kept_nested(
+    alloc: Global,
+    array: &AnyArray,
+    selection: Selection<'_>,
+    count: usize,
+) -> Result<Option<AnyArray>, Error>
+    requires lengths { length (mask_in selection) ≡ length (any_array_rows array.now) }
+    requires count { count ≡ count_by (λ is_kept. is_kept) (mask_in selection) }
+    ensures ok { IfOk result (λ made. IfSome made (λ kept. Gives any_array_type any_array_rows kept
+        (any_array_type array.now) (select (mask_in selection.entry) (any_array_rows array.now)))) }
+    ensures err { IsOkUnless result Error.OutOfMemory }
+{
+    match array {
+        AnyArray::List(values) => {
+            let kept = filter_list(alloc, values, selection, count)?;
+            Ok(kept.map(AnyArray::List))
         }
-        AnyArray::Struct(values) => match filter_struct(alloc, values, selection, count)? {
-            Some(kept) => Ok(AnyArray::Struct(kept)),
-            None => kept_by_growable(alloc, array, selection, count),
-        },
-        AnyArray::Union(values) => match kept_union(alloc, values, selection, count)? {
-            Some(kept) => Ok(AnyArray::Union(kept)),
-            None => kept_by_growable(alloc, array, selection, count),
-        },
-        _ => kept_by_growable(alloc, array, selection, count),
+        AnyArray::FixedSizeList(values) => {
+            let kept = filter_fixed_size_list(alloc, values, selection, count)?;
+            Ok(kept.map(AnyArray::FixedSizeList))
+        }
+        AnyArray::Struct(values) => {
+            let kept = filter_struct(alloc, values, selection, count)?;
+            Ok(kept.map(AnyArray::Struct))
+        }
+        AnyArray::Union(values) => {
+            let kept = kept_union(alloc, values, selection, count)?;
+            Ok(kept.map(AnyArray::Union))
+        }
+        _ => Ok(None),
     }
 }
 
