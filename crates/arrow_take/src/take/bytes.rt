@@ -12,11 +12,11 @@ ghost use Rattle.arrow_take.specs.Taken.{AreIndices, span_length, taken_bytes, t
 ghost use Rattle.arrow_flat_growable.specs.Ends.{ends_from};
 
 use crate::spans::copy_spans;
-use crate::take::indices::{ByIndex, append_named, take_validity};
+use crate::take::indices::{ByIndex, append_word_named, take_validity};
 use crate::validity;
 use arrow_flat::array::{ByteKind, ByteRows, FlatArray, PrimitiveArray};
 use arrow_flat_growable::growable::GrowableKind;
-use arrow_memory::bitmap::Bitmap;
+use arrow_memory::bitmap::{Bitmap, WORD_BITS};
 use arrow_memory::buffer::Buffer;
 use arrow_memory::offset::{Offsets, OffsetsBuffer};
 use arrow_types::error::Error;
@@ -123,8 +123,8 @@ impl<'a, O: Offset, I: Index> ByIndex<I> for Spans<'a, O> {
     }
 }
 
-// Where the bytes lie of the rows that the indices name, and their offsets by index. The spans come first, in a loop that does
-// nothing else: so a processor waits for the memory of many rows at once.
+// Where the bytes lie of the rows that the indices name, and their offsets by index, 64 of them at a time: spans first, in a loop
+// that does nothing else, so that a processor waits for the memory of many rows at once.
 fn take_spans<O: Offset, K: ByteKind, I: Index>(
     alloc: Global,
     values: &FlatArray<ByteRows<O, K>>,
@@ -147,10 +147,16 @@ fn take_spans<O: Offset, K: ByteKind, I: Index>(
     // No offset is less than the one before it.
     let _ = rows.len();
     let mut spans = Vec::with_capacity(alloc, stored.len())?;
-    append_named(&mut spans, &Spans { rows, validity }, stored, nulls);
-    let mut offsets = Offsets::with_capacity(alloc, spans.len())?;
-    for &(first, end) in &spans {
-        offsets.try_push_usize(end - first)?;
+    let mut offsets = Offsets::with_capacity(alloc, stored.len())?;
+    let named = Spans { rows, validity };
+    let mut row = 0;
+    while row < stored.len() {
+        let count = WORD_BITS.min(stored.len() - row);
+        append_word_named(&mut spans, &named, stored, nulls, row / WORD_BITS, count);
+        for &(first, end) in &spans[row..] {
+            offsets.try_push_usize(end - first)?;
+        }
+        row += count;
     }
     Ok((spans, offsets))
 }

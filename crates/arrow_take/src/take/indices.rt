@@ -114,7 +114,7 @@ impl<'a, T: NativeType, I: Index> ByIndex<I> for Values<'a, T> {
 }
 
 // Appends what the indices name, 64 of them at a time. There is room for it.
-pub(super) fn append_named<S: ByIndex<I>, I: Index>(
+fn append_named<S: ByIndex<I>, I: Index>(
     taken: &mut Vec<S::Item>,
     source: &S,
     stored: &[I],
@@ -137,7 +137,7 @@ pub(super) fn append_named<S: ByIndex<I>, I: Index>(
 }
 
 // Appends what `count` indices from index `64 * j` on name. There is room for it, and no branch depends on a bit.
-fn append_word_named<S: ByIndex<I>, I: Index>(
+pub(super) fn append_word_named<S: ByIndex<I>, I: Index>(
     taken: &mut Vec<S::Item>,
     source: &S,
     stored: &[I],

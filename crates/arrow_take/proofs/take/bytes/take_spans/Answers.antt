@@ -1,18 +1,21 @@
-use Rattle.std.proofs.Common.{◌≡◌, ◌-◌, ◌<◌, ◌++◌, ◌∙◌, ℕ, Err, arith, ap, get_or, length, map, replicate, subst, sym}
-use Rattle.std.specs.List.{All}
-use Rattle.std.proofs.lemmas.List.{get_or-map, length-map, length-replicate}
+use Rattle.std.proofs.Common.{◌≡◌, ◌+◌, ◌-◌, ◌*◌, ◌/◌, ◌<◌, ◌∷◌, ◌++◌, ◌∙◌, ℕ, [], Err, arith, ap, drop, get_or, length, map, replicate, subst, sym, take}
+use Rattle.std.proofs.lemmas.List.{get_or-drop, get_or-map, get_or-take, length-drop, length-map, length-replicate, length-take}
 use Rattle.arrow_types.specs.Rows.{masked}
 use Rattle.arrow_types.specs.Slot.{Null}
 use Rattle.arrow_memory.specs.Offsets.{IsOffsets, last_of}
+use Rattle.arrow_memory.specs.Sliced.{sliced}
 use Rattle.arrow_flat.specs.Parts.{rows_by}
+use Rattle.arrow_flat.proofs.PartsLemmas.{length-masked}
 use Rattle.arrow_flat_growable.proofs.ResultLemmas.{passed_on}
+use Rattle.arrow_flat_growable.specs.Ends.{ends_from}
 use Rattle.arrow_take.specs.Spans.{IsSpanWithin}
 use Rattle.arrow_take.specs.Taken.{span_length, taken_span}
+use Rattle.arrow_take.proofs.IndexLemmas.{gives_more}
 use Rattle.arrow_take.proofs.TakenBytes.{offsets_next, passes_all, rows_fit, spans_within}
 use Rattle.arrow_take.proofs.take.bytes.take_spans.Goals as goal
 
-pub append_named-requires-clause-holds : goal.append_named-requires-clause-holds
-append_named-requires-clause-holds g c =
+pub append_word_named-requires-clause-holds : goal.append_word_named-requires-clause-holds
+append_word_named-requires-clause-holds g c =
     rows_fit g.K.ByteKind.slot c.args.values.now.validity _ c.args.values.now.values.offsets _ c.args.values.now.values.bytes c.validity-validity.ensures.same c.offsets-rows.ensures c.validity-validity.ensures.fits
 
 pub overflow_sub-end : goal.overflow_sub-end
@@ -21,11 +24,23 @@ overflow_sub-end g c =
     let os = c.args.values.now.values.offsets in
     let rows = rows_by (map g.I.NativeType.slot) c.args.indices.now in
     let lent = c.as_slice-stored.ensures ∙ c.values.ensures in
-    let spans : c.deref-first-items.result.now ≡ map (taken_span v os) rows = c.deref-first-items.ensures.value ∙ (c.append_named.ensures ∙ (λ i. c.in_ok-spans.ensures.items i ++ map (taken_span (c.validity-validity.ensures.same i) (c.offsets-rows.ensures i)) (masked (c.validity-nulls.ensures.same i) (map g.I.NativeType.slot (lent i))))) in
+    let row = c.loop-row.row in
+    let count = c.min-count.result in
+    let here : 64 * (row / 64) ≡ row = omega (arith, c.loop-row.invariant.aligned c.loop-row-test.true) in
+    let more = c.append_word_named.ensures.items ∙ (λ i. c.loop-row.spans.items ++ map (taken_span (c.validity-validity.ensures.same i) (c.offsets-rows.ensures i)) (sliced (masked (c.validity-nulls.ensures.same i) (map g.I.NativeType.slot (lent i))) (64 * (row / 64)) count)) in
+    let spans : c.append_word_named.new.taken.items ≡ map (taken_span v os) (take (row + count) rows) = gives_more (taken_span v os) [] c.loop-row.spans.items c.append_word_named.new.taken.items rows row (64 * (row / 64)) count here more c.loop-row.invariant.spans in
+    let read : c.deref.result.now ≡ map (taken_span v os) (take (row + count) rows) = c.deref.ensures.value ∙ spans in
+    let k = c.loop-first.first-index in
+    let part = take (length c.deref.result.now - row) (drop row c.deref.result.now) in
+    let long = length-take (length c.deref.result.now - row) (drop row c.deref.result.now) in
+    let rest = length-drop row c.deref.result.now in
+    let among : row + k < length (take (row + count) rows) = omega (arith, c.loop-first-test.true, long, rest, ap length read, length-map (take (row + count) rows) (taken_span v os)) in
+    let within : row + k < length rows = omega (arith, among, length-take (row + count) rows) in
+    let span : get_or part k (0, 0) ≡ taken_span v os (get_or rows (row + k) Null) = get_or-take (length c.deref.result.now - row) (drop row c.deref.result.now) k (0, 0) (omega (arith, c.loop-first-test.true, long)) ∙ (get_or-drop row c.deref.result.now k (0, 0) ∙ (ap (λ xs. get_or xs (row + k) (0, 0)) read ∙ (get_or-map (taken_span v os) (take (row + count) rows) (row + k) Null (0, 0) among ∙ ap (taken_span v os) (get_or-take (row + count) rows (row + k) Null (omega (arith, among, length-take (row + count) rows)))))) in
     let sound = subst IsOffsets c.offsets-rows.ensures c.len.ensures.sound in
     let bytes = replicate (last_of os) 0 in
-    let within = spans_within v os bytes sound (omega (arith, length-replicate {A = ℕ} (last_of os) 0)) rows c.requires in
-    (subst (All (IsSpanWithin (length bytes))) (sym spans) within c.loop-first.first-index (0, 0) c.loop-first-test.true).0
+    let rise = spans_within v os bytes sound (omega (arith, length-replicate {A = ℕ} (last_of os) 0)) rows c.requires (row + k) (0, 0) (omega (arith, within, length-map rows (taken_span v os))) in
+    (subst (IsSpanWithin (length bytes)) (get_or-map (taken_span v os) rows (row + k) Null (0, 0) within ∙ sym span) rise).0
 
 pub returns-in_err-try_push_usize-clause-overflow : goal.returns-in_err-try_push_usize-clause-overflow
 returns-in_err-try_push_usize-clause-overflow g c overflows =
@@ -33,12 +48,21 @@ returns-in_err-try_push_usize-clause-overflow g c overflows =
     let os = c.args.values.now.values.offsets in
     let rows = rows_by (map g.I.NativeType.slot) c.args.indices.now in
     let lent = c.as_slice-stored.ensures ∙ c.values.ensures in
-    let spans : c.deref-first-items.result.now ≡ map (taken_span v os) rows = c.deref-first-items.ensures.value ∙ (c.append_named.ensures ∙ (λ i. c.in_ok-spans.ensures.items i ++ map (taken_span (c.validity-validity.ensures.same i) (c.offsets-rows.ensures i)) (masked (c.validity-nulls.ensures.same i) (map g.I.NativeType.slot (lent i))))) in
+    let row = c.loop-row.row in
+    let count = c.min-count.result in
+    let here : 64 * (row / 64) ≡ row = omega (arith, c.loop-row.invariant.aligned c.loop-row-test.true) in
+    let more = c.append_word_named.ensures.items ∙ (λ i. c.loop-row.spans.items ++ map (taken_span (c.validity-validity.ensures.same i) (c.offsets-rows.ensures i)) (sliced (masked (c.validity-nulls.ensures.same i) (map g.I.NativeType.slot (lent i))) (64 * (row / 64)) count)) in
+    let spans : c.append_word_named.new.taken.items ≡ map (taken_span v os) (take (row + count) rows) = gives_more (taken_span v os) [] c.loop-row.spans.items c.append_word_named.new.taken.items rows row (64 * (row / 64)) count here more c.loop-row.invariant.spans in
+    let read : c.deref.result.now ≡ map (taken_span v os) (take (row + count) rows) = c.deref.ensures.value ∙ spans in
     let k = c.loop-first.first-index in
-    let within : k < length rows = omega (arith, c.loop-first-test.true, ap length spans, length-map rows (taken_span v os)) in
-    let span = ap (λ xs. get_or xs k (0, 0)) spans ∙ get_or-map (taken_span v os) rows k Null (0, 0) within in
+    let part = take (length c.deref.result.now - row) (drop row c.deref.result.now) in
+    let long = length-take (length c.deref.result.now - row) (drop row c.deref.result.now) in
+    let rest = length-drop row c.deref.result.now in
+    let among : row + k < length (take (row + count) rows) = omega (arith, c.loop-first-test.true, long, rest, ap length read, length-map (take (row + count) rows) (taken_span v os)) in
+    let within : row + k < length rows = omega (arith, among, length-take (row + count) rows) in
+    let span : get_or part k (0, 0) ≡ taken_span v os (get_or rows (row + k) Null) = get_or-take (length c.deref.result.now - row) (drop row c.deref.result.now) k (0, 0) (omega (arith, c.loop-first-test.true, long)) ∙ (get_or-drop row c.deref.result.now k (0, 0) ∙ (ap (λ xs. get_or xs (row + k) (0, 0)) read ∙ (get_or-map (taken_span v os) (take (row + count) rows) (row + k) Null (0, 0) among ∙ ap (taken_span v os) (get_or-take (row + count) rows (row + k) Null (omega (arith, among, length-take (row + count) rows)))))) in
     let over = c.in_err-try_push_usize.ensures.overflow.0 (ap Err (passed_on c.from_residual-in_err-try_push_usize.result _ _ c.from_residual-in_err-try_push_usize.ensures.1 overflows)) in
-    passes_all (span_length v os) rows k _ g.O.Index.greatest c.loop-first.offsets within (ap (λ s. s.1 - s.0) span) c.loop-first.invariant over
+    passes_all (span_length v os) rows (row + k) _ g.O.Index.greatest c.loop-first.offsets within (ap (λ s. s.1 - s.0) span) c.loop-first.invariant over
 
 pub loop-first-preserved : goal.loop-first-preserved
 loop-first-preserved g c =
@@ -46,8 +70,46 @@ loop-first-preserved g c =
     let os = c.args.values.now.values.offsets in
     let rows = rows_by (map g.I.NativeType.slot) c.args.indices.now in
     let lent = c.as_slice-stored.ensures ∙ c.values.ensures in
-    let spans : c.deref-first-items.result.now ≡ map (taken_span v os) rows = c.deref-first-items.ensures.value ∙ (c.append_named.ensures ∙ (λ i. c.in_ok-spans.ensures.items i ++ map (taken_span (c.validity-validity.ensures.same i) (c.offsets-rows.ensures i)) (masked (c.validity-nulls.ensures.same i) (map g.I.NativeType.slot (lent i))))) in
+    let row = c.loop-row.row in
+    let count = c.min-count.result in
+    let here : 64 * (row / 64) ≡ row = omega (arith, c.loop-row.invariant.aligned c.loop-row-test.true) in
+    let more = c.append_word_named.ensures.items ∙ (λ i. c.loop-row.spans.items ++ map (taken_span (c.validity-validity.ensures.same i) (c.offsets-rows.ensures i)) (sliced (masked (c.validity-nulls.ensures.same i) (map g.I.NativeType.slot (lent i))) (64 * (row / 64)) count)) in
+    let spans : c.append_word_named.new.taken.items ≡ map (taken_span v os) (take (row + count) rows) = gives_more (taken_span v os) [] c.loop-row.spans.items c.append_word_named.new.taken.items rows row (64 * (row / 64)) count here more c.loop-row.invariant.spans in
+    let read : c.deref.result.now ≡ map (taken_span v os) (take (row + count) rows) = c.deref.ensures.value ∙ spans in
     let k = c.loop-first.first-index in
-    let within : k < length rows = omega (arith, c.loop-first-test.true, ap length spans, length-map rows (taken_span v os)) in
-    let span = ap (λ xs. get_or xs k (0, 0)) spans ∙ get_or-map (taken_span v os) rows k Null (0, 0) within in
-    offsets_next (span_length v os) rows k _ c.loop-first.offsets _ within (ap (λ s. s.1 - s.0) span) c.loop-first.invariant c.in_ok-try_push_usize.ensures.ok
+    let part = take (length c.deref.result.now - row) (drop row c.deref.result.now) in
+    let long = length-take (length c.deref.result.now - row) (drop row c.deref.result.now) in
+    let rest = length-drop row c.deref.result.now in
+    let among : row + k < length (take (row + count) rows) = omega (arith, c.loop-first-test.true, long, rest, ap length read, length-map (take (row + count) rows) (taken_span v os)) in
+    let within : row + k < length rows = omega (arith, among, length-take (row + count) rows) in
+    let span : get_or part k (0, 0) ≡ taken_span v os (get_or rows (row + k) Null) = get_or-take (length c.deref.result.now - row) (drop row c.deref.result.now) k (0, 0) (omega (arith, c.loop-first-test.true, long)) ∙ (get_or-drop row c.deref.result.now k (0, 0) ∙ (ap (λ xs. get_or xs (row + k) (0, 0)) read ∙ (get_or-map (taken_span v os) (take (row + count) rows) (row + k) Null (0, 0) among ∙ ap (taken_span v os) (get_or-take (row + count) rows (row + k) Null (omega (arith, among, length-take (row + count) rows)))))) in
+    let next : row + k + 1 ≡ row + (k + 1) = omega arith in
+    offsets_next (span_length v os) rows (row + k) _ c.loop-first.offsets _ within (ap (λ s. s.1 - s.0) span) c.loop-first.invariant c.in_ok-try_push_usize.ensures.ok ∙ ap (λ n. 0 ∷ ends_from 0 (map (span_length v os) (take n rows))) next
+
+pub loop-row-preserved : goal.loop-row-preserved
+loop-row-preserved g c =
+    let v = c.args.values.now.validity in
+    let os = c.args.values.now.values.offsets in
+    let rows = rows_by (map g.I.NativeType.slot) c.args.indices.now in
+    let lent = c.as_slice-stored.ensures ∙ c.values.ensures in
+    let row = c.loop-row.row in
+    let count = c.min-count.result in
+    let here : 64 * (row / 64) ≡ row = omega (arith, c.loop-row.invariant.aligned c.loop-row-test.true) in
+    let more = c.append_word_named.ensures.items ∙ (λ i. c.loop-row.spans.items ++ map (taken_span (c.validity-validity.ensures.same i) (c.offsets-rows.ensures i)) (sliced (masked (c.validity-nulls.ensures.same i) (map g.I.NativeType.slot (lent i))) (64 * (row / 64)) count)) in
+    let spans : c.append_word_named.new.taken.items ≡ map (taken_span v os) (take (row + count) rows) = gives_more (taken_span v os) [] c.loop-row.spans.items c.append_word_named.new.taken.items rows row (64 * (row / 64)) count here more c.loop-row.invariant.spans in
+    let read : c.deref.result.now ≡ map (taken_span v os) (take (row + count) rows) = c.deref.ensures.value ∙ spans in
+    let k = c.loop-first.first-index in
+    let long = length-take (length c.deref.result.now - row) (drop row c.deref.result.now) in
+    let rest = length-drop row c.deref.result.now in
+    let stored = ap length lent in
+    let many = length-masked c.args.indices.now.validity (map g.I.NativeType.slot c.args.indices.now.values) c.validity-nulls.ensures.fits ∙ length-map c.args.indices.now.values g.I.NativeType.slot in
+    let all : length c.deref.result.now ≡ row + count = omega (arith, ap length read, length-map (take (row + count) rows) (taken_span v os), length-take (row + count) rows, many, stored, c.min-count.ensures, c.loop-row.invariant.within) in
+    let end : row + k ≡ row + count = omega (arith, c.loop-first-test.false, c.loop-first.auto.first-index-end, long, rest, all) in
+    record {
+      within = omega (arith, c.min-count.ensures, c.loop-row.invariant.within);
+      aligned = λ left. omega (arith, c.min-count.ensures, c.loop-row.invariant.aligned c.loop-row-test.true, left);
+      spans = spans;
+      len = omega (arith, c.append_word_named.ensures.len, c.loop-row.invariant.len);
+      capacity = c.append_word_named.ensures.capacity ∙ c.loop-row.invariant.capacity;
+      offsets = c.loop-first.invariant ∙ ap (λ n. 0 ∷ ends_from 0 (map (span_length v os) (take n rows))) end;
+    }
