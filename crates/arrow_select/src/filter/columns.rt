@@ -23,6 +23,9 @@ use arrow_types::error::Error;
 use arrow_types::types::{NativeType, Offset};
 use std::alloc::Global;
 
+/// One row in so many is few: of lists each run of them is then an `extend`, and no bit is made for each item.
+pub(super) const FEW: usize = 16;
+
 // Whether no column has children, so that the rows of each can be kept by themselves.
 pub(super) fn are_flat(columns: &[AnyArray]) -> bool {
     for column in columns {

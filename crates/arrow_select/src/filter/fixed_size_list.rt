@@ -9,15 +9,15 @@ ghost use Rattle.arrow_select.specs.Selection.{mask_in};
 ghost use Rattle.arrow_take.specs.Answers.{Gives};
 
 use crate::filter::any::count_set;
-use crate::filter::columns::{is_flat, kept_under};
+use crate::filter::columns::{FEW, is_flat, kept_under};
 use crate::filter::selection::{Selection, kept_validity};
 use arrow_arrays::array::FixedSizeListArray;
 use arrow_memory::bitmap::Bitmap;
 use arrow_types::error::Error;
 use std::alloc::Global;
 
-// The rows that are kept, in an array of the same type: none where the items have children, or where the rows are given as
-// ranges. The items of a null row are null.
+// The rows that are kept, in an array of the same type: none where the items have children, where the rows are given as ranges,
+// or where few are kept. The items of a null row are null.
 pub(super) fn filter_fixed_size_list(
     alloc: Global,
     array: &FixedSizeListArray,
@@ -34,7 +34,7 @@ pub(super) fn filter_fixed_size_list(
         return Ok(None);
     };
     let (items, size) = (array.values(), array.size());
-    if !is_flat(items) {
+    if !is_flat(items) || count < mask.len() / FEW {
         return Ok(None);
     }
     // There are as many items as a `usize` counts.

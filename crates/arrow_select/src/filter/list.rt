@@ -17,7 +17,7 @@ ghost use Rattle.arrow_take.specs.Answers.{Gives};
 
 use crate::filter::any::count_set;
 use crate::filter::bytes::append_ends;
-use crate::filter::columns::{is_flat, kept_under};
+use crate::filter::columns::{FEW, is_flat, kept_under};
 use crate::filter::selection::{Selection, kept_validity};
 use arrow_arrays::array::{AnyOffsetsBuffer, ListArray};
 use arrow_memory::bitmap::{Bitmap, MutableBitmap};
@@ -26,8 +26,8 @@ use arrow_types::error::Error;
 use arrow_types::types::{Index, Offset};
 use std::alloc::Global;
 
-// The rows that are kept, in an array of the same type: none where the items have children, or where the rows are given as
-// ranges. What lies beneath a null comes with it, so no row is looked at, and all have at most the items of the array.
+// The rows that are kept, in an array of the same type: none where the items have children, where the rows are given as ranges,
+// or where few are kept. What lies beneath a null comes with it, so no row is looked at, and all have at most the array's items.
 pub(super) fn filter_list(
     alloc: Global,
     array: &ListArray,
@@ -44,7 +44,7 @@ pub(super) fn filter_list(
         return Ok(None);
     };
     let items = array.values();
-    if !is_flat(items) {
+    if !is_flat(items) || count < mask.len() / FEW {
         return Ok(None);
     }
     // The rows are those that the offsets name.
