@@ -3,7 +3,9 @@ pub mod BitLemmas
 pub mod BitmapLemmas
 pub mod FoursLemmas
 pub mod GatherLemmas
+pub mod LengthLemmas
 pub mod LogicLemmas
+pub mod MaskLemmas
 pub mod MutableLemmas
 pub mod OffsetLemmas
 pub mod RunLemmas

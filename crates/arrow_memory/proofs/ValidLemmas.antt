@@ -1,18 +1,16 @@
 -- Rows of others, of which those are empty whose bit is not set.
-use Rattle.std.proofs.Common.{◌≡◌, ℕ, zero, suc, ◌+◌, ◌-◌, ◌/◌, ◌%◌, ◌^◌, ◌<◌, ◌≤◌, ℤ, pos, ◌+ℤ◌, ◌-ℤ◌, ◌≤ℤ◌, Bool, true, false, List, [], ◌∷◌, ◌++◌, length, map, take, drop, get_or, slice_index, unsigned_abs, if◌then◌else◌, refl, ap, sym, ◌∙◌, arith}
-use Rattle.std.specs.Prelude.{◌==◌, nat_eq, bit_and, slice_get, Some}
+use Rattle.std.proofs.Common.{◌≡◌, ℕ, zero, suc, ◌+◌, ◌-◌, ◌/◌, ◌%◌, ◌<◌, ◌≤◌, ℤ, pos, Bool, true, false, List, [], ◌∷◌, ◌++◌, length, map, take, drop, get_or, slice_index, unsigned_abs, refl, ap, sym, ◌∙◌, arith}
+use Rattle.std.specs.Prelude.{◌==◌, slice_get, Some}
 use Rattle.std.specs.Int.{bit_at}
 use Rattle.std.proofs.Math.Seq.{take-add}
 use Rattle.std.proofs.lemmas.Int.{ints}
 use Rattle.std.proofs.lemmas.List.{append_assoc, drop-drop, map-append}
-use Rattle.std.proofs.lemmas.Nat.Bits.{shr_and_one}
 use Rattle.arrow_memory.specs.Offsets.{RisesFrom, AreOffsets, IsOffsets, last_of, valid_length, valid_items, valid_ends, with_valid_rows}
 use Rattle.arrow_memory.specs.Sliced.{sliced}
 use Rattle.arrow_memory.specs.Words.{is_set, bits_in, word_of}
 use Rattle.arrow_memory.proofs.BitmapLemmas.{bit_of-word_of, bits_in_is}
-use Rattle.arrow_memory.proofs.OffsetLemmas.{StoredAs, natural, number_at, offsets_more, offsets_rise, stored_more}
+use Rattle.arrow_memory.proofs.OffsetLemmas.{StoredAs, offsets_more, offsets_rise, stored_more}
 use Rattle.arrow_memory.proofs.SlicedLemmas.{length-sliced}
-use Rattle.arrow_memory.proofs.WordLemmas.{bits_in-add}
 
 -- ---- the rows of some bits, and those of others behind them
 
@@ -65,30 +63,6 @@ pub stored_valid_rows : {A : Type 0} (f : A → ℤ) (xs kept new : List A) (os 
 stored_valid_rows f xs kept new os bits others place start held seen same is at =
     stored_more f xs new os (valid_ends (last_of os) bits others start) held seen (is ∙ (λ t. map f (same t) ++ map pos (valid_ends (at t) bits others start))) (valid_rise (last_of os) bits others start)
 
--- ---- one row
-
--- a row that begins at `from` and ends at `next`, counted on from `last`
-pub record IsRow (bit : Bool) (os : List ℕ) (i : ℕ) (from next last : ℤ) : Type 0 where
-  pub starts : pos 0 ≤ℤ from
-  pub rises : from ≤ℤ next
-  pub counted : last +ℤ (next -ℤ from) ≡ pos (unsigned_abs last + valid_length bit os i)
-
-pub is_row : (bit : Bool) (os : List ℕ) (i : ℕ) (from begin next last : ℤ) → from ≡ (if bit then begin else next) → begin ≡ pos (slice_index os i) → next ≡ pos (slice_index os (i + 1)) → slice_index os i ≤ slice_index os (i + 1) → pos 0 ≤ℤ last → IsRow bit os i from next last
-is_row true os i from begin next last is begins ends rise positive =
-    let whole = natural last positive in
-    record {
-      starts = omega (arith, ints, is, begins);
-      rises = omega (arith, ints, is, begins, ends, rise);
-      counted = omega (arith, ints, is, begins, ends, rise, whole);
-    }
-is_row false os i from begin next last is begins ends rise positive =
-    let whole = natural last positive in
-    record {
-      starts = omega (arith, ints, is, ends);
-      rises = omega (arith, ints, is);
-      counted = omega (arith, ints, is, whole);
-    }
-
 -- ---- the bits of a word
 
 -- a word that was made of bits holds these
@@ -100,16 +74,6 @@ word_bits bits word count is long small =
     let same : i % 64 ≡ i = omega (arith, h, long, small) in
     (λ t. bit_at (slice_index (is t ∷ []) (first t)) (same t) == 1) ∙ bit_of-word_of bits i in
     ap (bits_in (word ∷ []) 0) (sym long) ∙ bits_in_is (word ∷ []) bits each
-
-one_bit : (words : List ℕ) (k : ℕ) → bits_in words k 1 ≡ is_set words k ∷ []
-unfolding bits_in
-one_bit words k = refl
-
--- the bits from one on
-pub bits_in-next : (words : List ℕ) (k count : ℕ) → k < count → bits_in words k (count - k) ≡ is_set words k ∷ bits_in words (k + 1) (count - (k + 1))
-bits_in-next words k count below =
-    let all : count - k ≡ 1 + (count - (k + 1)) = omega arith in
-    ap (bits_in words k) all ∙ (bits_in-add words k 1 (count - (k + 1)) ∙ ap (λ first. first ++ bits_in words (k + 1) (count - (k + 1))) (one_bit words k))
 
 pub sliced-cut : (bits : List Bool) (place count end : ℕ) → place + count ≤ end → sliced bits place (end - place) ≡ sliced bits place count ++ sliced bits (place + count) (end - (place + count))
 sliced-cut bits place count end within =
@@ -130,52 +94,6 @@ get_dropped (b ∷ bits) (suc place) = get_dropped bits place
 pub sliced-next : (bits : List Bool) (place end : ℕ) (bit : Bool) → place < end → slice_get bits place ≡ Some bit → sliced bits place (end - place) ≡ bit ∷ sliced bits (place + 1) (end - (place + 1))
 sliced-next bits place end bit below read =
     sliced-cut bits place 1 end (omega arith) ∙ ap (λ first. first ++ sliced bits (place + 1) (end - (place + 1))) (first_there (drop place bits) bit (get_dropped bits place ∙ read))
-
--- ---- a row more
-
-no_bit : (words : List ℕ) (k : ℕ) → bits_in words k 0 ≡ []
-unfolding bits_in
-no_bit words k = refl
-
-pub none_left : (words : List ℕ) (k count : ℕ) → count ≤ k → bits_in words k (count - k) ≡ []
-none_left words k count after =
-    let none : count - k ≡ 0 = omega arith in
-    ap (bits_in words k) none ∙ no_bit words k
-
-no_more : {A : Type 0} (xs : List A) → xs ++ [] ≡ xs
-no_more [] = refl
-no_more (x ∷ xs) = ap (λ ys. x ∷ ys) (no_more xs)
-
-bit_read : (word k : ℕ) → k < 64 → nat_eq (bit_and (word / 2 ^ k) 1) 1 ≡ is_set (word ∷ []) k
-bit_read word k below =
-    let first : k / 64 ≡ 0 = omega arith in
-    let same : k % 64 ≡ k = omega arith in
-    ap (λ b. nat_eq b 1) (shr_and_one word k) ∙ sym (λ t. nat_eq (bit_at (slice_index (word ∷ []) (first t)) (same t)) 1)
-
--- a row by a bit of a word, and by offsets as they are stored
-pub row_by_word : {A : Type 0} (f : A → ℤ) (xs : List A) (os : List ℕ) (i k word : ℕ) (begin next from last : A) → map f xs ≡ map pos os → IsOffsets os → i + 1 < length os → k < 64 → begin ≡ get_or xs i begin → next ≡ get_or xs (i + 1) next → f from ≡ (if nat_eq (bit_and (word / 2 ^ k) 1) 1 then f begin else f next) → pos 0 ≤ℤ f last → IsRow (is_set (word ∷ []) k) os i (f from) (f next) (f last)
-row_by_word f xs os i k word begin next from last stored held within below here there is positive =
-    let bit = bit_read word k below in
-    let first = number_at f xs os i begin stored (omega arith) here in
-    let second = number_at f xs os (i + 1) next stored within there in
-    let rise = offsets_rise os i (i + 1) held (omega arith) within in
-    is_row (is_set (word ∷ []) k) os i (f from) (f begin) (f next) (f last) (is ∙ ap (λ b. if b then f begin else f next) bit) first second rise positive
-
-pub row_fits : (bit : Bool) (os : List ℕ) (i rest all greatest : ℕ) (from next last : ℤ) → IsRow bit os i from next last → unsigned_abs last + (valid_length bit os i + rest) ≡ all → all ≤ greatest → (last +ℤ (next -ℤ from)) ≤ℤ pos greatest
-row_fits bit os i rest all greatest from next last row total fits = omega (arith, ints, row.counted)
-
-pub total_next : (bit : Bool) (rest : List Bool) (os : List ℕ) (i j place next all : ℕ) → next ≡ place + valid_length bit os i → i + 1 ≡ j → place + valid_items (bit ∷ rest) os i ≡ all → next + valid_items rest os j ≡ all
-total_next bit rest os i j place next all is at total = omega (arith, ap (λ k. valid_items rest os k) at)
-
-pub ends_next : {A : Type 0} (f : A → ℤ) (xs new : List A) (x : A) (bit : Bool) (rest : List Bool) (os : List ℕ) (i j place next : ℕ) (all : List ℤ) → new ≡ xs ++ x ∷ [] → f x ≡ pos next → next ≡ place + valid_length bit os i → i + 1 ≡ j → map f xs ++ map pos (valid_ends place (bit ∷ rest) os i) ≡ all → map f new ++ map pos (valid_ends next rest os j) ≡ all
-ends_next f xs new x bit rest os i j place next all is value counted at same =
-    let behind = map pos (valid_ends next rest os j) in
-    let first : f x ≡ pos (place + valid_length bit os i) = value ∙ ap pos counted in
-    ap (λ zs. zs ++ behind) (ap (map f) is ∙ map-append f xs (x ∷ [])) ∙ (append_assoc (map f xs) (f x ∷ []) behind ∙ ((λ t. map f xs ++ (first t ∷ map pos (valid_ends (counted t) rest os (sym at t)))) ∙ same))
-
-pub ends_done : (xs all : List ℤ) (place : ℕ) (bits : List Bool) (os : List ℕ) (i : ℕ) → bits ≡ [] → xs ++ map pos (valid_ends place bits os i) ≡ all → xs ≡ all
-ends_done xs all place bits os i none same =
-    sym (no_more xs) ∙ (ap (λ bs. xs ++ map pos (valid_ends place bs os i)) (sym none) ∙ same)
 
 -- ---- a word more
 

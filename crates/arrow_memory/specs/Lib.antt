@@ -1,7 +1,9 @@
 pub mod Bits
+pub mod Ends
 pub mod Examples
 pub mod Gathered
 pub mod Grown
+pub mod Masks
 pub mod Offsets
 pub mod Sliced
 pub mod Words

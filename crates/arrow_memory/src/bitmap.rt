@@ -8,10 +8,11 @@ ghost use Rattle.std.specs.Cmp.{partial_equiv_from_equiv, bool_eq_equiv};
 ghost use Rattle.std.specs.Cmp.Lexicographic.{pointwise, lists_equiv};
 ghost use Rattle.arrow_types.specs.declared.error.Error.{Error};
 ghost use Rattle.arrow_memory.specs.Sliced.{sliced};
-ghost use Rattle.arrow_memory.specs.Words.{bits_in, word_of, AppendsBits};
+ghost use Rattle.arrow_memory.specs.Words.{bits_in, low_bits, word_of, AppendsBits};
 
 mod bitmap_ops;
 mod collect;
+mod mask;
 mod mutable;
 mod quaternary;
 mod runs;
@@ -20,6 +21,7 @@ pub use crate::words::WORD_BITS;
 pub use crate::words::logic::Logic;
 use crate::words::{append_bits, bits_from, count_ones, equal_bits, pack, word_within};
 use arrow_types::error::Error;
+pub use mask::Mask;
 pub use mutable::MutableBitmap;
 pub use quaternary::QuaternaryLogic;
 pub use runs::BitRuns;
@@ -95,6 +97,16 @@ impl Bitmap {
         ensures err { IsOkUnless result Error.OutOfMemory }
     {
         let words = vec![in alloc; equal_bits(WORD_BITS, value); len.div_ceil(WORD_BITS)]?;
+        Bitmap::from_words(alloc, words, len)
+    }
+
+    /// The first bits of a word.
+    fn from_word(alloc: Global, word: u64, len: usize) -> Result<Bitmap, Error>
+        requires { len ≤ 64 }
+        ensures ok { IfOk result (λ bitmap. bitmap ≡ low_bits word len) }
+        ensures err { IsOkUnless result Error.OutOfMemory }
+    {
+        let words = vec![in alloc; word; 1]?;
         Bitmap::from_words(alloc, words, len)
     }
 

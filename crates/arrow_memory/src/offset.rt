@@ -1,16 +1,18 @@
 //! Offsets: where the rows of a text, binary, list or map array lie.
 
-ghost use Rattle.std.specs.Prelude.{◌≡◌, pos, ◌+◌, ◌-◌, ◌<◌, ◌≤◌, ◌+ℤ◌, ◌-ℤ◌, ◌≤ℤ◌, [], ◌∷◌, ◌++◌, length, map, replicate, slice_index, slice_index_or, nat_eq, unsigned_abs, IsTrue, ◌↔◌, IfOk, IfErr, OnOk, OnErr, IsOkUnless, Err, if◌then◌else◌};
+ghost use Rattle.std.specs.Prelude.{◌≡◌, pos, ◌+◌, ◌-◌, ◌<◌, ◌≤◌, ◌+ℤ◌, ◌-ℤ◌, ◌≤ℤ◌, [], ◌∷◌, ◌++◌, length, map, take, ◌==◌, ℕ, replicate, slice_index, slice_index_or, nat_eq, unsigned_abs, IsTrue, ◌↔◌, IfOk, IfErr, OnOk, OnErr, IsOkUnless, Err, if◌then◌else◌};
 ghost use Rattle.std.specs.Cmp.{partial_equiv_from_equiv, nat_eq_equiv};
 ghost use Rattle.std.specs.Cmp.Lexicographic.{pointwise, lists_equiv};
-ghost use Rattle.std.specs.List.{All};
+ghost use Rattle.std.specs.Int.{bit_at};
+ghost use Rattle.std.specs.List.{All, sum};
 ghost use Rattle.std.specs.Vec.{vec_len, vec_capacity};
 ghost use Rattle.arrow_types.specs.declared.error.Error.{Error};
 ghost use Rattle.arrow_types.specs.declared.error.SpecPart.{SpecPart};
+ghost use Rattle.arrow_memory.specs.Ends.{ends_from, word_lengths};
 ghost use Rattle.arrow_memory.specs.Grown.{IsGrowthError};
 ghost use Rattle.arrow_memory.specs.Offsets.{AreOffsets, IsOffsets, last_of, with_row, counted_on, with_rows, valid_length, valid_items, valid_ends, with_valid_rows};
 ghost use Rattle.arrow_memory.specs.Sliced.{sliced};
-ghost use Rattle.arrow_memory.specs.Words.{bits_in};
+ghost use Rattle.arrow_memory.specs.Words.{bits_in, low_bits};
 
 use crate::bitmap::Bitmap;
 use crate::buffer::Buffer;
@@ -19,6 +21,9 @@ use arrow_types::error::{Error, SpecPart};
 use arrow_types::types::{NativeType, Offset};
 use std::alloc::{AllocError, Global};
 use std::marker::Model;
+
+/// How many rows are measured at once.
+const STEP: usize = 32;
 
 /// Offsets that are shared by their clones and slices: at least one, the first not negative, and none
 /// less than the one before it. Row `i` is the range from offset `i` to offset `i + 1`.
@@ -111,6 +116,30 @@ impl<O: Offset> OffsetsBuffer<O> {
     {
         let offsets = self.buffer();
         (offsets[start].to_usize(), offsets[start + len].to_usize())
+    }
+
+    /// Writes how long rows are from row `start` on, one for each place of `lengths`: 0 for those whose bit of the
+    /// word is not set.
+    ///
+    /// # Requires
+    /// There are at most 64 places, and `start` and their count together are below the count of offsets.
+    fn write_lengths(&self, lengths: &mut [O], start: usize, word: u64)
+        requires in_word { length lengths.old ≤ 64 }
+        requires part { start + length lengths.old < length self.now }
+        ensures lengths { map O.number lengths.new
+            ≡ map pos (word_lengths word self.now start (length lengths.old)) }
+        ensures long { length lengths.new ≡ length lengths.old }
+    {
+        prove!(start < self.len());
+        let count = lengths.len();
+        let mut done = 0;
+        while done + STEP <= count {
+            write_some_lengths(lengths, self, start, word, done, STEP);
+            done += STEP;
+        }
+        if done < count {
+            write_some_lengths(lengths, self, start, word, done, count - done);
+        }
     }
 
     /// Keeps `len` offsets from place `offset` on: those of `len - 1` rows. Nothing is copied.
@@ -277,6 +306,50 @@ impl<O: Offset> Offsets<O> {
         }
         self.offsets.reserve(len)?;
         append_rows(&mut self.offsets, to, other, start, len);
+        Ok(())
+    }
+
+    /// Whether the items of `len` rows of other offsets, from row `start` on, end at the greatest offset at most behind these.
+    ///
+    /// # Requires
+    /// `start + len` is below the count of the other offsets.
+    pub fn has_room_for(&self, other: &OffsetsBuffer<O>, start: usize, len: usize) -> bool
+        requires { start + len < length other.now }
+        ensures { IsTrue result ↔ ((last_of self.now +
+            (slice_index other.now (start + len) - slice_index other.now start)) ≤ O.greatest) }
+    {
+        let (first, end) = other.range(start, len);
+        O::from_usize(self.last().to_usize() + (end - first)).is_some()
+    }
+
+    /// Appends `len` rows of other offsets, from row `start` on: as long as they are there where their bit of a word is set,
+    /// and empty where it is not.
+    ///
+    /// # Requires
+    /// `len` is at most 64, `start + len` below the count of the other offsets, and there is room for the items of these rows
+    /// ([`Offsets::has_room_for`]).
+    ///
+    /// # Errors
+    /// `OutOfMemory` where a growth is refused; the offsets are then as before.
+    pub fn extend_from_word(
+        &mut self,
+        other: &OffsetsBuffer<O>,
+        start: usize,
+        word: u64,
+        len: usize,
+    ) -> Result<(), Error>
+        requires in_word { len ≤ 64 }
+        requires part { start + len < length other.now }
+        requires room { (last_of self.old +
+            (slice_index other.now (start + len) - slice_index other.now start)) ≤ O.greatest }
+        ensures ok { OnOk result (self.new ≡ with_valid_rows self.old (low_bits word len) other.now start) }
+        ensures err { IsOkUnless result Error.OutOfMemory }
+        ensures unchanged { OnErr result (self.new ≡ self.old) }
+    {
+        prove!(start < other.len());
+        let last = *self.last();
+        self.offsets.reserve(len)?;
+        append_word_of_rows(&mut self.offsets, last, other, start, word, len);
         Ok(())
     }
 
@@ -512,8 +585,8 @@ fn append_word_of_rows<O: Offset>(
     write_word_of_rows(offsets.slice_mut(done..), last, other, start, word)
 }
 
-// Writes where rows from row `start` on end, by the bits of a word, and answers the last of these offsets.
-// No test depends on a bit.
+// Writes where rows from row `start` on end, by the bits of a word, and answers the last of these offsets: how long they
+// are first, and then where each of them ends.
 fn write_word_of_rows<O: Offset>(
     ends: &mut [O],
     last: O,
@@ -534,24 +607,90 @@ fn write_word_of_rows<O: Offset>(
         ≡ pos (unsigned_abs (O.number last) + valid_items (bits_in (word ∷ []) 0 (length ends.old))
         other.now start) }
 {
-    let rows = other.buffer();
+    other.write_lengths(ends, start, word);
+    count_on(ends, last)
+}
+
+// The same of some rows, of which those before row `done` are written. No test depends on a bit, and where the count is known
+// when the program is compiled, several rows are measured at once.
+#[inline(always)]
+fn write_some_lengths<O: Offset>(
+    lengths: &mut [O],
+    offsets: &OffsetsBuffer<O>,
+    start: usize,
+    word: u64,
+    done: usize,
+    count: usize,
+)
+    requires some { 0 < count }
+    requires in_word { done + count ≤ 64 }
+    requires in_half { count ≤ 32 }
+    requires there { done + count ≤ length lengths.old }
+    requires part { start + done + count < length offsets.now }
+    requires before { map O.number (take done lengths.old) ≡ map pos (word_lengths word offsets.now start done) }
+    ensures long { length lengths.new ≡ length lengths.old }
+    ensures so_far { map O.number (take (done + count) lengths.new)
+        ≡ map pos (word_lengths word offsets.now start (done + count)) }
+{
+    prove!(start < offsets.len());
+    // Where a row ends is at most the greatest offset of the type.
+    let _ = offsets.range(start + done, count);
+    let half = half_of(word, done);
+    let rows = offsets.buffer();
+    for k in 0..count {
+        let row = start + done + k;
+        let begin = rows[row];
+        let end = rows[row + 1];
+        lengths[done + k] = length_if(begin, end, half >> k & 1 == 1);
+    }
+}
+
+// The first 32 bits of a word from a place on.
+fn half_of(word: u64, first: usize) -> u32
+    requires { first < 64 }
+    ensures { (k : ℕ) → k < 32 → (bit_at result k == 1) ≡ (bit_at word (first + k) == 1) }
+{
+    ((word >> first) % 4_294_967_296) as u32
+}
+
+// How long a row is that lies between these offsets: 0 where it is not valid.
+fn length_if<O: Offset>(begin: O, end: O, is_valid: bool) -> O
+    requires starts { pos 0 ≤ℤ O.number begin }
+    requires rises { O.number begin ≤ℤ O.number end }
+    requires fits { O.number end ≤ℤ pos O.greatest }
+    ensures { O.number result ≡ (if is_valid then O.number end -ℤ O.number begin else pos 0) }
+{
+    let from = if is_valid { begin } else { end };
+    end.shifted(from, O::default())
+}
+
+// Writes where rows of these lengths end, counted on from `last`, and answers where the last of them does.
+fn count_on<O: Offset>(ends: &mut [O], last: O) -> O
+    requires not_negative { pos 0 ≤ℤ O.number last }
+    requires lengths { map pos (map unsigned_abs (map O.number ends.old)) ≡ map O.number ends.old }
+    requires fits { unsigned_abs (O.number last) + sum (map unsigned_abs (map O.number ends.old)) ≤ O.greatest }
+    ensures long { length ends.new ≡ length ends.old }
+    ensures ends { map O.number ends.new
+        ≡ map pos (ends_from (unsigned_abs (O.number last)) (map unsigned_abs (map O.number ends.old))) }
+    ensures last { O.number result
+        ≡ pos (unsigned_abs (O.number last) + sum (map unsigned_abs (map O.number ends.old))) }
+{
     let mut last = last;
     for k in 0..ends.len() {
-        let row = start + k;
-        let end = row + 1;
-        let next = rows[end];
-        let from = begin_of(rows[row], next, word >> k & 1 == 1);
-        last = next.shifted(from, last);
+        last = counted(ends[k], last);
         ends[k] = last;
     }
     last
 }
 
-// Where a row begins that ends at `next`: there too, where it is not valid.
-fn begin_of<O: Offset>(begin: O, next: O, is_valid: bool) -> O
-    ensures { O.number result ≡ (if is_valid then O.number begin else O.number next) }
+// Where a row ends that begins at `last` and is so long.
+fn counted<O: Offset>(length: O, last: O) -> O
+    requires starts { pos 0 ≤ℤ O.number length }
+    requires not_negative { pos 0 ≤ℤ O.number last }
+    requires fits { (O.number last +ℤ O.number length) ≤ℤ pos O.greatest }
+    ensures { O.number result ≡ O.number last +ℤ O.number length }
 {
-    if is_valid { begin } else { next }
+    length.shifted(O::default(), last)
 }
 
 // Whether numbers are offsets.

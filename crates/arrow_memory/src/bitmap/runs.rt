@@ -4,13 +4,14 @@ ghost use Rattle.std.specs.Prelude.{◌≡◌, ◌≢◌, ◌+◌, ◌-◌, ◌*
 ghost use Rattle.std.specs.List.{flat_map};
 ghost use Rattle.arrow_types.specs.declared.error.Error.{Error};
 ghost use Rattle.arrow_memory.specs.Sliced.{sliced};
-ghost use Rattle.arrow_memory.specs.Words.{bits_in, is_set, IsWordAt};
+ghost use Rattle.arrow_memory.specs.Words.{bits_in, is_set, low_bits, IsWordAt};
 
 use crate::bitmap::{Bitmap, MutableBitmap};
 use crate::words::{WORD_BITS, low_run};
 use arrow_types::error::Error;
 use std::alloc::Global;
 use std::marker::Model;
+use std::slice;
 
 /// The bits of a part of a bitmap that are left, which are taken from the front, a run at a time.
 #[derive(Drop)]
@@ -37,6 +38,20 @@ impl<'a> Model for BitRuns<'a> {
 
 #[tactic(auto, using(crate::proofs::WordLemmas::bit_lengths))]
 impl<'a> BitRuns<'a> {
+    /// The `len` lowest bits of a word.
+    pub(super) fn of_word(word: &'a u64, len: usize) -> BitRuns<'a>
+        requires { len ≤ 64 }
+        ensures { result ≡ low_bits word.now len }
+    {
+        BitRuns {
+            words: slice::from_ref(word),
+            place: 0,
+            left: len,
+            word: *word,
+            count: len,
+        }
+    }
+
     /// Takes the next run of set bits and those before it, found a word at a time: how many bits come
     /// before it that are not set, and how long it is. It is empty only where no set bit is left.
     #[inline(always)]

@@ -1,0 +1,110 @@
+-- How long rows are by the bits of a word, and where rows of such lengths end.
+use Rattle.std.proofs.Common.{◌≡◌, ℕ, zero, suc, ◌+◌, ◌-◌, ◌/◌, ◌%◌, ◌*◌, ◌^◌, ◌<◌, ◌≤◌, ◌==◌, ℤ, pos, ◌-ℤ◌, ◌≤ℤ◌, Bool, true, false, List, [], ◌∷◌, ◌++◌, length, map, drop, get_or, slice_index, unsigned_abs, if◌then◌else◌, bit_and, nat_eq, refl, ap, sym, ◌∙◌, append_assoc, arith}
+use Rattle.std.specs.Int.{bit_at}
+use Rattle.std.specs.List.{range_with_len, sum}
+use Rattle.std.proofs.Math.Nat.{div-add-mod}
+use Rattle.std.proofs.lemmas.Int.{ints}
+use Rattle.std.proofs.lemmas.List.{drop_more, length-map, map-append}
+use Rattle.std.proofs.lemmas.List.FromFn.{map-range_with_len_more}
+use Rattle.std.proofs.lemmas.List.Sums.{sum_by-cons}
+use Rattle.std.proofs.lemmas.Nat.Bits.{bit_at_cat_low, shr_and_one}
+use Rattle.std.proofs.lemmas.Nat.{shr-shr}
+use Rattle.arrow_memory.specs.Ends.{ends_from, word_length, word_lengths}
+use Rattle.arrow_memory.specs.Offsets.{valid_length, valid_items, valid_ends}
+use Rattle.arrow_memory.specs.Words.{is_set, bits_in}
+use Rattle.arrow_memory.proofs.OffsetLemmas.{number_at, same_at}
+
+-- ---- rows by the bits of a word
+
+-- a bit of 32 bits of a word
+pub part_bit : (word first k : ℕ) → k < 32 → (bit_at (word / 2 ^ first % 4294967296) k == 1) ≡ (bit_at word (first + k) == 1)
+part_bit word first k below =
+    let behind = word / 2 ^ first in
+    let all : behind / 4294967296 * 2 ^ 32 + behind % 4294967296 ≡ behind = omega (arith, div-add-mod behind 4294967296) in
+    ap (λ b. b == 1) (sym (bit_at_cat_low (behind / 4294967296) 32 (behind % 4294967296) k below) ∙ (ap (λ n. bit_at n k) all ∙ ap (λ n. n % 2) (shr-shr word first k)))
+
+-- one row more, by a bit of a part of the word and the offsets on both sides of it
+pub length_next : {A : Type 0} (f : A → ℤ) (old new : List A) (x : A) (word part : ℕ) (os : List ℕ) (start done k : ℕ) (begin end : ℤ) → (bit_at part k == 1) ≡ (bit_at word (done + k) == 1) → new ≡ old ++ x ∷ [] → f x ≡ (if nat_eq (bit_and (part / 2 ^ k) 1) 1 then end -ℤ begin else pos 0) → begin ≡ pos (slice_index os (start + done + k)) → end ≡ pos (slice_index os (start + done + k + 1)) → begin ≤ℤ end → map f old ≡ map pos (word_lengths word os start (done + k)) → map f new ≡ map pos (word_lengths word os start (done + k + 1))
+length_next f old new x word part os start done k begin end same is value here there order so_far =
+    let lengths = word_length word os start in
+    let bit : nat_eq (bit_and (part / 2 ^ k) 1) 1 ≡ (bit_at word (done + k) == 1) = ap (λ b. nat_eq b 1) (shr_and_one part k) ∙ same in
+    let at : start + done + k ≡ start + (done + k) = omega arith in
+    let long : end -ℤ begin ≡ pos (slice_index os (start + (done + k) + 1) - slice_index os (start + (done + k))) = omega (arith, ints, here, there, order, ap (slice_index os) at, ap (λ i. slice_index os (i + 1)) at) in
+    let one : f x ≡ pos (lengths (done + k)) = value ∙ ((λ t. if bit t then long t else pos 0) ∙ choice (bit_at word (done + k) == 1) _) in
+    ap (map f) is ∙ (map-append f old (x ∷ []) ∙ ((λ t. so_far t ++ one t ∷ []) ∙ (sym (map-append pos (word_lengths word os start (done + k)) (lengths (done + k) ∷ [])) ∙ ap (map pos) (sym (map-range_with_len_more lengths 0 (done + k) (done + k) (omega arith))))))
+  where
+    choice : (t : Bool) (n : ℕ) → (if t then pos n else pos 0) ≡ pos (if t then n else 0)
+    choice true n = refl
+    choice false n = refl
+
+-- ---- where they end
+
+-- rows under some bits end where rows of their lengths do
+module _ (f g : ℕ → Bool) (os : List ℕ) (start : ℕ) where
+  pub ends_by_lengths : (place a n : ℕ) → ((k : ℕ) → k < a + n → f k ≡ g k) → valid_ends place (map f (range_with_len a n)) os (start + a) ≡ ends_from place (map (λ k. valid_length (g k) os (start + k)) (range_with_len a n))
+  ends_by_lengths place a zero same = refl
+  ends_by_lengths place a (suc n) same =
+      let here : valid_length (f a) os (start + a) ≡ valid_length (g a) os (start + a) = ap (λ b. valid_length b os (start + a)) (same a (omega arith)) in
+      let at : start + a + 1 ≡ start + (a + 1) = omega arith in
+      let rest = ends_by_lengths (place + valid_length (g a) os (start + a)) (a + 1) n (λ k below. same k (omega (arith, below))) in
+      (λ t. (place + here t) ∷ valid_ends (place + here t) (map f (range_with_len (a + 1) n)) os (at t)) ∙ ap (λ es. (place + valid_length (g a) os (start + a)) ∷ es) rest
+
+  pub items_by_lengths : (a n : ℕ) → ((k : ℕ) → k < a + n → f k ≡ g k) → valid_items (map f (range_with_len a n)) os (start + a) ≡ sum (map (λ k. valid_length (g k) os (start + k)) (range_with_len a n))
+  items_by_lengths a zero same = refl
+  items_by_lengths a (suc n) same =
+      let here : valid_length (f a) os (start + a) ≡ valid_length (g a) os (start + a) = ap (λ b. valid_length b os (start + a)) (same a (omega arith)) in
+      let at : start + a + 1 ≡ start + (a + 1) = omega arith in
+      let rest = items_by_lengths (a + 1) n (λ k below. same k (omega (arith, below))) in
+      (λ t. here t + valid_items (map f (range_with_len (a + 1) n)) os (at t)) ∙ (ap (λ m. valid_length (g a) os (start + a) + m) rest ∙ sym (sum_by-cons (λ m. m) (valid_length (g a) os (start + a)) (map (λ k. valid_length (g k) os (start + k)) (range_with_len (a + 1) n))))
+
+-- the same of the bits of a word
+pub bit_of : (word count k : ℕ) → count ≤ 64 → k < 0 + count → is_set (word ∷ []) k ≡ (bit_at word k == 1)
+bit_of word count k small below =
+    let first : k / 64 ≡ 0 = omega (arith, small, below) in
+    let same : k % 64 ≡ k = omega (arith, small, below) in
+    (λ t. bit_at (slice_index (word ∷ []) (first t)) (same t) == 1)
+
+pub word_ends_by_lengths : (place word : ℕ) (os : List ℕ) (start count : ℕ) → count ≤ 64 → valid_ends place (bits_in (word ∷ []) 0 count) os start ≡ ends_from place (word_lengths word os start count)
+unfolding bits_in
+word_ends_by_lengths place word os start count small =
+    let at : start ≡ start + 0 = omega arith in
+    ap (valid_ends place (map (is_set (word ∷ [])) (range_with_len 0 count)) os) at ∙ ends_by_lengths (is_set (word ∷ [])) (λ k. bit_at word k == 1) os start place 0 count (λ k. bit_of word count k small)
+
+pub word_items_by_lengths : (word : ℕ) (os : List ℕ) (start count : ℕ) → count ≤ 64 → valid_items (bits_in (word ∷ []) 0 count) os start ≡ sum (word_lengths word os start count)
+unfolding bits_in
+word_items_by_lengths word os start count small =
+    let at : start ≡ start + 0 = omega arith in
+    ap (valid_items (map (is_set (word ∷ [])) (range_with_len 0 count)) os) at ∙ items_by_lengths (is_set (word ∷ [])) (λ k. bit_at word k == 1) os start 0 count (λ k. bit_of word count k small)
+
+-- ---- ends counted on, one row at a time
+
+-- the length that is stored at a place, and those from there on
+pub length_at : {A : Type 0} (f : A → ℤ) (ends old : List A) (k : ℕ) (x : A) → map pos (map unsigned_abs (map f old)) ≡ map f old → drop k ends ≡ drop k old → x ≡ get_or ends k x → k < length old → f x ≡ pos (slice_index (map unsigned_abs (map f old)) k)
+length_at f ends old k x natural left read below =
+    number_at f old (map unsigned_abs (map f old)) k x (sym natural) (omega (arith, below, length-map (map f old) unsigned_abs, length-map old f)) (read ∙ same_at ends old k x left)
+
+pub lengths_from : {A : Type 0} (f : A → ℤ) (old : List A) (k : ℕ) → k < length old → drop k (map unsigned_abs (map f old)) ≡ slice_index (map unsigned_abs (map f old)) k ∷ drop (k + 1) (map unsigned_abs (map f old))
+lengths_from f old k below =
+    drop_more (map unsigned_abs (map f old)) k 0 (omega (arith, below, length-map (map f old) unsigned_abs, length-map old f))
+
+pub sum_from : {A : Type 0} (f : A → ℤ) (old : List A) (k : ℕ) → k < length old → sum (drop k (map unsigned_abs (map f old))) ≡ slice_index (map unsigned_abs (map f old)) k + sum (drop (k + 1) (map unsigned_abs (map f old)))
+sum_from f old k below =
+    ap sum (lengths_from f old k below) ∙ sum_by-cons (λ m. m) (slice_index (map unsigned_abs (map f old)) k) (drop (k + 1) (map unsigned_abs (map f old)))
+
+-- with the rows that are left, those so far are all
+pub total_next : (place next n all : ℕ) (lengths rest : List ℕ) → lengths ≡ n ∷ rest → next ≡ place + n → place + sum lengths ≡ all → next + sum rest ≡ all
+total_next place next n all lengths rest first counted total = omega (arith, counted, total, ap sum first, sum_by-cons (λ m. m) n rest)
+
+pub ends_next : {A : Type 0} (f : A → ℤ) (xs new : List A) (x : A) (place next n : ℕ) (lengths rest : List ℕ) (all : List ℤ) → new ≡ xs ++ x ∷ [] → f x ≡ pos next → lengths ≡ n ∷ rest → next ≡ place + n → map f xs ++ map pos (ends_from place lengths) ≡ all → map f new ++ map pos (ends_from next rest) ≡ all
+ends_next f xs new x place next n lengths rest all is value first counted same =
+    let behind = map pos (ends_from next rest) in
+    let here : f x ≡ pos (place + n) = value ∙ ap pos counted in
+    ap (λ zs. zs ++ behind) (ap (map f) is ∙ map-append f xs (x ∷ [])) ∙ (append_assoc (map f xs) (f x ∷ []) behind ∙ ((λ t. map f xs ++ (here t ∷ map pos (ends_from (counted t) rest))) ∙ (ap (λ ns. map f xs ++ map pos (ends_from place ns)) (sym first) ∙ same)))
+
+no_more : {A : Type 0} (xs : List A) → xs ++ [] ≡ xs
+no_more [] = refl
+no_more (x ∷ xs) = ap (λ ys. x ∷ ys) (no_more xs)
+
+pub ends_done : (xs all : List ℤ) (place : ℕ) (lengths : List ℕ) → lengths ≡ [] → xs ++ map pos (ends_from place lengths) ≡ all → xs ≡ all
+ends_done xs all place lengths none same =
+    sym (no_more xs) ∙ (ap (λ ns. xs ++ map pos (ends_from place ns)) (sym none) ∙ same)

@@ -1,0 +1,61 @@
+-- Masks, and the bits of a word as those of a mask.
+use Rattle.std.proofs.Common.{◌≡◌, ℕ, ◌<◌, ◌≤◌, ◌==◌, Bool, false, Option, None, Some, List, [], ◌∷◌, length, map, get_or, refl, ap, sym, ◌∙◌, arith, subst₂, zero-add}
+use Rattle.std.specs.Int.{bit_at}
+use Rattle.std.specs.List.{range_with_len}
+use Rattle.std.proofs.lemmas.List.{ext_get_or, take_all}
+use Rattle.std.proofs.lemmas.List.FromFn.{get_or-map-range_with_len, length-map-range_with_len}
+use Rattle.arrow_memory.specs.Bits.{paired}
+use Rattle.arrow_memory.specs.Gathered.{AnswersBits, GathersBits}
+use Rattle.arrow_memory.specs.Masks.{IsMask, mask_in}
+use Rattle.arrow_memory.specs.Sliced.{sliced}
+use Rattle.arrow_memory.specs.Words.{bits_in, is_set, low_bits, word_of}
+use Rattle.arrow_memory.proofs.BitLemmas.{bits_of_word}
+use Rattle.arrow_memory.proofs.LengthLemmas.{bit_of}
+use Rattle.arrow_memory.proofs.WordLemmas.{length-low_bits}
+
+-- a bit for each row
+pub mask_length : (bits : Option (List Bool)) (word len : ℕ) → IsMask bits len → length (mask_in bits word len) ≡ len
+mask_length None word len few = length-low_bits word len
+mask_length (Some bits) word len many = many.0
+
+-- few bits are those of the word
+pub word_of_mask : (bits : Option (List Bool)) (word len : ℕ) → IsMask bits len → length (mask_in bits word len) ≤ 64 → low_bits word (length (mask_in bits word len)) ≡ mask_in bits word len
+word_of_mask None word len few within = ap (low_bits word) (length-low_bits word len)
+word_of_mask (Some bits) word len many within = absurd (omega (arith, within, many.0, many.1))
+
+-- all bits of a bitmap, read as a word
+pub first_bits_of : (bits : List Bool) (word len : ℕ) → word ≡ word_of (sliced bits 0 len) → len ≡ length bits → low_bits word len ≡ bits
+first_bits_of bits word len is long =
+    bits_of_word bits word len (is ∙ ap word_of (take_all len bits (omega (arith, long)))) (sym long)
+
+-- bits that were answered
+pub answered_word : (answered : ℕ → Bool → Type 0) (len count word : ℕ) → count ≡ len → GathersBits answered 0 count word → AnswersBits answered len (low_bits word len)
+answered_word answered len count word all gathered =
+    let same = bits_of_word gathered.bits word len gathered.is (gathered.long ∙ all) in
+    record {
+      count = length-low_bits word len;
+      each = λ row below. subst₂ (λ k bits. answered k (get_or bits row false)) (zero-add row) (sym same) (gathered.each row (omega (arith, below, all)));
+    }
+
+-- both bits of two words
+pairs : (f g : ℕ → Bool) (give : Bool → Bool → Bool) (ns : List ℕ) → paired give (map f ns) (map g ns) ≡ map (λ n. give (f n) (g n)) ns
+pairs f g give [] = refl
+pairs f g give (n ∷ ns) = ap (λ bits. give (f n) (g n) ∷ bits) (pairs f g give ns)
+
+pub both_of_words : (give : Bool → Bool → Bool) (left right word len : ℕ) → ((k : ℕ) → k < 64 → (bit_at word k == 1) ≡ give (bit_at left k == 1) (bit_at right k == 1)) → len ≤ 64 → low_bits word len ≡ paired give (low_bits left len) (low_bits right len)
+both_of_words give left right word len each few =
+    let both = λ (k : ℕ). give (bit_at left k == 1) (bit_at right k == 1) in
+    let one = λ (k : ℕ). bit_at word k == 1 in
+    ext_get_or false (map one (range_with_len 0 len)) (map both (range_with_len 0 len)) (length-map-range_with_len one 0 len ∙ sym (length-map-range_with_len both 0 len))
+    (λ i at. let below : i < len = omega (arith, at, length-map-range_with_len one 0 len) in
+    get_or-map-range_with_len one 0 len i i false below (omega arith) ∙ (each i (omega (arith, below, few)) ∙ sym (get_or-map-range_with_len both 0 len i i false below (omega arith))))
+    ∙ sym (pairs (λ k. bit_at left k == 1) (λ k. bit_at right k == 1) give (range_with_len 0 len))
+
+-- the bits of a word as a list of words has them
+pub low_bits_in : (word len : ℕ) → len ≤ 64 → bits_in (word ∷ []) 0 len ≡ low_bits word len
+unfolding bits_in
+low_bits_in word len few =
+    let one = λ (k : ℕ). bit_at word k == 1 in
+    ext_get_or false (map (is_set (word ∷ [])) (range_with_len 0 len)) (low_bits word len) (length-map-range_with_len (is_set (word ∷ [])) 0 len ∙ sym (length-low_bits word len))
+    (λ i at. let below : i < len = omega (arith, at, length-map-range_with_len (is_set (word ∷ [])) 0 len) in
+    get_or-map-range_with_len (is_set (word ∷ [])) 0 len i i false below (omega arith) ∙ (bit_of word len i few (omega (arith, below)) ∙ sym (get_or-map-range_with_len one 0 len i i false below (omega arith))))
