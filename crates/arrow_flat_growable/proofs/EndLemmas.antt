@@ -11,7 +11,8 @@ use Rattle.arrow_memory.proofs.OffsetLemmas.{offsets_rise}
 use Rattle.arrow_memory.proofs.SlicedLemmas.{length-sliced}
 use Rattle.arrow_flat.specs.Pieces.{pieces, pieces_from}
 use Rattle.arrow_flat_growable.proofs.GrownRowLemmas.{last_behind, last_more, part_cut}
-use Rattle.arrow_flat_growable.specs.Ends.{concatenated, ends_from, row_length}
+use Rattle.arrow_memory.specs.Ends.{ends_from}
+use Rattle.arrow_flat_growable.specs.Ends.{concatenated, row_length}
 
 pub ends_next : (place : ℕ) (lengths : List ℕ) (n : ℕ) → place ∷ ends_from place (lengths ++ n ∷ []) ≡ with_row (place ∷ ends_from place lengths) n
 ends_next place [] n = refl

@@ -1,11 +1,6 @@
--- Rows of bytes or items that lie one behind the other: where they end, and what they are ("Variable-size Binary Layout").
+-- Rows of bytes or items that lie one behind the other: how long they are, and what they are ("Variable-size Binary Layout").
 use Rattle.std.specs.Prelude.{ℕ, ◌+◌, ◌-◌, List, [], ◌∷◌, ◌++◌, slice_index}
 use Rattle.arrow_memory.specs.Sliced.{sliced}
-
--- where rows of such lengths end, of which the first begins at a place
-abbrev pub ends_from : ℕ → List ℕ → List ℕ
-ends_from place [] = []
-ends_from place (n ∷ lengths) = (place + n) ∷ ends_from (place + n) lengths
 
 -- the members of rows, one row behind the other
 abbrev pub concatenated : {A : Type 0} → List (List A) → List A

@@ -7,6 +7,7 @@ ghost use Rattle.arrow_flat_growable.specs.Grown.{Grown, CannotHold, NamesRows, 
 mod binary;
 mod boolean;
 mod byte_rows;
+mod empty_nulls;
 mod fixed_binary;
 mod flat;
 mod keys;

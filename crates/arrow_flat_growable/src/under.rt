@@ -7,7 +7,7 @@ ghost use Rattle.arrow_flat.specs.Parts.{FitsRows, rows_by};
 ghost use Rattle.arrow_flat_growable.specs.Validity.{part_in_both, valid_in_both};
 
 use arrow_flat::array::{FlatArray, Values};
-use arrow_memory::bitmap::Bitmap;
+use arrow_memory::bitmap::{Bitmap, Mask};
 use arrow_types::error::Error;
 use std::alloc::Global;
 
@@ -59,14 +59,14 @@ pub(crate) fn part_under(
     alloc: Global,
     validity: Option<&Bitmap>,
     start: usize,
-    own: &Bitmap,
-) -> Result<Bitmap, Error>
+    own: &Mask,
+) -> Result<Mask, Error>
     requires { IfSome validity (λ bits. start + length own.now ≤ length bits.now) }
     ensures ok { IfOk result (λ both. both ≡ part_in_both (option_copied validity.entry) start own.now) }
     ensures err { IsOkUnless result Error.OutOfMemory }
 {
     match validity {
         None => Ok(own.clone()?),
-        Some(bits) => bits.clone()?.sliced(start, own.len()).and(alloc, own),
+        Some(bits) => own.and_part(alloc, bits, start),
     }
 }

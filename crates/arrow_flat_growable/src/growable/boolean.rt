@@ -14,7 +14,7 @@ ghost use Rattle.arrow_flat_growable.specs.FlatLaws.{is_counted, fits_unmasked, 
 use crate::growable::flat::{FlatGrowable, GrowableValues};
 use arrow_arrays::array::AnyArray;
 use arrow_flat::array::BooleanArray;
-use arrow_memory::bitmap::{Bitmap, MutableBitmap};
+use arrow_memory::bitmap::{Bitmap, Mask, MutableBitmap};
 use arrow_types::datatypes::DataType;
 use arrow_types::error::Error;
 use std::alloc::Global;
@@ -104,7 +104,7 @@ impl GrowableValues for GrowableBits {
         index: usize,
         array: &BooleanArray,
         start: usize,
-        bits: &Bitmap,
+        bits: &Mask,
     ) -> Result<(), Error> {
         self.extend(index, array, start, bits.len())
     }

@@ -1,7 +1,6 @@
 //! What texts and bytes under construction share.
 
-ghost use Rattle.std.specs.Prelude.{◌≡◌, ◌+◌, ◌-◌, ◌%◌, ◌<◌, ◌≤◌, [], ◌++◌, Bool, List, ℕ, false, length, map, replicate, slice_index, slice_index_or, Err, IfOk, IfErr, OnOk, OnErr, IsOkUnless, IsTrue, refl};
-ghost use Rattle.std.specs.Int.{bit_at};
+ghost use Rattle.std.specs.Prelude.{◌≡◌, ◌+◌, ◌-◌, ◌<◌, ◌≤◌, [], ◌++◌, Bool, List, ℕ, length, map, replicate, slice_index, slice_index_or, Err, IfOk, IfErr, OnOk, OnErr, IsOkUnless, IsTrue, refl};
 ghost use Rattle.std.specs.List.{All};
 ghost use Rattle.std.specs.Vec.{vec_len, vec_capacity};
 ghost use Rattle.arrow_types.specs.declared.error.Error.{Error};
@@ -14,13 +13,14 @@ ghost use Rattle.arrow_flat.specs.ByteRows.{byte_slots, row_bytes};
 ghost use Rattle.arrow_flat.specs.Pieces.{pieces};
 ghost use Rattle.arrow_flat_growable.specs.Bytes.{BeginsWith, IsBytesType, SparesBytes, stored_rows};
 ghost use Rattle.arrow_flat_growable.specs.GrownParts.{AppendsParts, IsBound};
-ghost use Rattle.arrow_flat_growable.specs.GrownRows.{AreEmptyNulls, filled, total, valid_values};
+ghost use Rattle.arrow_flat_growable.specs.GrownRows.{filled, total, valid_values};
 
+use crate::growable::empty_nulls::are_nulls_empty;
 use crate::growable::flat::GrowableValues;
 use crate::growable::parts::{GrowableParts, Part, copy_all};
 use arrow_arrays::array::{AnyArray, AnyOffset, AnyRows};
 use arrow_flat::array::{ByteKind, ByteRows, FlatArray};
-use arrow_memory::bitmap::{Bitmap, WORD_BITS};
+use arrow_memory::bitmap::{BitRuns, Bitmap, Mask, WORD_BITS};
 use arrow_memory::buffer::Buffer;
 use arrow_memory::bytes::append_span;
 use arrow_memory::offset::{Offsets, OffsetsBuffer};
@@ -182,7 +182,7 @@ impl<O: Offset, K: GrowableKind> GrowableBytes<O, K> {
         index: usize,
         array: &FlatArray<ByteRows<O, K>>,
         start: usize,
-        bits: &Bitmap,
+        bits: &Mask,
     ) -> Result<(), Error>
         requires within { start + length bits.now ≤ length (row_bytes array.now.values) }
         requires bound { IsBound self.old.0 index array.now.values.bytes }
@@ -198,8 +198,12 @@ impl<O: Offset, K: GrowableKind> GrowableBytes<O, K> {
             return Ok(());
         }
         let (rows, values) = parts(array);
+        if len <= WORD_BITS && self.offsets.has_room_for(rows, start, len) {
+            return part_masked_rows(&mut self.offsets, &mut self.bytes, index, rows, bits, start);
+        }
         let part = part_of(rows, start, len)?;
-        self.append_valid(index, &part, values, bits, 0, len)
+        let bits = bits.to_bitmap(self.bytes.allocator())?;
+        self.append_valid(index, &part, values, &bits, 0, len)
     }
 
     /// Appends rows of an array, those that are null without bytes.
@@ -339,64 +343,6 @@ fn copy_valid_rows<O: Offset>(
     copy_set_rows(offsets, bytes, rows, values, validity, start, len)
 }
 
-// Whether those of `len` rows from row `start` on are empty whose bit is not set, by words of the bits. It stops at the
-// first that is not.
-fn are_nulls_empty<O: Offset>(
-    rows: &OffsetsBuffer<O>,
-    validity: &Bitmap,
-    start: usize,
-    len: usize,
-) -> bool
-    requires part { start + len < length rows.now }
-    requires covered { start + len ≤ length validity.now }
-    ensures { IsTrue result → AreEmptyNulls validity.now rows.now start (start + len) }
-{
-    prove!(start < rows.len());
-    let end = start + len;
-    let mut next = start;
-    while next < end {
-        let count = (WORD_BITS - next % WORD_BITS).min(end - next);
-        if !are_empty(rows, next, unset_from(validity, next, count)) {
-            return false;
-        }
-        next += count;
-    }
-    true
-}
-
-// Those of `count` bits from bit `first` on that are not set, as a word. They lie in one word of the bitmap.
-#[inline(always)]
-fn unset_from(validity: &Bitmap, first: usize, count: usize) -> u64
-    requires some { 0 < count }
-    requires in_word { first % 64 + count ≤ 64 }
-    ensures within { (k : ℕ) → bit_at result k ≡ 1 → k < count }
-    ensures unset { (k : ℕ) → k < count → slice_index_or validity.now (first + k) false ≡ false
-        → bit_at result k ≡ 1 }
-{
-    let word = validity.word(first / WORD_BITS) >> (first % WORD_BITS);
-    !word & (u64::MAX >> (WORD_BITS - count))
-}
-
-// Whether the rows are empty whose bit is set in a word, counted from row `start` on.
-#[inline(always)]
-fn are_empty<O: Offset>(rows: &OffsetsBuffer<O>, start: usize, word: u64) -> bool
-    requires { (k : ℕ) → bit_at word k ≡ 1 → start + k + 1 < length rows.now }
-    ensures { IsTrue result → (k : ℕ) → bit_at word k ≡ 1
-        → slice_index rows.now (start + k + 1) ≡ slice_index rows.now (start + k) }
-{
-    prove!(0 < rows.len());
-    let mut left = word;
-    while left != 0 {
-        let place = left.trailing_zeros() as usize;
-        let (begin, end) = rows.start_end(start + place);
-        if begin != end {
-            return false;
-        }
-        left &= !(1 << place);
-    }
-    true
-}
-
 // The same, a part for each run.
 fn part_set_rows<O: Offset>(
     offsets: &mut Offsets<O>,
@@ -428,7 +374,48 @@ fn part_set_rows<O: Offset>(
     bytes.copy_many()?;
     bytes.parts.reserve(len)?;
     offsets.try_extend_from_valid(rows, validity, start, len)?;
-    push_runs(&mut bytes.parts, index, rows, validity, start, len);
+    push_runs(
+        &mut bytes.parts,
+        index,
+        rows,
+        validity.runs(start, len),
+        start,
+        len,
+    );
+    Ok(())
+}
+
+// The same of at most 64 rows from row `start` on, a row for each bit of a mask, for whose bytes there is room.
+fn part_masked_rows<O: Offset>(
+    offsets: &mut Offsets<O>,
+    bytes: &mut GrowableParts<u8>,
+    index: usize,
+    rows: &OffsetsBuffer<O>,
+    bits: &Mask,
+    start: usize,
+) -> Result<(), Error>
+    requires in_word { length bits.now ≤ 64 }
+    requires part { start + length bits.now < length rows.now }
+    requires there { index < length bytes.old.0 }
+    requires within { last_of rows.now ≤ length (slice_index_or bytes.old.0 index []) }
+    requires room { (last_of offsets.old +
+        (slice_index rows.now (start + length bits.now) - slice_index rows.now start)) ≤ O.greatest }
+    ensures sound { IsOffsets offsets.old }
+    ensures rows_sound { IsOffsets rows.now }
+    ensures same { bytes.new.0 ≡ bytes.old.0 }
+    ensures ok { OnOk result ((offsets.new ≡ with_valid_rows offsets.old bits.now rows.now start)
+        × (bytes.new.1 ≡ bytes.old.1
+        ++ valid_values bits.now rows.now (slice_index_or bytes.old.0 index []) start)) }
+    ensures err { IsOkUnless result Error.OutOfMemory }
+    ensures unchanged { OnErr result ((offsets.new ≡ offsets.old) × (bytes.new.1 ≡ bytes.old.1)) }
+{
+    prove!(0 < offsets.len());
+    prove!(start < rows.len());
+    let len = bits.len();
+    bytes.copy_many()?;
+    bytes.parts.reserve(len)?;
+    offsets.extend_from_word(rows, start, bits.word(), len)?;
+    push_runs(&mut bytes.parts, index, rows, bits.runs(), start, len);
     Ok(())
 }
 
@@ -438,20 +425,20 @@ fn push_runs<O: Offset>(
     parts: &mut Vec<Part<u8>>,
     index: usize,
     rows: &OffsetsBuffer<O>,
-    validity: &Bitmap,
+    runs: BitRuns<'_>,
     start: usize,
     len: usize,
 )
     requires part { start + len < length rows.now }
-    requires covered { start + len ≤ length validity.now }
+    requires covered { length runs ≡ len }
     requires room { vec_len parts.old + len ≤ vec_capacity parts.old }
     ensures { (sources : List (List ℕ)) → index < length sources
         → last_of rows.now ≤ length (slice_index_or sources index [])
-        → AppendsParts sources parts.old.items parts.new.items (valid_values
-        (sliced validity.now start len) rows.now (slice_index_or sources index []) start) }
+        → AppendsParts sources parts.old.items parts.new.items
+        (valid_values runs.entry rows.now (slice_index_or sources index []) start) }
 {
     prove!(start < rows.len());
-    let mut left = validity.runs(start, len);
+    let mut left = runs;
     let end = start + len;
     let mut row = start;
     while row < end {
@@ -713,7 +700,7 @@ impl<O: AnyOffset, K: GrowableKind> GrowableValues for GrowableBytes<O, K> {
         index: usize,
         array: &FlatArray<ByteRows<O, K>>,
         start: usize,
-        bits: &Bitmap,
+        bits: &Mask,
     ) -> Result<(), Error> {
         self.append_under(index, array, start, bits)?;
         // The bytes are then at most the greatest offset, so the rows fit.

@@ -17,7 +17,7 @@ use crate::growable::flat::{FlatGrowable, GrowableValues};
 use crate::growable::parts::append_part;
 use arrow_arrays::array::AnyArray;
 use arrow_flat::array::{FixedRows, FixedSizeBinaryArray};
-use arrow_memory::bitmap::Bitmap;
+use arrow_memory::bitmap::{Bitmap, Mask};
 use arrow_memory::buffer::Buffer;
 use arrow_types::datatypes::DataType;
 use arrow_types::error::Error;
@@ -144,7 +144,7 @@ impl GrowableValues for GrowableFixedRows {
         index: usize,
         array: &FixedSizeBinaryArray,
         start: usize,
-        bits: &Bitmap,
+        bits: &Mask,
     ) -> Result<(), Error> {
         self.extend(index, array, start, bits.len())
     }

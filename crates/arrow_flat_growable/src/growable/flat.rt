@@ -20,7 +20,7 @@ use crate::growable::Growable;
 use crate::growable::validity::GrowableValidity;
 use crate::under::part_under;
 use arrow_arrays::array::AnyArray;
-use arrow_memory::bitmap::Bitmap;
+use arrow_memory::bitmap::{Bitmap, Mask};
 use arrow_types::datatypes::DataType;
 use arrow_types::error::Error;
 use std::alloc::Global;
@@ -124,7 +124,7 @@ pub trait GrowableValues: Drop {
         index: usize,
         array: &Self::Array,
         start: usize,
-        bits: &Bitmap,
+        bits: &Mask,
     ) -> Result<(), Error>
         requires kind { are_of self.old (type_in array.now) }
         requires bound { binds self.old index array.now }
@@ -328,7 +328,7 @@ impl<'a, G: GrowableValues> FlatGrowable<'a, G> {
     /// # Errors
     /// `Failed` where an earlier call refused; `Overflow` only where the rows do not fit the type; `OutOfMemory` where
     /// memory is refused.
-    pub fn extend_masked(&mut self, index: usize, start: usize, own: &Bitmap) -> Result<(), Error>
+    pub fn extend_masked(&mut self, index: usize, start: usize, own: &Mask) -> Result<(), Error>
         requires { NamesRows self.old index start (length own.now) }
         ensures ok { OnOk result (self.new
             ≡ appended self.old (mask own.now (named_rows self.old index start (length own.now)))) }
@@ -419,7 +419,7 @@ fn append_under<G: GrowableValues>(
     index: usize,
     array: &G::Array,
     start: usize,
-    bits: &Bitmap,
+    bits: &Mask,
 ) -> Result<(), Error>
     requires within { start + length bits.now ≤ length (G.stored_in array.now) }
     requires room { length validity.old + length bits.now < 2 ^ 64 }
@@ -439,7 +439,7 @@ fn append_under<G: GrowableValues>(
         ++ mask bits.now (sliced (G.stored_in array.now) start (length bits.now))) → ⊥ }
     ensures others { IfErr result IsGrowthError }
 {
-    validity.extend_from(Some(bits), 0, bits.len())?;
+    validity.extend_from_mask(bits)?;
     values.extend_under(index, array, start, bits)
 }
 

@@ -16,7 +16,7 @@ use crate::growable::flat::{FlatGrowable, GrowableValues};
 use crate::growable::parts::GrowableParts;
 use arrow_arrays::array::AnyArray;
 use arrow_flat::array::{AnyElement, PrimitiveArray};
-use arrow_memory::bitmap::Bitmap;
+use arrow_memory::bitmap::{Bitmap, Mask};
 use arrow_memory::buffer::Buffer;
 use arrow_types::datatypes::DataType;
 use arrow_types::error::Error;
@@ -103,7 +103,7 @@ impl<T: AnyElement> GrowableValues for GrowableParts<T> {
         index: usize,
         array: &PrimitiveArray<T>,
         start: usize,
-        bits: &Bitmap,
+        bits: &Mask,
     ) -> Result<(), Error> {
         self.extend(index, array, start, bits.len())
     }

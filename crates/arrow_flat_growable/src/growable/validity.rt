@@ -7,7 +7,7 @@ ghost use Rattle.arrow_memory.specs.Grown.{IsGrowthError};
 ghost use Rattle.arrow_flat.specs.Parts.{bits_of_slice};
 ghost use Rattle.arrow_flat_growable.specs.Validity.{AppendsValidity, AreSameBits, IsValidityOf, bits_by};
 
-use arrow_memory::bitmap::{Bitmap, MutableBitmap};
+use arrow_memory::bitmap::{Bitmap, Mask, MutableBitmap, WORD_BITS};
 use arrow_types::error::Error;
 use std::alloc::Global;
 use std::marker::Model;
@@ -83,6 +83,24 @@ impl GrowableValidity {
             return Err(Error::Overflow);
         };
         append(self.alloc, &mut self.bits, self.len, validity, start, len)?;
+        self.len = total;
+        Ok(())
+    }
+
+    /// Appends the bits of a mask.
+    ///
+    /// # Errors
+    /// As of [`GrowableValidity::extend_from`].
+    #[inline(always)]
+    pub fn extend_from_mask(&mut self, mask: &Mask) -> Result<(), Error>
+        ensures ok { OnOk result (self.new ≡ self.old ++ mask.now) }
+        ensures overflow { result ≡ Err Error.Overflow → 2 ^ 64 ≤ length self.old + length mask.now }
+        ensures others { IfErr result IsGrowthError }
+    {
+        let Some(total) = self.len.checked_add(mask.len()) else {
+            return Err(Error::Overflow);
+        };
+        append_mask(self.alloc, &mut self.bits, self.len, mask)?;
         self.len = total;
         Ok(())
     }
@@ -217,6 +235,41 @@ fn keep_part(
         None => unreachable!(),
         Some(bits) => bits.extend_from_bitmap(validity, start, len),
     }
+}
+
+// Appends the bits of a mask to those of so many rows.
+fn append_mask(
+    alloc: Global,
+    bits: &mut Option<MutableBitmap>,
+    rows: usize,
+    mask: &Mask,
+) -> Result<(), Error>
+    requires { IfSome bits.old (λ bits. length bits ≡ rows) }
+    ensures ok { OnOk result (AppendsValidity bits.old bits.new rows mask.now) }
+    ensures overflow { result ≡ Err Error.Overflow → 2 ^ 64 ≤ rows + length mask.now }
+    ensures others { IfErr result IsGrowthError }
+    ensures unchanged { OnErr result (AreSameBits bits.old bits.new rows) }
+{
+    keep(alloc, bits, rows)?;
+    match bits {
+        None => unreachable!(),
+        Some(bits) => push_mask(alloc, bits, mask),
+    }
+}
+
+// Appends the bits of a mask, those of a word as a word.
+fn push_mask(alloc: Global, bits: &mut MutableBitmap, mask: &Mask) -> Result<(), Error>
+    ensures ok { OnOk result (bits.new ≡ bits.old ++ mask.now) }
+    ensures overflow { result ≡ Err Error.Overflow → 2 ^ 64 ≤ length bits.old + length mask.now }
+    ensures others { IfErr result IsGrowthError }
+    ensures unchanged { OnErr result (bits.new ≡ bits.old) }
+{
+    let len = mask.len();
+    if len <= WORD_BITS {
+        return bits.push_word(mask.word(), len);
+    }
+    let more = mask.to_bitmap(alloc)?;
+    bits.extend_from_bitmap(&more, 0, len)
 }
 
 // Appends so many bits that are not set to those of so many rows.

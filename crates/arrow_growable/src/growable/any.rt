@@ -12,7 +12,7 @@ use crate::growable::{
     GrowableFixedSizeBinary, GrowableNested, GrowablePrimitive, GrowableUnion, GrowableUtf8,
 };
 use arrow_arrays::array::AnyArray;
-use arrow_memory::bitmap::Bitmap;
+use arrow_memory::bitmap::Mask;
 use arrow_types::error::Error;
 use arrow_types::types::{days_ms, i256, months_days_ns};
 
@@ -103,7 +103,7 @@ impl Drop for AnyGrowable<'_> {
 
 impl AnyGrowablePrimitive<'_> {
     // As of a growable of one element type.
-    fn extend_masked(&mut self, index: usize, start: usize, own: &Bitmap) -> Result<(), Error>
+    fn extend_masked(&mut self, index: usize, start: usize, own: &Mask) -> Result<(), Error>
         requires { NamesRows (primitive_grown_of self.old) index start (length own.now) }
         ensures ok { OnOk result (primitive_grown_of self.new ≡ appended (primitive_grown_of self.old)
             (mask own.now (named_rows (primitive_grown_of self.old) index start (length own.now)))) }
@@ -138,7 +138,7 @@ impl AnyGrowable<'_> {
         &mut self,
         index: usize,
         start: usize,
-        own: &Bitmap,
+        own: &Mask,
     ) -> Result<(), Error>
         requires flat { IsFlat self.old }
         requires there { NamesRows (grown_of self.old) index start (length own.now) }

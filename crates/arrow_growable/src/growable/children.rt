@@ -1,6 +1,7 @@
 //! Children under construction: each grows by the rows that the rows of an array name of it.
 
-ghost use Rattle.std.specs.Prelude.{◌≡◌, ◌+◌, ◌-◌, ◌<◌, ◌≤◌, Err, length, map, All, IfErr, IfOk, IfSome, IsOkUnless, IsTrue, OnOk, option_copied};
+ghost use Rattle.std.specs.Prelude.{◌≡◌, ◌+◌, ◌-◌, ◌*◌, ◌^◌, ◌<◌, ◌≤◌, Err, length, map, replicate, All, IfErr, IfOk, IfSome, IsOkUnless, IsTrue, OnOk, option_copied};
+ghost use Rattle.std.specs.List.{flat_map};
 ghost use Rattle.arrow_types.specs.declared.error.Error.{Error};
 ghost use Rattle.arrow_types.specs.Slot.{null_slot};
 ghost use Rattle.arrow_memory.specs.Grown.{IsGrowthError};
@@ -17,7 +18,7 @@ use crate::growable::any::AnyGrowable;
 use crate::growable::fields::extend_flat;
 use crate::growable::spans::Spans;
 use arrow_arrays::array::AnyArray;
-use arrow_memory::bitmap::Bitmap;
+use arrow_memory::bitmap::{Bitmap, Mask};
 use arrow_types::error::Error;
 use std::alloc::Global;
 
@@ -143,8 +144,25 @@ fn extend_under(
 {
     // The rows of the child are as many as a `usize` counts.
     let (first, _end) = rows.range(start, len);
-    let own = validity.repeated(alloc, start, len, rows.size())?;
+    let own = mask_of_items(alloc, validity, start, len, rows.size())?;
     extend_flat(child, index, first, &own)
+}
+
+// The bits of `len` rows from row `start` on, each for so many items.
+fn mask_of_items(
+    alloc: Global,
+    validity: &Bitmap,
+    start: usize,
+    len: usize,
+    size: usize,
+) -> Result<Mask, Error>
+    requires within { start + len ≤ length validity.now }
+    requires counted { len * size < 2 ^ 64 }
+    ensures ok { IfOk result (λ own. own ≡ flat_map (replicate size) (sliced validity.now start len)) }
+    ensures err { IsOkUnless result Error.OutOfMemory }
+{
+    let bits = validity.repeated(alloc, start, len, size)?;
+    Ok(Mask::from_bitmap(bits))
 }
 
 // Appends what `len` rows from row `start` on name, a run of null rows and one of valid rows at a time.

@@ -23,7 +23,7 @@ ghost use Rattle.arrow_growable.specs.Variants.{IsSparse, have_id};
 
 use crate::growable::any::AnyGrowable;
 use arrow_arrays::array::UnionArray;
-use arrow_memory::bitmap::Bitmap;
+use arrow_memory::bitmap::{Bitmap, Mask};
 use arrow_types::datatypes::DataType;
 use arrow_types::error::Error;
 use std::alloc::Global;
@@ -131,7 +131,7 @@ fn extend_fields(
     let ids = &array.types().as_slice()[start..start + len];
     let first = array.start() + start;
     for f in 0..children.len() {
-        let own = rows_of_id(alloc, ids, id_of_field(array.data_type(), f))?;
+        let own = mask_of_id(alloc, ids, id_of_field(array.data_type(), f))?;
         extend_flat(&mut children[f], index, first, &own)?;
     }
     Ok(())
@@ -143,7 +143,7 @@ pub(crate) fn extend_flat(
     child: &mut AnyGrowable,
     index: usize,
     start: usize,
-    own: &Bitmap,
+    own: &Mask,
 ) -> Result<(), Error>
     requires flat { IsFlat child.old }
     requires bound { BindsRows (grown_of child.old) index (start + length own.now) }
@@ -179,7 +179,15 @@ pub fn rows_of_id(alloc: Global, types: &[i8], id: i8) -> Result<Bitmap, Error>
     ensures ok { IfOk result (λ own. own ≡ have_id id types.now) }
     ensures err { IsOkUnless result Error.OutOfMemory }
 {
-    let own = Bitmap::collect_bool(alloc, types.len(), |row| has_id(types, id, row))?;
+    mask_of_id(alloc, types, id)?.to_bitmap(alloc)
+}
+
+// The same as a mask, which takes no memory for a few rows.
+fn mask_of_id(alloc: Global, types: &[i8], id: i8) -> Result<Mask, Error>
+    ensures ok { IfOk result (λ own. own ≡ have_id id types.now) }
+    ensures err { IsOkUnless result Error.OutOfMemory }
+{
+    let own = Mask::collect_bool(alloc, types.len(), |row| has_id(types, id, row))?;
     Ok(own)
 }
 

@@ -1,5 +1,4 @@
 use Rattle.std.proofs.Common.{arith, [], get_or}
-use Rattle.arrow_memory.specs.Sliced.{sliced}
 use Rattle.arrow_flat_growable.specs.GrownRows.{valid_values}
 use Rattle.arrow_flat_growable.proofs.PartLemmas.{run_more}
 use Rattle.arrow_flat_growable.proofs.ValidRowLemmas.{run_long}
@@ -14,4 +13,4 @@ loop-row-preserved g c =
     let before = c.loop-row.invariant in
     let bits = c.next_set-nulls.ensures.bits in
     let long = run_long nulls count c.loop-row.left c.next_set-nulls.new.self bits in
-    (omega (arith, before.0, long), omega (arith, before.1, c.in-Ok.ensures.len, c.in-Ok.ensures.capacity, c.next_set-nulls.ensures.some, before.0, long), λ sources there within. run_more sources c.args.index others there c.len.ensures.sound within c.args.parts.now.items c.loop-row.parts.items c.push.new.self.items (valid_values (sliced c.args.validity.now c.args.start c.args.len) others (get_or sources c.args.index []) c.args.start) nulls count row c.range-first.result.0 c.range-first.result.1 c.loop-row.left c.next_set-nulls.new.self bits (omega (arith, before.0, c.requires.part)) c.range-first.ensures.start c.range-first.ensures.end c.in-Ok.ensures.items (before.2 sources there within))
+    (omega (arith, before.0, long), omega (arith, before.1, c.in-Ok.ensures.len, c.in-Ok.ensures.capacity, c.next_set-nulls.ensures.some, before.0, long), λ sources there within. run_more sources c.args.index others there c.len.ensures.sound within c.args.parts.now.items c.loop-row.parts.items c.push.new.self.items (valid_values c.args.runs others (get_or sources c.args.index []) c.args.start) nulls count row c.range-first.result.0 c.range-first.result.1 c.loop-row.left c.next_set-nulls.new.self bits (omega (arith, before.0, c.requires.part)) c.range-first.ensures.start c.range-first.ensures.end c.in-Ok.ensures.items (before.2 sources there within))

@@ -1,14 +1,13 @@
-use Rattle.std.proofs.Common.{arith, ◌≡◌, ◌++◌, ◌∙◌, length, ap, refl}
-use Rattle.std.proofs.lemmas.List.{length-append, take_all}
+use Rattle.std.proofs.Common.{◌≡◌, ◌++◌, length, refl}
+use Rattle.std.proofs.lemmas.List.{length-append}
 use Rattle.arrow_flat_growable.proofs.FlatLemmas.{appended_rows, appended_lengths}
 use Rattle.arrow_flat_growable.proofs.ResultLemmas.{on_ok}
 use Rattle.arrow_flat_growable.proofs.growable.flat.append_under.Given.{Over}
 use Rattle.arrow_flat_growable.proofs.growable.flat.append_under.Goals as goal
 
 -- the bits come behind the others
-behind : (g : Over) (c : goal.After-extend_under g) → c.extend_from.new.self ≡ c.args.validity.now ++ c.args.bits.now
-behind g c =
-    c.in_ok-extend_from.ensures.ok ∙ ap (λ more. c.args.validity.now ++ more) (take_all c.len.result c.args.bits.now (omega (arith, c.len.ensures)))
+behind : (g : Over) (c : goal.After-extend_under g) → c.extend_from_mask.new.self ≡ c.args.validity.now ++ c.args.bits.now
+behind g c = c.in_ok-extend_from_mask.ensures.ok
 
 pub returns-clause-covers : goal.returns-clause-covers
 returns-clause-covers g c =

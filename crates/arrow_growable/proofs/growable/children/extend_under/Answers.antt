@@ -6,8 +6,8 @@ use Rattle.arrow_growable.specs.Child.{GrownBy}
 use Rattle.arrow_growable.proofs.EvenSpreadLemmas.{even_place, items_bound, items_named}
 use Rattle.arrow_growable.proofs.growable.children.extend_under.Goals as goal
 
-pub repeated-requires-clause-counted : goal.repeated-requires-clause-counted
-repeated-requires-clause-counted c =
+pub mask_of_items-requires-clause-counted : goal.mask_of_items-requires-clause-counted
+mask_of_items-requires-clause-counted c =
     let many = ap (λ n. c.args.len * n) c.size.ensures in
     omega (arith, many, even_place c.args.rows.now c.args.start c.args.len c.requires.even, c.range-first.ensures.end, c.range-first.type_inv)
 

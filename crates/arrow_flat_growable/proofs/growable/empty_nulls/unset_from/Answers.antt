@@ -3,7 +3,7 @@ use Rattle.std.specs.Prelude.{slice_index_or}
 use Rattle.std.specs.Int.{bit_at}
 use Rattle.std.proofs.lemmas.Nat.Bits.{bit_at-lt}
 use Rattle.arrow_flat_growable.proofs.EmptyNullLemmas.{digit_unset, unset_set, unset_within}
-use Rattle.arrow_flat_growable.proofs.growable.byte_rows.unset_from.Goals as goal
+use Rattle.arrow_flat_growable.proofs.growable.empty_nulls.unset_from.Goals as goal
 
 pub returns-clause-within : goal.returns-clause-within
 returns-clause-within c =

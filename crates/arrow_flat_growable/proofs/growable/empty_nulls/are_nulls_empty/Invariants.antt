@@ -1,6 +1,6 @@
 use Rattle.std.proofs.Common.{◌-◌, ◌≤◌}
 use Rattle.arrow_flat_growable.specs.GrownRows.{AreEmptyNulls}
-use Rattle.arrow_flat_growable.proofs.growable.byte_rows.are_nulls_empty.Given as goal
+use Rattle.arrow_flat_growable.proofs.growable.empty_nulls.are_nulls_empty.Given as goal
 
 abbrev pub invariant-loop-next : goal.invariant-loop-next
 invariant-loop-next g l = (l.start ≤ l.next) × (l.next ≤ l.end) × AreEmptyNulls l.validity l.rows l.start l.next

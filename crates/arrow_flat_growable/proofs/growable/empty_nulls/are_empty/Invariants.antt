@@ -1,6 +1,6 @@
 use Rattle.std.proofs.Common.{◌≡◌, ◌+◌, ℕ, slice_index}
 use Rattle.std.specs.Int.{bit_at}
-use Rattle.arrow_flat_growable.proofs.growable.byte_rows.are_empty.Given as goal
+use Rattle.arrow_flat_growable.proofs.growable.empty_nulls.are_empty.Given as goal
 
 -- the bits that are left are among those of the word, and the rows of the others are empty
 abbrev pub invariant-loop-left : goal.invariant-loop-left

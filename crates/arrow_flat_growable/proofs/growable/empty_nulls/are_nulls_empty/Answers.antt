@@ -1,7 +1,7 @@
 use Rattle.std.proofs.Common.{arith, rules, ◌≡◌, ◌+◌, ℕ, slice_index}
 use Rattle.std.specs.Int.{bit_at}
 use Rattle.arrow_flat_growable.proofs.EmptyNullLemmas.{more_empty}
-use Rattle.arrow_flat_growable.proofs.growable.byte_rows.are_nulls_empty.Goals as goal
+use Rattle.arrow_flat_growable.proofs.growable.empty_nulls.are_nulls_empty.Goals as goal
 
 pub loop-next-preserved : goal.loop-next-preserved
 loop-next-preserved g c =

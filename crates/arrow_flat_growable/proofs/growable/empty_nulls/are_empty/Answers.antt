@@ -1,7 +1,7 @@
 use Rattle.std.proofs.Common.{arith, ◌≡◌, ◌+◌, ◌<◌, slice_index, w64}
 use Rattle.std.specs.Int.{trailing_zeros}
 use Rattle.arrow_flat_growable.proofs.EmptyNullLemmas.{lowest_set, one_done, others_left, others_less}
-use Rattle.arrow_flat_growable.proofs.growable.byte_rows.are_empty.Goals as goal
+use Rattle.arrow_flat_growable.proofs.growable.empty_nulls.are_empty.Goals as goal
 
 pub overflow_add-start : goal.overflow_add-start
 overflow_add-start g c =

@@ -1,6 +1,6 @@
 use Rattle.std.proofs.Common.{rules}
 use Rattle.arrow_growable.proofs.UnionFieldLemmas.{bits_of_id}
-use Rattle.arrow_growable.proofs.growable.fields.rows_of_id.Goals as goal
+use Rattle.arrow_growable.proofs.growable.fields.mask_of_id.Goals as goal
 
 pub returns-clause-ok : goal.returns-clause-ok
 returns-clause-ok c =

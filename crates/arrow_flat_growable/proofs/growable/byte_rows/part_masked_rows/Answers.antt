@@ -1,0 +1,23 @@
+use Rattle.std.proofs.Common.{◌≡◌, ◌++◌, ◌<◌, ◌≤◌, [], length, ap, subst, sym, ◌∙◌, append_assoc, get_or}
+use Rattle.std.specs.List.{flat_map}
+use Rattle.arrow_memory.specs.Offsets.{last_of, with_valid_rows}
+use Rattle.arrow_memory.specs.Words.{low_bits}
+use Rattle.arrow_flat_growable.specs.GrownParts.{part_values, with_parts}
+use Rattle.arrow_flat_growable.specs.GrownRows.{valid_values}
+use Rattle.arrow_flat_growable.proofs.growable.byte_rows.part_masked_rows.Goals as goal
+
+pub returns-clause-ok : goal.returns-clause-ok
+returns-clause-ok g c =
+    let same : low_bits c.word.result c.len-len.result ≡ c.args.bits.now = ap (low_bits c.word.result) c.len-len.ensures ∙ c.word.ensures in
+    let values = c.bytes.inside.values.items in
+    let sources = c.bytes.inside.sources.items in
+    let parts = c.bytes.inside.parts.items in
+    let more = valid_values c.runs.result c.args.rows.now (get_or sources c.args.index []) c.args.start in
+    let seen : (sources, with_parts sources values parts) ≡ c.args.bytes.now = c.bytes.view_is ∙ c.copy_many.ensures.same in
+    let pushed = c.push_runs.ensures sources (subst (λ b. c.args.index < length b.0) (sym seen) c.requires.there) (subst (λ b. last_of c.args.rows.now ≤ length (get_or b.0 c.args.index [])) (sym seen) c.requires.within) in (
+      c.in_ok-extend_from_word.ensures.ok ∙ ap (λ bits. with_valid_rows c.args.offsets.now bits c.args.rows.now c.args.start) same,
+      ap (λ ys. values ++ ys) pushed.values
+          ∙ (ap (λ ps. values ++ (flat_map (part_values sources) ps ++ more)) c.reserve.ensures.items
+          ∙ (sym (append_assoc values (flat_map (part_values sources) parts) more)
+          ∙ (λ t. (seen t).1 ++ valid_values (c.runs.ensures t) c.args.rows.now (get_or ((seen t).0) c.args.index []) c.args.start))),
+    )
