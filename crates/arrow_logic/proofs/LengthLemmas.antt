@@ -1,5 +1,5 @@
 -- How long rows are, a word of rows at a time.
-use Rattle.std.proofs.Common.{◌≡◌, ℕ, suc, ◌+◌, ◌-◌, ◌/◌, ◌%◌, ◌^◌, ◌<◌, ◌≤◌, ◌==◌, ℤ, pos, ◌-ℤ◌, ◌≤ℤ◌, Bool, true, false, Option, List, [], ◌∷◌, ◌++◌, length, map, take, get_or, slice_index, if◌then◌else◌, bit_and, nat_eq, refl, ap, subst, subst₂, sym, ◌∙◌, append_assoc, arith, inl, inr}
+use Rattle.std.proofs.Common.{◌≡◌, ℕ, suc, ◌+◌, ◌-◌, ◌/◌, ◌^◌, ◌<◌, ◌≤◌, ◌==◌, ℤ, pos, ◌-ℤ◌, ◌≤ℤ◌, Bool, true, false, Option, List, [], ◌∷◌, ◌++◌, length, map, take, get_or, slice_index, if◌then◌else◌, bit_and, nat_eq, refl, ap, subst, subst₂, sym, ◌∙◌, append_assoc, arith, inl, inr}
 use Rattle.std.specs.Int.{bit_at}
 use Rattle.std.specs.List.{range_with_len}
 use Rattle.std.proofs.Math.Seq.{take-add}
@@ -13,17 +13,15 @@ use Rattle.std.proofs.lemmas.Simd.{map-map}
 use Rattle.arrow_types.specs.Slot.{Slot, Number}
 use Rattle.arrow_memory.specs.Offsets.{IsOffsets, last_of, valid_length}
 use Rattle.arrow_memory.specs.Sliced.{sliced}
-use Rattle.arrow_memory.specs.Words.{bits_in, word_of}
-use Rattle.arrow_memory.proofs.BitmapLemmas.{bit_of-word_of}
 use Rattle.arrow_memory.proofs.OffsetLemmas.{at_most_last, offsets_rise}
 use Rattle.arrow_memory.proofs.SlicedLemmas.{length-sliced}
-use Rattle.arrow_memory.proofs.WordLemmas.{get_or-bits_in, word_of-bits_in}
 use Rattle.arrow_flat.specs.Parts.{FitsRows}
 use Rattle.arrow_flat.specs.Pieces.{pieces}
 use Rattle.arrow_flat.proofs.PartsLemmas.{fits_within}
 use Rattle.arrow_flat.proofs.PieceLemmas.{length-pieces, member_of_part, piece_at}
 use Rattle.arrow_logic.specs.Kept.{kept}
-use Rattle.arrow_logic.specs.Length.{HasBitsFrom, word_length}
+use Rattle.arrow_memory.specs.Ends.{word_length}
+use Rattle.arrow_logic.specs.Length.{HasBitsFrom}
 use Rattle.arrow_logic.proofs.KeptLemmas.{at-kept, length-kept}
 
 -- rows that lie so in bytes, under a validity
@@ -89,17 +87,6 @@ slots_of_numbers slot number numbered xs ns same =
     every (y ∷ ys) = λ i. numbered y i ∷ every ys i
 
 -- ---- a word in two halves
-
--- a bit of 32 bits of a word
-pub part_bit : (word first k : ℕ) → first ≤ 32 → k < 32 → (bit_at (word / 2 ^ first % 4294967296) k == 1) ≡ (bit_at word (first + k) == 1)
-part_bit word first k half below =
-    let words = word ∷ [] in
-    let shift : first % 64 ≡ first = omega (arith, half) in
-    let index : first / 64 ≡ 0 = omega (arith, half) in
-    let part : word_of (bits_in words first 32) ≡ word / 2 ^ first % 4294967296 = word_of-bits_in words first 32 (omega (arith, half)) ∙ (λ t. slice_index words (index t) / 2 ^ shift t % 4294967296) in
-    let place : (first + k) / 64 ≡ 0 = omega (arith, half, below) in
-    let at : (first + k) % 64 ≡ first + k = omega (arith, half, below) in
-    ap (λ w. bit_at w k == 1) (sym part) ∙ (bit_of-word_of (bits_in words first 32) k ∙ (get_or-bits_in words first 32 k false below ∙ (λ t. bit_at (slice_index words (place t)) (at t) == 1)))
 
 -- the lengths of the rows of both
 pub halves_of_lengths : (word low high : ℕ) (os : List ℕ) (start m n : ℕ) → ((k : ℕ) → k < 32 → (bit_at low k == 1) ≡ (bit_at word (0 + k) == 1)) → ((k : ℕ) → k < 32 → (bit_at high k == 1) ≡ (bit_at word (32 + k) == 1)) → m ≤ 32 → n ≤ 32 → (0 < n → m ≡ 32)

@@ -8,7 +8,6 @@ use Rattle.arrow_types.specs.declared.error.Error.TheVariants.{InvalidArgumentEr
 use Rattle.arrow_types.specs.ArrowType.{ArrowType, plain, integer, utf8, large_utf8}
 use Rattle.arrow_types.specs.Rows.{valid_at}
 use Rattle.arrow_types.specs.Slot.{Slot, Number, Text}
-use Rattle.arrow_memory.specs.Offsets.{valid_length}
 use Rattle.arrow_flat.specs.AnyPrimitive.{any_parts}
 use Rattle.arrow_arrays.specs.declared.array.any.AnyArray.{AnyArray}
 use Rattle.arrow_arrays.specs.declared.array.any.AnyArray.TheVariants.{Primitive}
@@ -33,10 +32,6 @@ stored_length _ = Number (pos 0)
 abbrev pub stored_numbers : AnyArray → List Slot
 stored_numbers (Primitive p) = (any_parts p).values
 stored_numbers _ = []
-
--- how many bytes row `start + k` has under offsets, and 0 where bit k of a word is not set
-abbrev pub word_length : ℕ → List ℕ → ℕ → ℕ → ℕ
-word_length word offsets start k = valid_length (bit_at word k == 1) offsets (start + k)
 
 -- a word has the bits of 64 rows from one on, as far as there are rows
 abbrev pub HasBitsFrom : ℕ → Option (List Bool) → ℕ → Type 0

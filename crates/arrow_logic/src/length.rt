@@ -1,6 +1,6 @@
 //! How many bytes each text of an array has.
 
-ghost use Rattle.std.specs.Prelude.{◌≡◌, ◌<◌, ◌+◌, ◌-◌, ◌*◌, ◌-ℤ◌, ◌≤ℤ◌, ◌≤◌, ◌++◌, ◌==◌, ◌↔◌, Err, ℕ, pos, length, map, slice_index, option_copied, IfOk, IfErr, IfSome, IsOkUnless, IsTrue, if◌then◌else◌};
+ghost use Rattle.std.specs.Prelude.{◌≡◌, ◌<◌, ◌+◌, ◌-◌, ◌*◌, ◌-ℤ◌, ◌≤ℤ◌, ◌≤◌, ◌++◌, ◌==◌, ◌↔◌, Err, ℕ, pos, length, map, option_copied, IfOk, IfErr, IsOkUnless, IsTrue, if◌then◌else◌};
 ghost use Rattle.std.specs.Int.{bit_at};
 ghost use Rattle.std.specs.List.{range_with_len};
 ghost use Rattle.std.specs.Vec.{vec_len, vec_capacity};
@@ -8,15 +8,15 @@ ghost use Rattle.arrow_types.specs.declared.datatypes.physical_type.PhysicalType
 ghost use Rattle.arrow_types.specs.declared.error.ArgumentFault.{ArgumentFault};
 ghost use Rattle.arrow_types.specs.declared.error.Error.{Error};
 ghost use Rattle.arrow_types.specs.Part.{bytes_of};
-ghost use Rattle.arrow_types.specs.Rows.{valid_at};
 ghost use Rattle.arrow_types.specs.Slot.{Text as text};
 ghost use Rattle.arrow_types.specs.TypeOf.{type_of};
 ghost use Rattle.arrow_flat.specs.ByteRows.{byte_slots, row_bytes};
 ghost use Rattle.arrow_flat.specs.Faults.{IsCarriedAs};
-ghost use Rattle.arrow_flat.specs.Parts.{FitsRows, rows_by};
+ghost use Rattle.arrow_flat.specs.Parts.{rows_by};
 ghost use Rattle.arrow_arrays.specs.Any.{any_array_type, any_array_rows};
 ghost use Rattle.arrow_logic.specs.Kept.{kept};
-ghost use Rattle.arrow_logic.specs.Length.{HasBitsFrom, HasLength, IsLengthRefusal, length_type, stored_length, stored_numbers, word_length};
+ghost use Rattle.arrow_memory.specs.Ends.{word_length};
+ghost use Rattle.arrow_logic.specs.Length.{HasBitsFrom, HasLength, IsLengthRefusal, length_type, stored_length, stored_numbers};
 
 use crate::validity::shared;
 use arrow_arrays::array::AnyArray;

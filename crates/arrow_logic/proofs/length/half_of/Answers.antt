@@ -1,5 +1,5 @@
-use Rattle.arrow_logic.proofs.LengthLemmas.{part_bit}
+use Rattle.arrow_memory.proofs.LengthLemmas.{part_bit}
 use Rattle.arrow_logic.proofs.length.half_of.Goals as goal
 
 pub returns : goal.returns
-returns c = λ k below. part_bit c.args.word c.args.first k c.requires below
+returns c = λ k below. part_bit c.args.word c.args.first k below

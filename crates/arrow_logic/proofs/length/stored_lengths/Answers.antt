@@ -7,7 +7,7 @@ use Rattle.arrow_flat.specs.ByteRows.{row_bytes}
 use Rattle.arrow_flat.specs.Parts.{FitsRows}
 use Rattle.arrow_flat.proofs.PieceLemmas.{length-byte_slots}
 use Rattle.arrow_logic.specs.Kept.{kept}
-use Rattle.arrow_logic.specs.Length.{word_length}
+use Rattle.arrow_memory.specs.Ends.{word_length}
 use Rattle.arrow_logic.proofs.LengthLemmas.{length-lengths, lengths_next}
 use Rattle.arrow_logic.proofs.length.stored_lengths.Goals as goal
 
