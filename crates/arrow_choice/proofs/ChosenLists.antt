@@ -20,7 +20,8 @@ use Rattle.arrow_arrays.specs.TypeParts.{item_type}
 use Rattle.arrow_growable.specs.Lists.{IsListType, greatest_in}
 use Rattle.arrow_growable.proofs.KindLemmas.{no_plain}
 use Rattle.arrow_choice.specs.Choice.{AreOneLength, MarksChosen, chosen_by, chosen_lists}
-use Rattle.arrow_flat_growable.specs.Ends.{concatenated, ends_from}
+use Rattle.arrow_memory.specs.Ends.{ends_from}
+use Rattle.arrow_flat_growable.specs.Ends.{concatenated}
 use Rattle.arrow_choice.proofs.ChosenLemmas.{Chooses, chooses}
 use Rattle.arrow_choice.proofs.ChosenRows.{length-made, long_made, made_fits, made_rows, rows_are, rows_end, rows_long, spared}
 use Rattle.arrow_flat_growable.proofs.EndLemmas.{concatenated_length, ends_last}

@@ -14,7 +14,8 @@ use Rattle.arrow_flat.specs.Pieces.{pieces}
 use Rattle.arrow_flat.proofs.PartsLemmas.{length-masked, row_at}
 use Rattle.arrow_flat.proofs.PieceLemmas.{length-pieces, piece_at}
 use Rattle.arrow_choice.specs.Choice.{all_chosen, chosen_by, row_chosen}
-use Rattle.arrow_flat_growable.specs.Ends.{concatenated, ends_from}
+use Rattle.arrow_memory.specs.Ends.{ends_from}
+use Rattle.arrow_flat_growable.specs.Ends.{concatenated}
 use Rattle.arrow_choice.proofs.ChosenLemmas.{Chooses, get_or-chosen_by, long_values, rows_chosen}
 use Rattle.arrow_flat_growable.proofs.EndLemmas.{concatenated_length, ends_last, length-ends, rows_between}
 

@@ -17,7 +17,8 @@ use Rattle.arrow_flat.proofs.PieceLemmas.{piece_at}
 use Rattle.arrow_flat_growable.specs.GrownRows.{total, valid_values}
 use Rattle.arrow_flat_growable.proofs.ValidRowLemmas.{set_run}
 use Rattle.arrow_choice.specs.Choice.{AppendsRows, row_chosen, row_under, rows_from}
-use Rattle.arrow_flat_growable.specs.Ends.{concatenated, ends_from, row_length}
+use Rattle.arrow_memory.specs.Ends.{ends_from}
+use Rattle.arrow_flat_growable.specs.Ends.{concatenated, row_length}
 use Rattle.arrow_flat_growable.proofs.EndLemmas.{concatenated-append, ends_append, last_ends}
 use Rattle.arrow_flat_growable.specs.Ends.{row_in}
 use Rattle.arrow_flat_growable.proofs.EndLemmas.{counted_ends, counted_sum}

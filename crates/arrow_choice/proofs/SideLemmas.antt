@@ -52,10 +52,6 @@ pub others_false : (valid values k : ℕ) → valid < 2 ^ 64 → values < 2 ^ 64
 others_false valid values k small other below =
     not_each (bit_and valid (bit_not w64 values)) k (omega (arith, and_le_l valid (bit_not w64 values))) below ∙ ap not (and_not_each valid values k other below)
 
-pub others_null : (b : Bool) → b ≡ not (not b)
-others_null true = refl
-others_null false = refl
-
 -- ---- runs in a word
 
 module _ (valid values : ℕ) (truth : Option Bool) (place others n : ℕ) (below : place < 64) (each : (k : ℕ) → k < 64 → (bit_at others k == 1) ≡ not (is_truth truth (bit_at valid k == 1) (bit_at values k == 1))) (run : IsLowRun (others / 2 ^ place) (64 - place) false n) where

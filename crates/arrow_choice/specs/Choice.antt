@@ -13,7 +13,8 @@ use Rattle.arrow_arrays.specs.Layout.{Layout, rows, type_of_layout}
 use Rattle.arrow_arrays.specs.ListParts.{ListParts}
 use Rattle.arrow_arrays.specs.declared.array.any.AnyArray.{AnyArray}
 use Rattle.arrow_flat_growable.specs.Grown.{Grown, CannotHold, FitsWith, named_rows, null_rows_of}
-use Rattle.arrow_flat_growable.specs.Ends.{concatenated, ends_from}
+use Rattle.arrow_memory.specs.Ends.{ends_from}
+use Rattle.arrow_flat_growable.specs.Ends.{concatenated}
 
 -- a predicate and two lists, of which each is as long as the other two
 abbrev pub AreOneLength : List Slot → List Slot → List Slot → Type 0

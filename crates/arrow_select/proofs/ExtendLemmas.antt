@@ -1,8 +1,7 @@
 -- Rows of a bound array by ranges, which are those by the mask, and a growable that is extended by them, range after range.
-use Rattle.std.proofs.Common.{arith, ◌≡◌, ◌+◌, ◌<◌, ℕ, suc, Bool, true, false, Option, Some, None, List, [], ◌∷◌, ◌++◌, length, replicate, take, drop, drop-cons, get_or, Result, Err, refl, ap, sym, subst, ◌∙◌, append_assoc}
+use Rattle.std.proofs.Common.{arith, ◌≡◌, ◌+◌, ◌<◌, ℕ, suc, Bool, true, Option, Some, None, List, [], ◌∷◌, ◌++◌, length, replicate, take, drop, drop-cons, get_or, Result, Err, refl, ap, sym, subst, ◌∙◌}
 use Rattle.std.specs.Prelude.{flat_map}
-use Rattle.std.proofs.lemmas.Grind.{flat_map-append}
-use Rattle.std.proofs.lemmas.List.{append-nil, length-append, replicate-append-replicate, take-append-drop}
+use Rattle.std.proofs.lemmas.List.{length-append, replicate-append-replicate, take-append-drop}
 use Rattle.arrow_types.specs.declared.error.Error.{Error}
 use Rattle.arrow_types.specs.declared.error.Error.TheVariants.{Failed, Overflow}
 use Rattle.arrow_types.specs.Ranges.{named, rows_from, true_rows}
@@ -10,7 +9,7 @@ use Rattle.arrow_types.specs.Rows.{select}
 use Rattle.arrow_types.specs.Slot.{Slot, Null}
 use Rattle.arrow_memory.specs.Sliced.{sliced}
 use Rattle.arrow_arrays.specs.Layout.{Layout, rows}
-use Rattle.arrow_flat_growable.specs.Grown.{CannotHold, Grown, HasFailed, appended, named_rows, rows_among, source_at}
+use Rattle.arrow_flat_growable.specs.Grown.{CannotHold, Grown, HasFailed, source_at}
 use Rattle.arrow_select.specs.Extended.{HasRowsAt, RefusesRange, extended, kept_among, ranged_among, with_kept, with_ranges}
 use Rattle.arrow_select.specs.Ranges.{IsRangesOf}
 use Rattle.arrow_select.proofs.FilterLemmas.{select_is}
@@ -38,30 +37,6 @@ ranged_is_kept (Some layouts) i ranges mask names bound =
     ranged_select ranges mask (rows (source_at layouts i)) names (sym bound.1)
 
 -- ---- a growable that is extended
-
--- by no range it is as it was
-pub extended_none : (g : Grown) (i : ℕ) → g ≡ with_ranges g i []
-extended_none g i =
-    let count : g.count ≡ g.count + 0 = omega arith in
-    λ k. record { arrow_type = g.arrow_type; sources = g.sources; rows = sym (append-nil g.rows) k; count = count k; failed = g.failed }
-
--- rows that are appended to one that has not failed
-is_extended : (g : Grown) (more : List Slot) → g.failed ≡ false → appended g more ≡ extended g more
-is_extended g more well =
-    λ k. record { arrow_type = g.arrow_type; sources = g.sources; rows = g.rows ++ more; count = g.count + length more; failed = sym well k }
-
-extended_twice : (g : Grown) (xs more : List Slot) → extended (extended g xs) more ≡ extended g (xs ++ more)
-extended_twice g xs more =
-    let count : g.count + length xs + length more ≡ g.count + length (xs ++ more) = omega (arith, length-append xs more) in
-    λ k. record { arrow_type = g.arrow_type; sources = g.sources; rows = append_assoc g.rows xs more k; count = count k; failed = g.failed }
-
--- by a range more
-pub extended_more : (old now new : Grown) (i : ℕ) (ranges : List (ℕ × ℕ)) (r : ℕ × ℕ) → now ≡ with_ranges old i ranges → now.failed ≡ false → new ≡ appended now (named_rows now i r.0 r.1) → new ≡ with_ranges old i (ranges ++ r ∷ [])
-extended_more old now new i ranges r so_far well is =
-    let xs = ranged_among old.sources i ranges in
-    let more = rows_among old.sources i r.0 r.1 in
-    let all : ranged_among old.sources i (ranges ++ r ∷ []) ≡ xs ++ more = flat_map-append (λ r. rows_among old.sources i r.0 r.1) ranges (r ∷ []) ∙ ap (λ ys. xs ++ ys) (append-nil more) in
-    is ∙ (is_extended now (named_rows now i r.0 r.1) well ∙ (ap (λ g. extended g (named_rows g i r.0 r.1)) so_far ∙ (extended_twice old xs more ∙ ap (extended old) (sym all))))
 
 -- by all ranges of a mask
 pub extended_all : (old now : Grown) (i : ℕ) (ranges : List (ℕ × ℕ)) (mask : List Bool) → HasRowsAt old.sources i (length mask) → IsRangesOf ranges mask → now ≡ with_ranges old i ranges → now ≡ with_kept old i mask

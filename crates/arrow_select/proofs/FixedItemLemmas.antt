@@ -1,6 +1,6 @@
 -- Items of fixed-size lists at which a mask of the rows is set, each bit for as many items, and the lists of those that are kept.
 use Rattle.std.proofs.Common.{arith, ◌≡◌, ◌*◌, ◌/◌, ◌%◌, ◌+◌, ◌<◌, ◌≤◌, ◌^◌, ℕ, zero, suc, Bool, true, false, Option, Some, None, List, [], ◌∷◌, ◌++◌, length, map, replicate, take, drop, refl, ap, sym, subst, ◌∙◌}
-use Rattle.std.specs.Prelude.{IfSome, option_map, slice_index_or}
+use Rattle.std.specs.Prelude.{option_map, slice_index_or}
 use Rattle.std.specs.List.{flat_map}
 use Rattle.std.proofs.lemmas.List.{drop_at, length-append, length-drop, length-map, length-replicate, length-take, take-append-drop, take_at}
 use Rattle.std.proofs.lemmas.List.Concat.{flat_map-cons}
@@ -161,11 +161,6 @@ module _ (s : ℕ) where
       let are : items ≡ mask (each held) (at_set (each bits) xs) = sym (at_set-mask (each bits) (each valid) xs) ∙ ap (λ bs. mask bs (at_set (each bits) xs)) (set_each bits valid (sym fits)) in
       let same : mask (each held) items ≡ items = ap (mask (each held)) are ∙ (mask_twice (each held) (at_set (each bits) xs) ∙ sym are) in
       subst (λ k. flat_map (fixed_items_in s u) (mask held (map items_row (chunks k s items))) ≡ items) kept (named_items u none held items (long ∙ ap (λ k. k * s) (sym kept)) ∙ same)
-
--- a validity of rows is one of their items, each bit so many times
-pub each_counted : (s n : ℕ) (v : Option (List Bool)) → FitsRows v n → n * s < 2 ^ 64 → IfSome v (λ bits. length bits * s < 2 ^ 64)
-each_counted s n None fits few = tt
-each_counted s n (Some valid) fits few = omega (arith, ap (λ k. k * s) fits, few)
 
 pub each_fits : (s n count : ℕ) (v : Option (List Bool)) → FitsRows v n → n * s ≡ count → FitsRows (option_map (flat_map (replicate s)) v) count
 each_fits s n count None fits whole = tt

@@ -15,7 +15,8 @@ use Rattle.arrow_flat.proofs.PieceLemmas.{length-pieces}
 use Rattle.arrow_arrays.specs.Layout.{items_row, list_items, rows}
 use Rattle.arrow_arrays.specs.ListParts.{ListParts, list_rows}
 use Rattle.arrow_arrays.specs.TypeParts.{item_type}
-use Rattle.arrow_flat_growable.specs.Ends.{ends_from, row_length}
+use Rattle.arrow_memory.specs.Ends.{ends_from}
+use Rattle.arrow_flat_growable.specs.Ends.{row_length}
 use Rattle.arrow_flat_growable.specs.GrownRows.{valid_values}
 use Rattle.arrow_growable.specs.Lists.{IsListType, greatest_in}
 use Rattle.arrow_growable.proofs.KindLemmas.{no_plain}

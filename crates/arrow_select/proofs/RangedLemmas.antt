@@ -16,7 +16,8 @@ use Rattle.arrow_select.specs.Laws.{places_from}
 use Rattle.arrow_select.specs.Ranges.{IsRangesOf}
 use Rattle.arrow_select.specs.Selected.{at_set}
 use Rattle.arrow_take.specs.Spans.{spanned}
-use Rattle.arrow_flat_growable.specs.Ends.{ends_from, row_length}
+use Rattle.arrow_memory.specs.Ends.{ends_from}
+use Rattle.arrow_flat_growable.specs.Ends.{row_length}
 use Rattle.arrow_select.proofs.SetBytes.{EndsUpTo, set_bytes, set_places}
 use Rattle.arrow_flat_growable.specs.Ends.{row_in}
 use Rattle.arrow_select.proofs.SetLemmas.{length-at_set}

@@ -24,7 +24,8 @@ use Rattle.arrow_flat_growable.specs.Bytes.{IsBytesType}
 use Rattle.arrow_flat_growable.specs.GrownRows.{total, valid_values}
 use Rattle.arrow_select.specs.Laws.{places_from}
 use Rattle.arrow_select.specs.Selected.{at_set}
-use Rattle.arrow_flat_growable.specs.Ends.{concatenated, ends_from, row_in, row_length}
+use Rattle.arrow_memory.specs.Ends.{ends_from}
+use Rattle.arrow_flat_growable.specs.Ends.{concatenated, row_in, row_length}
 use Rattle.arrow_flat_growable.proofs.EndLemmas.{concatenated_length, ends_append, ends_last, last_ends, rows_between}
 use Rattle.arrow_select.proofs.FilterLemmas.{set_fits, set_rows}
 use Rattle.arrow_select.proofs.SetLemmas.{at_set-short}

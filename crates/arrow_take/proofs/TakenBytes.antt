@@ -1,5 +1,5 @@
 -- Texts and bytes by index: where the rows end, their bytes, and when there are too many.
-use Rattle.std.proofs.Common.{arith, ◌≡◌, ◌+◌, ◌-◌, ℕ, zero, suc, ◌<◌, ◌≤◌, ◌^◌, Bool, true, false, not, ◌&&◌, Option, Some, None, List, [], ◌∷◌, length, map, take, get_or, slice_index, if◌then◌else◌, refl, ap, sym, subst, ◌∙◌}
+use Rattle.std.proofs.Common.{arith, ◌≡◌, ◌+◌, ◌-◌, ℕ, zero, suc, ◌<◌, ◌≤◌, ◌^◌, Bool, true, false, not, Option, Some, None, List, [], ◌∷◌, length, map, take, get_or, slice_index, if◌then◌else◌, refl, ap, sym, subst, ◌∙◌}
 use Rattle.std.specs.Prelude.{option_map, slice_get, sum, sum_by}
 use Rattle.std.specs.List.{All, concat}
 use Rattle.std.proofs.lemmas.List.{length-map}
@@ -12,7 +12,6 @@ use Rattle.arrow_types.specs.ArrowType.{ArrowType}
 use Rattle.arrow_types.specs.Fits.{Fits, byte_count}
 use Rattle.arrow_types.specs.Greatest.{greatest_offset}
 use Rattle.arrow_types.specs.Physical.{physical_type_of}
-use Rattle.arrow_types.specs.Relation.{is_null}
 use Rattle.arrow_types.specs.Rows.{gather, mask, masked, valid_at}
 use Rattle.arrow_types.specs.Slot.{Slot, Null}
 use Rattle.arrow_memory.specs.Offsets.{IsOffsets, last_of, with_row}
@@ -22,13 +21,13 @@ use Rattle.arrow_memory.proofs.SlicedLemmas.{length-sliced}
 use Rattle.arrow_flat.specs.Parts.{FitsRows}
 use Rattle.arrow_flat.specs.Pieces.{pieces}
 use Rattle.arrow_flat.proofs.PieceLemmas.{holds_at, length-pieces, piece_at}
-use Rattle.arrow_arrays.specs.KeyedParts.{AreKeys, IsKey, key_in}
+use Rattle.arrow_arrays.specs.KeyedParts.{AreKeys, IsKey}
 use Rattle.arrow_flat_growable.specs.ByteLaws.{fits_rows, fits_stored, null_of, slots_fit, slots_pass}
 use Rattle.arrow_flat_growable.specs.Bytes.{IsBytesType, SparesBytes}
 use Rattle.arrow_flat_growable.specs.GrownRows.{total}
 use Rattle.arrow_take.specs.Spans.{IsSpanWithin, span_bytes, spanned}
-use Rattle.arrow_take.specs.Taken.{MarksTaken, is_taken_valid, place_in, span_length, span_of, taken_bytes, taken_span}
-use Rattle.arrow_flat_growable.specs.Ends.{ends_from}
+use Rattle.arrow_take.specs.Taken.{MarksTaken, is_taken_valid, span_length, taken_bytes, taken_span}
+use Rattle.arrow_memory.specs.Ends.{ends_from}
 use Rattle.arrow_flat_growable.proofs.EndLemmas.{as_concatenated, concatenated_length, ends_last, ends_next, length-ends, rows_between}
 use Rattle.arrow_take.proofs.IndexLemmas.{Stores, each_index, fits_taken, gives_next, map-agree, mask-map, named_valid, rows_taken}
 
@@ -61,14 +60,6 @@ pieces_of_rows rows =
 
 pub concat_length : (rows : List (List ℕ)) → sum (map length rows) ≡ length (concat rows)
 concat_length rows = concatenated_length rows ∙ ap length (sym (as_concatenated rows))
-
--- the span of an index, by whether it and the row that it names are valid
-span_by : (v : Option (List Bool)) (os : List ℕ) (count : ℕ) (s : Slot) → IsKey count s → (if not (is_null s) && valid_at v (place_in s) then (slice_index os (place_in s), slice_index os (place_in s + 1)) else (0, 0)) ≡ span_of v os (key_in s)
-span_by v os count = each_index count _ refl (λ n within. refl)
-
-pub span_if : (v : Option (List Bool)) (os : List ℕ) (count : ℕ) (s : Slot) (here there : Bool) → IsKey count s → here ≡ not (is_null s) → there ≡ valid_at v (place_in s) → (if here && there then (slice_index os (place_in s), slice_index os (place_in s + 1)) else (0, 0)) ≡ span_of v os (key_in s)
-span_if v os count s here there key valid named =
-    (λ i. if valid i && named i then (slice_index os (place_in s), slice_index os (place_in s + 1)) else (0, 0)) ∙ span_by v os count s key
 
 -- the bytes of the rows that indices name are those of their spans
 pub spanned_by_index : (v : Option (List Bool)) (os bytes : List ℕ) (indices : List Slot) → spanned bytes (map (taken_span v os) indices) ≡ concat (map (taken_bytes v os bytes) indices)

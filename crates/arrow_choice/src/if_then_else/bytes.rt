@@ -12,7 +12,8 @@ ghost use Rattle.arrow_flat.specs.Parts.{FitsRows, boolean_rows, rows_by};
 ghost use Rattle.arrow_flat.specs.Pieces.{pieces};
 ghost use Rattle.arrow_flat_growable.specs.GrownRows.{total, valid_values};
 ghost use Rattle.arrow_choice.specs.Choice.{AppendsRows, AreOneLength, IsLent, all_chosen, row_chosen, row_under, rows_from};
-ghost use Rattle.arrow_flat_growable.specs.Ends.{concatenated, ends_from};
+ghost use Rattle.arrow_memory.specs.Ends.{ends_from};
+ghost use Rattle.arrow_flat_growable.specs.Ends.{concatenated};
 
 use crate::if_then_else::words::{chosen_validity, either};
 use arrow_flat::array::validity::valid_word;

@@ -18,7 +18,8 @@ ghost use Rattle.arrow_growable.specs.AnyGrowable.{grown_of};
 ghost use Rattle.arrow_growable.specs.Growing.{HasAppended};
 ghost use Rattle.arrow_growable.specs.Lists.{greatest_in};
 ghost use Rattle.arrow_choice.specs.Choice.{AreOneLength, IsLent, MarksChosen, all_chosen, chosen_lists};
-ghost use Rattle.arrow_flat_growable.specs.Ends.{concatenated, ends_from};
+ghost use Rattle.arrow_memory.specs.Ends.{ends_from};
+ghost use Rattle.arrow_flat_growable.specs.Ends.{concatenated};
 
 use crate::if_then_else::bytes::room;
 use crate::if_then_else::runs::Runs;

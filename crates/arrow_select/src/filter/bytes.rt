@@ -14,7 +14,8 @@ ghost use Rattle.arrow_select.specs.Laws.{places_from};
 ghost use Rattle.arrow_select.specs.Selected.{at_set};
 ghost use Rattle.arrow_select.specs.Selection.{mask_in};
 ghost use Rattle.arrow_take.specs.Spans.{spanned, IsSpanWithin};
-ghost use Rattle.arrow_flat_growable.specs.Ends.{ends_from, row_length};
+ghost use Rattle.arrow_memory.specs.Ends.{ends_from};
+ghost use Rattle.arrow_flat_growable.specs.Ends.{row_length};
 
 use crate::filter::prepared::Filter;
 use crate::filter::selection::{Selection, kept_validity};

@@ -9,7 +9,7 @@ ghost use Rattle.arrow_memory.specs.Grown.{IsGrowthError};
 ghost use Rattle.arrow_flat.specs.ByteRows.{byte_slots};
 ghost use Rattle.arrow_flat.specs.Parts.{FitsRows, rows_by};
 ghost use Rattle.arrow_take.specs.Taken.{AreIndices, span_length, taken_bytes, taken_span};
-ghost use Rattle.arrow_flat_growable.specs.Ends.{ends_from};
+ghost use Rattle.arrow_memory.specs.Ends.{ends_from};
 
 use crate::spans::copy_spans;
 use crate::take::indices::{ByIndex, append_word_named, take_validity};

@@ -13,7 +13,8 @@ use Rattle.arrow_flat.specs.Pieces.{pieces}
 use Rattle.arrow_flat_growable.specs.GrownRows.{total}
 use Rattle.arrow_flat_growable.proofs.ResultLemmas.{passed_on}
 use Rattle.arrow_choice.specs.Choice.{all_chosen}
-use Rattle.arrow_flat_growable.specs.Ends.{concatenated, ends_from}
+use Rattle.arrow_memory.specs.Ends.{ends_from}
+use Rattle.arrow_flat_growable.specs.Ends.{concatenated}
 use Rattle.arrow_choice.proofs.ChosenBytes.{bytes_chosen, made_allowed, made_fit, made_passes, rows_in}
 use Rattle.arrow_choice.proofs.ChosenLemmas.{chooses}
 use Rattle.arrow_choice.proofs.ChosenRows.{made_fits, rows_are, rows_end, rows_long}

@@ -8,7 +8,8 @@ use Rattle.arrow_arrays.specs.Any.{any_array_rows, layout_of}
 use Rattle.arrow_growable.specs.Growing.{HasAppended}
 use Rattle.arrow_growable.proofs.GrowLemmas.{holds_none}
 use Rattle.arrow_choice.specs.Choice.{AppendsRows, row_chosen, rows_from}
-use Rattle.arrow_flat_growable.specs.Ends.{concatenated, ends_from}
+use Rattle.arrow_memory.specs.Ends.{ends_from}
+use Rattle.arrow_flat_growable.specs.Ends.{concatenated}
 use Rattle.arrow_choice.proofs.ChoiceLemmas.{IsTaken, run_taken}
 use Rattle.arrow_choice.proofs.ChosenItems.{items_more, names_items, null_more, side_more}
 use Rattle.arrow_choice.proofs.ChosenRuns.{none_appended}

@@ -13,7 +13,7 @@ use Rattle.arrow_flat.proofs.PieceLemmas.{length-pieces}
 use Rattle.arrow_flat_growable.proofs.ResultLemmas.{passed_on}
 use Rattle.arrow_arrays.specs.KeyedParts.{AreKeys}
 use Rattle.arrow_take.specs.Taken.{MarksTaken, span_length, taken_bytes}
-use Rattle.arrow_flat_growable.specs.Ends.{ends_from}
+use Rattle.arrow_memory.specs.Ends.{ends_from}
 use Rattle.arrow_take.proofs.TakenBytes.{allowed_by_index, bytes_end, bytes_fit, bytes_pass, bytes_taken, offsets_fit, pieces_are, rows_fit}
 use Rattle.arrow_take.proofs.take.bytes.take.Goals as goal
 

@@ -7,7 +7,7 @@ use Rattle.arrow_memory.specs.Sliced.{sliced}
 use Rattle.arrow_flat.specs.Parts.{rows_by}
 use Rattle.arrow_flat.proofs.PartsLemmas.{length-masked}
 use Rattle.arrow_flat_growable.proofs.ResultLemmas.{passed_on}
-use Rattle.arrow_flat_growable.specs.Ends.{ends_from}
+use Rattle.arrow_memory.specs.Ends.{ends_from}
 use Rattle.arrow_take.specs.Spans.{IsSpanWithin}
 use Rattle.arrow_take.specs.Taken.{span_length, taken_span}
 use Rattle.arrow_take.proofs.IndexLemmas.{gives_more}
