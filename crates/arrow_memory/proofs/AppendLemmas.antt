@@ -1,10 +1,10 @@
 -- Bits that are appended a word at a time.
-use Rattle.std.proofs.Common.{◌≡◌, ℕ, ◌+◌, ◌-◌, ◌*◌, ◌/◌, ◌%◌, ◌^◌, ◌<◌, ◌≤◌, Bool, true, false, ◌&&◌, ◌||◌, List, [], ◌∷◌, ◌++◌, length, get_or, take, drop, replicate, zero, suc, refl, ap, sym, ◌∙◌, subst, arith, slice_index, inl, inr, add-zero, zero-add, append_assoc, length-append}
+use Rattle.std.proofs.Common.{◌≡◌, ℕ, ◌+◌, ◌-◌, ◌*◌, ◌/◌, ◌%◌, ◌^◌, ◌<◌, ◌≤◌, Bool, true, false, ◌||◌, List, [], ◌∷◌, ◌++◌, length, get_or, take, drop, replicate, zero, suc, refl, ap, sym, ◌∙◌, subst, arith, slice_index, inl, inr, add-zero, zero-add, append_assoc, length-append}
 use borrow.Rule.Slice.PartMut.{post_of}
-use Rattle.std.specs.Prelude.{◌==◌, bit_and, bit_or, set}
+use Rattle.std.specs.Prelude.{◌==◌, bit_or, set}
 use Rattle.std.specs.Int.{bit_at}
 use Rattle.std.proofs.lemmas.Bool.{cases_lt, cases_eq}
-use Rattle.std.proofs.lemmas.List.{get_or-set_same, get_or-set_other, get_or_append_left, get_or-append_right, get_or_past, get_or-take, get_or-drop, length-set, length-take, length-take-le, length-drop, take_all, drop_all, take-append-drop, append-nil, length-replicate, replicate-append-replicate, get_or-replicate}
+use Rattle.std.proofs.lemmas.List.{get_or-set_same, get_or-set_other, get_or_append_left, get_or-append_right, get_or_past, get_or-take, get_or-drop, length-set, length-take, length-take-le, length-drop, take_all, drop_all, take-append-drop, append-nil, length-replicate, replicate-append-replicate}
 use Rattle.std.proofs.lemmas.Nat.{shr-shr, shr_split, pow_pos}
 use Rattle.std.proofs.lemmas.Nat.Bits.{bit_at-zero, bit_at_cat_low, bit_at_cat_high}
 use Rattle.std.proofs.lemmas.Simd.{mask_l-lt}
@@ -12,9 +12,8 @@ use Rattle.std.proofs.Math.Seq.{take-append-add}
 use Rattle.std.proofs.Math.Nat.{add-mul-div_left, div-eq_of_lt}
 use Rattle.arrow_memory.specs.Words.{is_set, bits_in, word_of, Reads, AppendsWord, AppendsBits}
 use Rattle.arrow_memory.proofs.BitmapLemmas.{bit_of-word_of}
-use Rattle.arrow_memory.proofs.LogicLemmas.{and_each, or_each}
-use Rattle.arrow_memory.proofs.WordLemmas.{length-bits_in, get_or-bits_in, sliced-bits_in, word_of-append}
-use Rattle.arrow_memory.proofs.MutableLemmas.{word_of-ones}
+use Rattle.arrow_memory.proofs.LogicLemmas.{or_each}
+use Rattle.arrow_memory.proofs.WordLemmas.{length-bits_in, get_or-bits_in, word_of-append}
 
 -- ---- one word written by `|=`
 
@@ -241,89 +240,6 @@ reads_equal (suc count) word bit is =
     let first = reads_word (replicate 64 bit) word is (omega (arith, length-replicate 64 bit)) in
     rw (next, ← replicate-append-replicate 64 (64 * count) bit) (reads_join (word ∷ []) (replicate count word) (replicate 64 bit) (replicate (64 * count) bit) first (reads_equal count word bit is) (length-replicate 64 bit))
 
--- the last word filled with bits of others
-pub word_filled : (words others : List ℕ) (xs : List Bool) (place word from : ℕ) → Reads words xs → length xs ≡ place → word ≡ word_of (bits_in others from 64) → place / 64 < length words
-    → Reads (set words (place / 64) (bit_or (slice_index words (place / 64)) (word * 2 ^ (place % 64) % 2 ^ 64))) (xs ++ bits_in others from (64 - place % 64))
-word_filled words others xs place word from reads long is within =
-    let n = 64 - place % 64 in
-    let front : take n (bits_in others from 64) ≡ bits_in others from n = sliced-bits_in others from 64 0 n (omega arith) ∙ ap (λ o. bits_in others o n) (add-zero from) in
-    let v = bit_or (slice_index words (place / 64)) (word * 2 ^ (place % 64) % 2 ^ 64) in
-    subst (λ bits. Reads (set words (place / 64) v) (xs ++ bits)) front (first_part words xs (bits_in others from 64) place word reads long is within)
-
--- ---- the last word cut behind some bits
-
-mask_bit : (n k : ℕ) → (bit_at (2 ^ n - 1) k == 1) ≡ get_or (replicate n true) k false
-mask_bit n k = ap (λ w. bit_at w k == 1) (sym (word_of-ones n)) ∙ bit_of-word_of (replicate n true) k
-
-cut_bit : (word n k : ℕ) → (bit_at (bit_and word (2 ^ n - 1)) k == 1) ≡ ((bit_at word k == 1) && get_or (replicate n true) k false)
-cut_bit word n k = and_each word (2 ^ n - 1) k ∙ ap (λ b. (bit_at word k == 1) && b) (mask_bit n k)
-
-and-true : (b : Bool) → (b && true) ≡ b
-and-true true = refl
-and-true false = refl
-
-and-false : (b : Bool) → (b && false) ≡ false
-and-false true = refl
-and-false false = refl
-
--- a bit of the first n, and one behind them
-kept_bit : (words : List ℕ) (ys : List Bool) (n i : ℕ) → Reads words ys → i < n → is_set words i ≡ get_or (take n ys) i false
-kept_bit words ys n i reads below = reads.each i ∙ sym (get_or-take n ys i false below)
-
-cut_here : (words : List ℕ) (ys : List Bool) (n i : ℕ) → Reads words ys → n / 64 < length words → i / 64 ≡ n / 64 → is_set (set words (n / 64) (bit_and (slice_index words (n / 64)) (2 ^ (n % 64) - 1))) i ≡ get_or (take n ys) i false
-cut_here words ys n i reads within here =
-    let v = bit_and (slice_index words (n / 64)) (2 ^ (n % 64) - 1) in
-    let read : slice_index (set words (n / 64) v) (i / 64) ≡ v = rw here (get_or-set_same words (n / 64) v 0 within) in
-    let bit : is_set (set words (n / 64) v) i ≡ (is_set words i && get_or (replicate (n % 64) true) (i % 64) false) =
-    ap (λ w. bit_at w (i % 64) == 1) read ∙ (cut_bit (slice_index words (n / 64)) (n % 64) (i % 64) ∙ ap (λ q. (bit_at (slice_index words q) (i % 64) == 1) && get_or (replicate (n % 64) true) (i % 64) false) (sym here)) in
-    bit ∙
-    elim (cases_lt i n) as (λ _. (is_set words i && get_or (replicate (n % 64) true) (i % 64) false) ≡ get_or (take n ys) i false) [
-      | inl below ↦
-          let under : i % 64 < n % 64 = omega arith in
-          ap (λ b. is_set words i && b) (get_or-replicate (n % 64) (i % 64) true false under) ∙ (and-true (is_set words i) ∙ kept_bit words ys n i reads below)
-      | inr from ↦
-          let over : n % 64 ≤ i % 64 = omega arith in
-          ap (λ b. is_set words i && b) (get_or_past (replicate (n % 64) true) (i % 64) false (omega (arith, length-replicate (n % 64) true))) ∙ (and-false (is_set words i) ∙ sym (get_or_past (take n ys) i false (omega (arith, length-take n ys))))
-    ]
-
--- a bit of another word: before the last, or past it
-cut_there : (words : List ℕ) (ys : List Bool) (n v i : ℕ) → Reads words ys → length words ≤ n / 64 + 1 → (i / 64 ≡ n / 64 → ⊥) → is_set (set words (n / 64) v) i ≡ get_or (take n ys) i false
-cut_there words ys n v i reads last there =
-    set_or-there words (n / 64) v i there ∙
-    elim (cases_lt i n) as (λ _. is_set words i ≡ get_or (take n ys) i false) [
-      | inl below ↦ kept_bit words ys n i reads below
-      | inr from ↦ is_set-past words i (omega (arith, there)) ∙ sym (get_or_past (take n ys) i false (omega (arith, length-take n ys)))
-    ]
-
-pub word_cut : (words : List ℕ) (ys : List Bool) (n : ℕ) → Reads words ys → length words ≡ n / 64 + 1 → Reads (set words (n / 64) (bit_and (slice_index words (n / 64)) (2 ^ (n % 64) - 1))) (take n ys)
-word_cut words ys n reads last =
-    let v = bit_and (slice_index words (n / 64)) (2 ^ (n % 64) - 1) in
-    record {
-      each = λ i.
-          elim (cases_eq (i / 64) (n / 64)) as (λ _. is_set (set words (n / 64) v) i ≡ get_or (take n ys) i false) [
-            | inl here ↦ cut_here words ys n i reads (omega (arith, last)) here
-            | inr there ↦ cut_there words ys n v i reads (omega (arith, last)) there
-          ];
-    }
-
--- whole words need no cut
-pub whole_cut : (words : List ℕ) (ys : List Bool) (n : ℕ) → Reads words ys → n ≡ 64 * length words → Reads words (take n ys)
-whole_cut words ys n reads whole =
-    record {
-      each = λ i.
-          elim (cases_lt i n) as (λ _. is_set words i ≡ get_or (take n ys) i false) [
-            | inl below ↦ kept_bit words ys n i reads below
-            | inr from ↦ is_set-past words i (omega arith) ∙ sym (get_or_past (take n ys) i false (omega (arith, length-take n ys)))
-          ];
-    }
-
--- as many of them as are wanted
-pub bits_cut : (words others : List ℕ) (xs : List Bool) (place from len all : ℕ) → length xs ≡ place → len ≤ all → Reads words (take (place + len) (xs ++ bits_in others from all)) → Reads words (xs ++ bits_in others from len)
-bits_cut words others xs place from len all long within reads =
-    let front : take len (bits_in others from all) ≡ bits_in others from len = sliced-bits_in others from all 0 len (omega arith) ∙ ap (λ o. bits_in others o len) (add-zero from) in
-    let cut : take (place + len) (xs ++ bits_in others from all) ≡ xs ++ take len (bits_in others from all) = ap (λ p. take (p + len) (xs ++ bits_in others from all)) (sym long) ∙ take-append-add xs (bits_in others from all) len in
-    subst (Reads words) (cut ∙ ap (λ bits. xs ++ bits) front) reads
-
 -- ---- one append behind another
 
 pub appends_both : (old mid new : List ℕ) (place next : ℕ) (ys zs : List Bool) → AppendsBits old mid place ys → AppendsBits mid new next zs → next ≡ place + length ys → AppendsBits old new place (ys ++ zs)
@@ -331,9 +247,6 @@ appends_both old mid new place next ys zs front back at = λ xs reads long.
     let behind_front : length (xs ++ ys) ≡ next = omega (arith, at, long, length-append xs ys) in
     subst (Reads new) (append_assoc xs ys zs) (back (xs ++ ys) (front xs reads long) behind_front)
 
-pub equal_appends : (old new : List ℕ) (place word count : ℕ) (bit : Bool) → AppendsWord old new place word count → word ≡ word_of (replicate count bit) → AppendsBits old new place (replicate count bit)
-equal_appends old new place word count bit appends is = λ xs reads long. appends xs (replicate count bit) reads long is (length-replicate count bit)
-
--- more bits than are wanted, which are then cut
-pub appends_cut : (old all new others : List ℕ) (place from len more : ℕ) → AppendsBits old all place (bits_in others from more) → len ≤ more → ((ys : List Bool) → Reads all ys → Reads new (take (place + len) ys)) → AppendsBits old new place (bits_in others from len)
-appends_cut old all new others place from len more appends within cut = λ xs reads long. bits_cut new others xs place from len more long within (cut (xs ++ bits_in others from more) (appends xs reads long))
+-- a word of these bits
+pub word_appends : (old new : List ℕ) (place word count : ℕ) (ys : List Bool) → AppendsWord old new place word count → word ≡ word_of ys → length ys ≡ count → AppendsBits old new place ys
+word_appends old new place word count ys appends is long = λ xs reads at. appends xs ys reads at is long

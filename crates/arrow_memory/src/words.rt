@@ -7,7 +7,7 @@ ghost use Rattle.arrow_memory.specs.Words.{bits_in, low_bits, set_count, word_of
 
 pub(crate) mod logic;
 
-use logic::{Second, combine};
+use logic::{Second, combine_within};
 
 /// The bits of a word.
 pub const WORD_BITS: usize = 64;
@@ -177,13 +177,12 @@ pub(crate) fn fill_last(words: &mut Vec<u64>, place: usize, word: u64, count: us
     words[place / WORD_BITS] |= word << (place % WORD_BITS);
 }
 
-// Puts `count` words of the bits from place `from` of others behind those that are there, with zeros past the
-// last of the others.
+// Puts `count` words of the bits from place `from` of others behind those that are there.
 fn append_words(words: &mut Vec<u64>, others: &[u64], from: usize, count: usize)
-    requires part { from + 64 * count < 64 * length others.now + 64 }
+    requires part { from + 64 * count ≤ 64 * length others.now }
     requires room { vec_len words.old + count ≤ vec_capacity words.old }
-    requires fits { from + 64 * count < 2 ^ 64 + 64 }
     ensures long { length words.new.items ≡ length words.old.items + count }
+    ensures room { vec_capacity words.old ≤ vec_capacity words.new }
     ensures appended { AppendsBits words.old.items words.new.items (64 * length words.old.items)
         (bits_in others.now from (64 * count)) }
 {
@@ -197,33 +196,7 @@ fn append_words(words: &mut Vec<u64>, others: &[u64], from: usize, count: usize)
         let Ok(()) = words.resize(done + count, 0) else {
             unreachable!();
         };
-        combine::<Second>(&mut words[done..], others, from);
-    }
-}
-
-// Fills the last word with the bits from place `from` of others behind the first `place` ones.
-fn fill_word(words: &mut Vec<u64>, place: usize, others: &[u64], from: usize)
-    requires full { length words.old.items ≡ div_ceil place 64 }
-    ensures long { length words.new.items ≡ length words.old.items }
-    ensures room { vec_capacity words.new ≡ vec_capacity words.old }
-    ensures appended { AppendsBits words.old.items words.new.items place
-        (bits_in others.now from ((64 - place % 64) % 64)) }
-{
-    let used = place % WORD_BITS;
-    if used > 0 {
-        words[place / WORD_BITS] |= word_from(others, from) << used;
-    }
-}
-
-// Clears what the last word holds behind the first `len` bits.
-fn clear_behind(words: &mut Vec<u64>, len: usize)
-    requires full { length words.old.items ≡ div_ceil len 64 }
-    ensures long { length words.new.items ≡ length words.old.items }
-    ensures cut { (ys : List Bool) → Reads words.old.items ys → Reads words.new.items (take len ys) }
-{
-    let used = len % WORD_BITS;
-    if used > 0 {
-        words[len / WORD_BITS] &= (1 << used) - 1;
+        combine_within::<Second>(&mut words[done..], others, from, count);
     }
 }
 
@@ -251,8 +224,7 @@ pub(crate) fn append_bits(
     }
 }
 
-// The same of more bits than a word has: whole words of the others from where the last word is filled, of which the
-// last one is cut.
+// The same of more bits than a word has: as many as fill the last word, whole words, and what is left.
 #[inline(never)]
 fn append_more(words: &mut Vec<u64>, place: usize, others: &[u64], from: usize, len: usize)
     requires many { 64 < len }
@@ -264,13 +236,17 @@ fn append_more(words: &mut Vec<u64>, place: usize, others: &[u64], from: usize, 
     ensures full { length words.new.items ≡ div_ceil (place + len) 64 }
     ensures appended { AppendsBits words.old.items words.new.items place (bits_in others.now from len) }
 {
-    fill_word(words, place, others, from);
-    let count = (place + len).div_ceil(WORD_BITS) - words.len();
-    if count > 0 {
-        let head = (WORD_BITS - place % WORD_BITS) % WORD_BITS;
-        append_words(words, others, from + head, count);
-    }
-    clear_behind(words, place + len);
+    let head = WORD_BITS - place % WORD_BITS;
+    append_word(words, place, bits_from(others, from, head), head);
+    let (whole, tail) = ((len - head) / WORD_BITS, (len - head) % WORD_BITS);
+    append_words(words, others, from + head, whole);
+    let done = len - tail;
+    append_word(
+        words,
+        place + done,
+        bits_from(others, from + done, tail),
+        tail,
+    );
 }
 
 // Puts a bit so many times, more often than a word has bits, behind the first `place` bits.

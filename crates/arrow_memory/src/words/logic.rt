@@ -1,6 +1,6 @@
 //! Words that are changed one after the other, by the bits of others.
 
-ghost use Rattle.std.specs.Prelude.{◌≡◌, ◌+◌, ◌*◌, ◌^◌, ◌<◌, ◌==◌, Bool, ℕ, length};
+ghost use Rattle.std.specs.Prelude.{◌≡◌, ◌+◌, ◌*◌, ◌^◌, ◌<◌, ◌≤◌, ◌==◌, Bool, ℕ, length};
 ghost use Rattle.std.specs.Int.{bit_at};
 ghost use Rattle.arrow_memory.specs.Words.{is_set};
 
@@ -38,12 +38,24 @@ pub(crate) fn combine<L: Logic>(words: &mut [u64], others: &[u64], from: usize)
     let Some(last) = words.len().checked_sub(1) else {
         return;
     };
+    combine_within::<L>(words, others, from, last);
+    words[last] = L::of_words(words[last], word_from(others, from + WORD_BITS * last));
+}
+
+// The same of the first `count` words, where the others go on behind them.
+pub(super) fn combine_within<L: Logic>(words: &mut [u64], others: &[u64], from: usize, count: usize)
+    requires within { count ≤ length words.old }
+    requires part { from + 64 * count < 64 * length others.now }
+    ensures long { length words.new ≡ length words.old }
+    ensures each { (i : ℕ) → i < 64 * count → is_set words.new i
+        ≡ L.bits (is_set words.old i) (is_set others.now (from + i)) }
+    ensures left { (i : ℕ) → 64 * count ≤ i → is_set words.new i ≡ is_set words.old i }
+{
     let (first, shift) = (from / WORD_BITS, from % WORD_BITS);
-    for j in 0..last {
+    for j in 0..count {
         words[j] = L::of_words(
             words[j],
             across(others[first + j], others[first + j + 1], shift),
         );
     }
-    words[last] = L::of_words(words[last], word_from(others, from + WORD_BITS * last));
 }

@@ -1,7 +1,7 @@
 use Rattle.std.proofs.Common.{◌≡◌, ◌+◌, ◌-◌, ◌*◌, ◌/◌, ◌%◌, length, replicate, ap, sym, ◌∙◌, subst, arith}
 use Rattle.std.proofs.lemmas.List.{length-replicate, replicate-append-replicate}
 use Rattle.arrow_memory.specs.Words.{AppendsBits}
-use Rattle.arrow_memory.proofs.AppendLemmas.{equal_appends, appends_both}
+use Rattle.arrow_memory.proofs.AppendLemmas.{appends_both, word_appends}
 use Rattle.arrow_memory.proofs.words.append_equal.Goals as goal
 
 -- the first word, whole words behind it, and what is left
@@ -17,11 +17,11 @@ returns-clause-appended c =
     let whole = (c.args.count - head) / 64 in
     let tail = (c.args.count - head) % 64 in
     let done : c.args.count - tail ≡ head + 64 * whole = omega arith in
-    let front = equal_appends old begun place c.equal_bits.result head bit c.append_word.ensures.appended c.equal_bits.ensures in
+    let front = word_appends old begun place c.equal_bits.result head (replicate head bit) c.append_word.ensures.appended c.equal_bits.ensures (length-replicate head bit) in
     let full : 64 * length begun ≡ place + length (replicate head bit) = omega (arith, c.append_word.ensures.full, length-replicate head bit) in
     let both = appends_both old begun filled place (64 * length begun) (replicate head bit) (replicate (64 * whole) bit) front c.append_equal_words.ensures.appended full in
     let joined = subst (AppendsBits old filled place) (replicate-append-replicate head (64 * whole) bit ∙ ap (λ n. replicate n bit) (sym done)) both in
-    let rest = equal_appends filled new (place + (c.args.count - tail)) c.equal_bits-2.result tail bit c.append_word-2.ensures.appended c.equal_bits-2.ensures in
+    let rest = word_appends filled new (place + (c.args.count - tail)) c.equal_bits-2.result tail (replicate tail bit) c.append_word-2.ensures.appended c.equal_bits-2.ensures (length-replicate tail bit) in
     let behind : place + (c.args.count - tail) ≡ place + length (replicate (c.args.count - tail) bit) = omega (arith, length-replicate (c.args.count - tail) bit) in
     let all = appends_both old filled new place (place + (c.args.count - tail)) (replicate (c.args.count - tail) bit) (replicate tail bit) joined rest behind in
     let parts : c.args.count - tail + tail ≡ c.args.count = omega arith in

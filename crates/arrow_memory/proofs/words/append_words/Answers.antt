@@ -19,7 +19,7 @@ returns-in-Ok-resize-clause-appended c =
     let others = c.args.others.now in
     let from = c.args.from in
     let count = c.args.count in
-    let new = c.combine.new.words in
+    let new = c.combine_within.new.words in
     let long : length new ≡ count = search rules in
     λ xs reads at.
     let old = c.args.words.now.items in
@@ -28,5 +28,5 @@ returns-in-Ok-resize-clause-appended c =
     let zeros : seen ≡ take (done + count) old ++ replicate (done + count - length old) 0 = search rules in
     let place : done ≡ length old = search rules in
     let put = written c.resize.new.self.len (take done seen ++ (new ++ post_of done (length seen - done) seen)) c.resize.new.self.items (search rules) ∙ part_written done (done + count) old new seen place (omega (arith, place)) zeros in
-    let joined = reads_join c.args.words.now.items new xs (bits_in others from (64 * count)) reads (reads_bits new others from count long (λ i below. c.combine.ensures.each i (search rules))) at in
+    let joined = reads_join c.args.words.now.items new xs (bits_in others from (64 * count)) reads (reads_bits new others from count long (λ i below. c.combine_within.ensures.each i (search rules))) at in
     rw put joined

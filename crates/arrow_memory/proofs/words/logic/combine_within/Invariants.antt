@@ -1,7 +1,7 @@
 use Rattle.std.proofs.Common.{◌≡◌, ◌+◌, length}
 use Rattle.arrow_memory.specs.Words.{is_set}
 use Rattle.arrow_memory.proofs.LogicLemmas.{GivesUpTo}
-use Rattle.arrow_memory.proofs.words.logic.combine.Given as goal
+use Rattle.arrow_memory.proofs.words.logic.combine_within.Given as goal
 
 -- the words so far are what the bits give
 abbrev pub invariant-loop-j : goal.invariant-loop-j
