@@ -96,15 +96,33 @@ fn lengths_of<O: Offset>(
     Ok(PrimitiveArray::new(data_type, lengths, validity))
 }
 
-// How many bytes each row has, and 0 for each null: by one pass over the offsets, 64 rows at a time.
+// How many bytes each row has, and 0 for each null. Where there is no validity, the loop that is compiled tests for none.
 fn stored_lengths<O: Offset>(alloc: Global, texts: &Utf8Array<O>) -> Result<Vec<O>, Error>
     ensures ok { IfOk result (λ lengths. map O.number lengths.items
         ≡ map pos (kept 0 length texts.now.validity (row_bytes texts.now.values))) }
     ensures err { IsOkUnless result Error.OutOfMemory }
 {
-    // The rows lie in the values as the offsets say.
-    let _ = texts.values();
-    let (offsets, validity) = (texts.offsets(), texts.validity());
+    match texts.validity() {
+        None => lengths_under(alloc, texts, None),
+        Some(validity) => lengths_under(alloc, texts, Some(validity)),
+    }
+}
+
+// The same under the validity of the texts: by one pass over the offsets, 64 rows at a time.
+#[inline(always)]
+fn lengths_under<O: Offset>(
+    alloc: Global,
+    texts: &Utf8Array<O>,
+    validity: Option<&Bitmap>,
+) -> Result<Vec<O>, Error>
+    requires { option_copied validity ≡ texts.now.validity }
+    ensures ok { IfOk result (λ lengths. map O.number lengths.items
+        ≡ map pos (kept 0 length texts.now.validity (row_bytes texts.now.values))) }
+    ensures err { IsOkUnless result Error.OutOfMemory }
+{
+    // The rows lie in the values as the offsets say, and are as many as the bits of their validity.
+    let (_, _) = (texts.values(), texts.validity());
+    let offsets = texts.offsets();
     let count = offsets.len() - 1;
     let mut lengths = Vec::with_capacity(alloc, count)?;
     let mut row = 0;
@@ -118,6 +136,7 @@ fn stored_lengths<O: Offset>(alloc: Global, texts: &Utf8Array<O>) -> Result<Vec<
 }
 
 // A bit for each of 64 rows from row `64 * j` on, set where the row is valid.
+#[inline(always)]
 fn word_of_rows(validity: Option<&Bitmap>, j: usize) -> u64
     ensures { HasBitsFrom (64 * j) (option_copied validity.entry) result }
 {
@@ -129,6 +148,7 @@ fn word_of_rows(validity: Option<&Bitmap>, j: usize) -> u64
 
 // Appends how many bytes each of `count` rows from row `start` on has, and 0 where its bit of the word is not set. There
 // is room for them. Those of a whole word are two halves with a count that is known when the program is compiled.
+#[inline(always)]
 fn append_lengths<O: Offset>(
     lengths: &mut Vec<O>,
     offsets: &OffsetsBuffer<O>,

@@ -2,7 +2,7 @@ use Rattle.std.proofs.Common.{◌≡◌, ◌-◌, ◌%◌, ◌<◌, ◌≤◌, p
 use Rattle.std.specs.Vec.{vec_len, vec_capacity}
 use Rattle.arrow_flat.specs.ByteRows.{row_bytes}
 use Rattle.arrow_logic.specs.Kept.{kept}
-use Rattle.arrow_logic.proofs.length.stored_lengths.Given as goal
+use Rattle.arrow_logic.proofs.length.lengths_under.Given as goal
 
 -- the lengths of the rows so far, which are whole words of rows where some are left
 abbrev pub invariant-loop-row : goal.invariant-loop-row
