@@ -10,7 +10,7 @@ use Rattle.arrow_memory.specs.Sliced.{sliced}
 use Rattle.arrow_memory.proofs.SlicedLemmas.{length-sliced}
 use Rattle.arrow_flat.specs.Parts.{FitsRows}
 use Rattle.arrow_flat.proofs.PartsLemmas.{masked-sliced}
-use Rattle.arrow_flat_growable.specs.Validity.{part_in_both, valid_in_both}
+use Rattle.arrow_flat_growable.specs.Validity.{valid_in_both}
 
 -- bits none of which is not set leave the rows as they are
 pub mask-all : (bits : List Bool) (xs : List Slot) → length xs ≡ length bits → count_by not bits ≡ 0 → mask bits xs ≡ xs
@@ -54,6 +54,11 @@ long_both (o ∷ own) (b ∷ bits) same = ap suc (long_both own bits (omega (ari
 pub bits_under : (own : Option (List Bool)) (bits : List Bool) → FitsRows own (length bits) → length (valid_in_both own bits) ≡ length bits
 bits_under None bits fits = refl
 bits_under (Some own) bits fits = long_both own bits fits
+
+-- the bits of a validity from a place on, which may be absent, that are set in a mask too
+abbrev pub part_in_both : Option (List Bool) → ℕ → List Bool → List Bool
+part_in_both None start own = own
+part_in_both (Some bits) start own = both_bits (sliced bits start (length own)) own
 
 -- a mask and the validity of a part, as one: a bit for each row, and the part's rows under the mask
 pub part_under : (v : Option (List Bool)) (stored : List Slot) (start : ℕ) (own : List Bool) → FitsRows v (length stored) → start + length own ≤ length stored → (length (part_in_both v start own) ≡ length own) × (mask (part_in_both v start own) (sliced stored start (length own)) ≡ mask own (sliced (masked v stored) start (length own)))

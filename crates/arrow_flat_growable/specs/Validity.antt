@@ -28,8 +28,3 @@ pub record IsValidityOf (bits : List Bool) (validity : Option (List Bool)) : Typ
 abbrev pub valid_in_both : Option (List Bool) → List Bool → List Bool
 valid_in_both None bits = bits
 valid_in_both (Some own) bits = both_bits own bits
-
--- the bits of a validity from a place on, which may be absent, that are set in a mask too
-abbrev pub part_in_both : Option (List Bool) → ℕ → List Bool → List Bool
-part_in_both None start own = own
-part_in_both (Some bits) start own = both_bits (sliced bits start (length own)) own

@@ -1,13 +1,13 @@
 //! Flat arrays under a validity besides their own.
 
-ghost use Rattle.std.specs.Prelude.{◌≡◌, ◌+◌, ◌≤◌, length, option_copied, IfOk, IfSome, IsOkUnless};
+ghost use Rattle.std.specs.Prelude.{◌≡◌, length, option_copied, IfOk, IsOkUnless};
 ghost use Rattle.arrow_types.specs.declared.error.Error.{Error};
 ghost use Rattle.arrow_types.specs.Rows.{masked};
 ghost use Rattle.arrow_flat.specs.Parts.{FitsRows, rows_by};
-ghost use Rattle.arrow_flat_growable.specs.Validity.{part_in_both, valid_in_both};
+ghost use Rattle.arrow_flat_growable.specs.Validity.{valid_in_both};
 
 use arrow_flat::array::{FlatArray, Values};
-use arrow_memory::bitmap::{Bitmap, Mask};
+use arrow_memory::bitmap::Bitmap;
 use arrow_types::error::Error;
 use std::alloc::Global;
 
@@ -50,23 +50,5 @@ fn both_valid(alloc: Global, own: Option<&Bitmap>, bits: &Bitmap) -> Result<Bitm
     match own {
         None => Ok(bits.clone()?),
         Some(own) => own.and(alloc, bits),
-    }
-}
-
-// Which of some rows from row `start` on are valid, a row for each bit of a mask: those whose bit is set, as far as a validity is set
-// there too.
-pub(crate) fn part_under(
-    alloc: Global,
-    validity: Option<&Bitmap>,
-    start: usize,
-    own: &Mask,
-) -> Result<Mask, Error>
-    requires { IfSome validity (λ bits. start + length own.now ≤ length bits.now) }
-    ensures ok { IfOk result (λ both. both ≡ part_in_both (option_copied validity.entry) start own.now) }
-    ensures err { IsOkUnless result Error.OutOfMemory }
-{
-    match validity {
-        None => Ok(own.clone()?),
-        Some(bits) => own.and_part(alloc, bits, start),
     }
 }

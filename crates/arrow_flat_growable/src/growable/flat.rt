@@ -18,7 +18,6 @@ ghost use Rattle.arrow_flat_growable.specs.Grown.{Grown, AreOfOneType, Binds, Fi
 
 use crate::growable::Growable;
 use crate::growable::validity::GrowableValidity;
-use crate::under::part_under;
 use arrow_arrays::array::AnyArray;
 use arrow_memory::bitmap::{Bitmap, Mask};
 use arrow_types::datatypes::DataType;
@@ -349,14 +348,13 @@ impl<'a, G: GrowableValues> FlatGrowable<'a, G> {
         let Some(total) = self.len.checked_add(len) else {
             return Err(Error::Overflow);
         };
-        let bits = part_under(self.validity.allocator(), G::validity(array), start, own)?;
-        append_under(
+        append_masked(
             &mut self.values,
             &mut self.validity,
             index,
             array,
             start,
-            &bits,
+            own,
         )?;
         self.len = total;
         self.has_failed = false;
@@ -412,7 +410,46 @@ fn append<G: GrowableValues>(
     values.extend(index, array, start, len)
 }
 
-// The same of rows that are null where a bit is not set, a row for each bit.
+// The same of rows that are null where a bit of a mask is not set either, a row for each bit.
+fn append_masked<G: GrowableValues>(
+    values: &mut G,
+    validity: &mut GrowableValidity,
+    index: usize,
+    array: &G::Array,
+    start: usize,
+    own: &Mask,
+) -> Result<(), Error>
+    requires within { start + length own.now
+        ≤ length (masked (G.bits_in array.now) (G.stored_in array.now)) }
+    requires room { length validity.old + length own.now < 2 ^ 64 }
+    requires kind { G.are_of values.old (G.type_in array.now) }
+    requires bound { G.binds values.old index array.now }
+    requires covers { Covers G.spares validity.old (G.slots values.old) }
+    ensures covers { OnOk result (Covers G.spares validity.new (G.slots values.new)) }
+    ensures count { OnOk result (length validity.new ≡ length validity.old + length own.now) }
+    ensures rows { OnOk result (mask validity.new (G.slots values.new)
+        ≡ mask validity.old (G.slots values.old)
+        ++ mask own.now (sliced (masked (G.bits_in array.now) (G.stored_in array.now)) start
+        (length own.now))) }
+    ensures kind { (t : ArrowType) → G.are_of values.old t → G.are_of values.new t }
+    ensures bound { KeepsBound (G.binds values.old) (G.binds values.new) }
+    ensures fits { (t : ArrowType) → G.are_of values.old t → OnOk result (Fits t (G.slots values.new)) }
+    ensures overflow { (t : ArrowType) → G.are_of values.old t → result ≡ Err Error.Overflow
+        → Fits t (mask validity.old (G.slots values.old)
+        ++ mask own.now (sliced (masked (G.bits_in array.now) (G.stored_in array.now)) start
+        (length own.now))) → ⊥ }
+    ensures others { IfErr result IsGrowthError }
+{
+    match G::validity(array) {
+        None => append_under(values, validity, index, array, start, own),
+        Some(bits) => {
+            let both = own.and_part(validity.allocator(), bits, start)?;
+            append_under(values, validity, index, array, start, &both)
+        }
+    }
+}
+
+// The same of rows of which the bits alone say which are null.
 fn append_under<G: GrowableValues>(
     values: &mut G,
     validity: &mut GrowableValidity,

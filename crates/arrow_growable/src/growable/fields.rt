@@ -183,6 +183,7 @@ pub fn rows_of_id(alloc: Global, types: &[i8], id: i8) -> Result<Bitmap, Error>
 }
 
 // The same as a mask, which takes no memory for a few rows.
+#[inline(always)]
 fn mask_of_id(alloc: Global, types: &[i8], id: i8) -> Result<Mask, Error>
     ensures ok { IfOk result (λ own. own ≡ have_id id types.now) }
     ensures err { IsOkUnless result Error.OutOfMemory }
