@@ -1,9 +1,9 @@
 //! Bits in words of 64.
 
-ghost use Rattle.std.specs.Prelude.{Bool, List, take, ◌≡◌, ◌+◌, ◌-◌, ◌*◌, ◌%◌, ◌/◌, ◌<◌, ◌≤◌, ◌^◌, length, replicate, slice_index, bit_or};
+ghost use Rattle.std.specs.Prelude.{◌≡◌, ◌+◌, ◌-◌, ◌*◌, ◌%◌, ◌/◌, ◌<◌, ◌≤◌, ◌^◌, length, replicate, slice_index, bit_or};
 ghost use Rattle.std.specs.Int.{div_ceil};
 ghost use Rattle.std.specs.Vec.{vec_len, vec_capacity};
-ghost use Rattle.arrow_memory.specs.Words.{bits_in, low_bits, set_count, word_of, AppendsBits, AppendsWord, IsLowRun, Reads};
+ghost use Rattle.arrow_memory.specs.Words.{bits_in, low_bits, set_count, word_of, AppendsBits, AppendsWord, IsLowRun};
 
 pub(crate) mod logic;
 
