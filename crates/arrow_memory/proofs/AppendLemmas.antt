@@ -1,16 +1,6 @@
 -- Bits that are appended a word at a time.
-use Rattle.std.proofs.Common.{◌≡◌, ℕ, ◌+◌, ◌-◌, ◌*◌, ◌/◌, ◌%◌, ◌^◌, ◌<◌, ◌≤◌, Bool, true, false, ◌||◌, List, [], ◌∷◌, ◌++◌, length, get_or, take, drop, replicate, zero, suc, refl, ap, sym, ◌∙◌, subst, arith, slice_index, inl, inr, add-zero, zero-add, append_assoc, length-append}
-use borrow.Rule.Slice.PartMut.{post_of}
-use Rattle.std.specs.Prelude.{◌==◌, bit_or, set}
-use Rattle.std.specs.Int.{bit_at}
-use Rattle.std.proofs.lemmas.Bool.{cases_lt, cases_eq}
-use Rattle.std.proofs.lemmas.List.{get_or-set_same, get_or-set_other, get_or_append_left, get_or-append_right, get_or_past, get_or-take, get_or-drop, length-set, length-take, length-take-le, length-drop, take_all, drop_all, take-append-drop, append-nil, length-replicate, replicate-append-replicate}
-use Rattle.std.proofs.lemmas.Nat.{shr-shr, shr_split, pow_pos}
-use Rattle.std.proofs.lemmas.Nat.Bits.{bit_at-zero, bit_at_cat_low, bit_at_cat_high}
-use Rattle.std.proofs.lemmas.Simd.{mask_l-lt}
-use Rattle.std.proofs.Math.Seq.{take-append-add}
-use Rattle.std.proofs.Math.Nat.{add-mul-div_left, div-eq_of_lt}
-use Rattle.arrow_memory.specs.Words.{is_set, bits_in, word_of, Reads, AppendsWord, AppendsBits}
+use Rattle.arrow_memory.proofs.Common.{◌≡◌, ℕ, ◌+◌, ◌-◌, ◌*◌, ◌/◌, ◌%◌, ◌^◌, ◌<◌, ◌≤◌, Bool, true, false, ◌||◌, List, [], ◌∷◌, ◌++◌, length, get_or, take, drop, replicate, zero, suc, refl, ap, sym, ◌∙◌, subst, arith, slice_index, inl, inr, add-zero, zero-add, append_assoc, length-append, post_of, bit_or, set, bit_at, cases_lt, cases_eq, get_or-set_same, get_or-set_other, get_or_append_left, get_or-append_right, get_or_past, get_or-take, get_or-drop, length-set, length-take, length-take-le, length-drop, take_all, drop_all, take-append-drop, append-nil, length-replicate, replicate-append-replicate, shr-shr, shr_split, pow_pos, bit_at-zero, bit_at_cat_low, bit_at_cat_high, mask_l-lt, take-append-add, add-mul-div_left, div-eq_of_lt, is_set, bits_in, word_of, Reads, AppendsWord, AppendsBits}
+use Rattle.std.specs.Prelude.{◌==◌}
 use Rattle.arrow_memory.proofs.BitmapLemmas.{bit_of-word_of}
 use Rattle.arrow_memory.proofs.LogicLemmas.{or_each}
 use Rattle.arrow_memory.proofs.WordLemmas.{length-bits_in, get_or-bits_in, word_of-append}

@@ -1,13 +1,6 @@
 -- Bits that are gathered in words.
-use Rattle.std.proofs.Common.{arith, ◌≡◌, ℕ, ◌*◌, ◌%◌, ◌^◌, ◌<◌, Bool, true, false, List, [], ◌∷◌, ◌++◌, length, ap, sym, ◌∙◌}
-use Rattle.std.specs.Prelude.{◌==◌, bit_or}
-use Rattle.std.specs.Int.{bit_at, from_bool}
-use Rattle.std.specs.Int.Bits.{or_shifted_r}
-use Rattle.std.proofs.Math.Nat.{pow-le-pow_right}
-use Rattle.std.proofs.lemmas.List.{get_or_default, same_lists}
-use Rattle.std.proofs.lemmas.List.FromFn.{get_or-map-range_with_len, length-map-range_with_len}
-use Rattle.std.proofs.lemmas.Simd.{mask_l-lt}
-use Rattle.arrow_memory.specs.Words.{low_bits, word_of}
+use Rattle.arrow_memory.proofs.Common.{arith, ◌≡◌, ℕ, ◌*◌, ◌%◌, ◌^◌, ◌<◌, Bool, true, false, List, [], ◌∷◌, ◌++◌, length, ap, sym, ◌∙◌, bit_or, bit_at, from_bool, or_shifted_r, pow-le-pow_right, get_or_default, same_lists, get_or-map-range_with_len, length-map-range_with_len, mask_l-lt, low_bits, word_of}
+use Rattle.std.specs.Prelude.{◌==◌}
 use Rattle.arrow_memory.proofs.BitmapLemmas.{bit_of-word_of}
 use Rattle.arrow_memory.proofs.WordLemmas.{word_of-append}
 

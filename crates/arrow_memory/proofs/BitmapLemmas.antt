@@ -1,19 +1,7 @@
 -- Lists of bits against the words that hold them.
-use Rattle.std.proofs.Common.{◌≡◌, ℕ, ◌+◌, ◌-◌, ◌*◌, ◌/◌, ◌%◌, ◌^◌, ◌<◌, ◌≤◌, min, replicate, zero, suc, Bool, true, false, not, cond, List, [], ◌∷◌, ◌++◌, length, get_or, take, drop, refl, ap, sym, ◌∙◌, subst, arith, slice_index, zero-add, inl, inr}
-use Rattle.std.specs.Prelude.{◌==◌, nat_eq, bit_and, slice_get, Some}
-use Rattle.std.specs.Bool.{beq, Decides, one_answer}
-use Rattle.std.specs.Cmp.{booleans_Decides}
-use Rattle.std.specs.Cmp.Lexicographic.{pointwise, pointwise_decides}
-use Rattle.std.specs.Int.{bit_at}
-use Rattle.std.specs.List.{count_by}
-use Rattle.std.proofs.lemmas.Bool.{cases_lt}
-use Rattle.std.proofs.lemmas.List.{length-replicate, ext_get_or, get_or-replicate, get_or-take, get_or-drop, get_or_append_left, get_or_push, length-append, take_all, take_at, drop_at, take_min, drop_min, drop-drop}
-use Rattle.std.proofs.lemmas.List.Sums.{sum_by-cons}
-use Rattle.std.proofs.lemmas.Nat.Bits.{shr_and_one, bit_at-zero}
-use Rattle.std.proofs.lemmas.Option.{slice_get-get_or}
-use Rattle.std.proofs.lemmas.Simd.{bit_mask_l}
-use Rattle.arrow_memory.specs.Sliced.{sliced}
-use Rattle.arrow_memory.specs.Words.{is_set, bits_in, word_of, set_count}
+use Rattle.arrow_memory.proofs.Common.{◌≡◌, ℕ, ◌+◌, ◌-◌, ◌*◌, ◌/◌, ◌%◌, ◌^◌, ◌<◌, ◌≤◌, min, replicate, zero, suc, Bool, true, false, not, cond, List, [], ◌∷◌, ◌++◌, length, get_or, take, drop, refl, ap, sym, ◌∙◌, subst, arith, slice_index, zero-add, inl, inr, slice_get, beq, Decides, one_answer, booleans_Decides, pointwise, pointwise_decides, bit_at, count_by, cases_lt, length-replicate, ext_get_or, get_or-replicate, get_or-take, get_or-drop, get_or_append_left, get_or_push, take_all, take_at, drop_at, take_min, drop_min, drop-drop, sum_by-cons, shr_and_one, bit_at-zero, slice_get-get_or, bit_mask_l, sliced, is_set, bits_in, word_of, set_count}
+use Rattle.std.specs.Prelude.{◌==◌, nat_eq, bit_and, Some}
+use Rattle.std.proofs.lemmas.List.{length-append}
 use Rattle.arrow_memory.proofs.SlicedLemmas.{length-sliced, same_joined, sliced-clamped}
 use Rattle.arrow_memory.proofs.WordLemmas.{length-bits_in, get_or-bits_in}
 

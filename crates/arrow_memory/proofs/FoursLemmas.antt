@@ -1,9 +1,6 @@
 -- What four bits give, in words and in lists.
-use Rattle.std.proofs.Common.{◌≡◌, ℕ, ◌+◌, ◌*◌, ◌/◌, ◌%◌, ◌<◌, zero, suc, Bool, false, List, [], ◌∷◌, length, get_or, refl, ap, sym, ◌∙◌, arith, slice_index}
-use Rattle.std.specs.Prelude.{◌==◌, set}
-use Rattle.std.specs.Int.{bit_at}
-use Rattle.arrow_memory.specs.Bits.{by_fours}
-use Rattle.arrow_memory.specs.Words.{is_set, bits_in, word_of}
+use Rattle.arrow_memory.proofs.Common.{◌≡◌, ℕ, ◌+◌, ◌*◌, ◌/◌, ◌%◌, ◌<◌, zero, suc, Bool, false, List, [], ◌∷◌, length, get_or, refl, ap, sym, ◌∙◌, arith, slice_index, set, bit_at, by_fours, is_set, bits_in, word_of}
+use Rattle.std.specs.Prelude.{◌==◌}
 use Rattle.arrow_memory.proofs.BitmapLemmas.{bits_in_is}
 use Rattle.arrow_memory.proofs.LogicLemmas.{GivesUpTo, bit_from, gives_more}
 use Rattle.arrow_memory.proofs.WordLemmas.{length-bits_in, get_or-bits_in}

@@ -1,15 +1,6 @@
 -- What closures answer, gathered in words and in bits.
-use Rattle.std.proofs.Common.{◌≡◌, ◌∙◌, ℕ, get_or, ◌+◌, ◌-◌, ◌*◌, ◌/◌, ◌%◌, ◌^◌, ◌<◌, min, Bool, List, [], ◌∷◌, ◌++◌, length, slice_index, arith, ap, sym, subst, refl, inl, inr, zero-add}
-use Rattle.std.specs.Prelude.{◌==◌, bit_or, true, false}
-use Rattle.std.specs.Int.{bit_at, from_bool}
-use Rattle.std.specs.Int.Bits.{or_shifted_r}
-use Rattle.std.proofs.Math.Nat.{pow-le-pow_right}
-use Rattle.std.proofs.lemmas.Simd.{mask_l-lt}
-use Rattle.std.proofs.lemmas.Grind.{common_steps}
-use Rattle.std.proofs.lemmas.Bool.{cases_lt}
-use Rattle.std.proofs.lemmas.List.{get_or_append_left, get_or-append_right, get_or_push, length_push}
-use Rattle.arrow_memory.specs.Gathered.{AnswersBits, AnswersWords, GathersBits}
-use Rattle.arrow_memory.specs.Words.{is_set, word_of}
+use Rattle.arrow_memory.proofs.Common.{◌≡◌, ◌∙◌, ℕ, get_or, ◌+◌, ◌-◌, ◌*◌, ◌/◌, ◌%◌, ◌^◌, ◌<◌, min, Bool, List, [], ◌∷◌, ◌++◌, length, slice_index, arith, ap, sym, subst, refl, inl, inr, zero-add, bit_or, bit_at, from_bool, or_shifted_r, pow-le-pow_right, mask_l-lt, common_steps, cases_lt, get_or_append_left, get_or-append_right, get_or_push, length_push, AnswersBits, AnswersWords, GathersBits, is_set, word_of}
+use Rattle.std.specs.Prelude.{◌==◌, true, false}
 use Rattle.arrow_memory.proofs.BitLemmas.{word_more}
 use Rattle.arrow_memory.proofs.BitmapLemmas.{bit_of-word_of}
 use Rattle.arrow_memory.proofs.WordLemmas.{get_or-bits_in, length-bits_in, word_of-append}

@@ -1,17 +1,5 @@
 -- How long rows are by the bits of a word, and where rows of such lengths end.
-use Rattle.std.proofs.Common.{◌≡◌, ℕ, zero, suc, ◌+◌, ◌-◌, ◌/◌, ◌%◌, ◌*◌, ◌^◌, ◌<◌, ◌≤◌, ◌==◌, ℤ, pos, ◌-ℤ◌, ◌≤ℤ◌, Bool, true, false, List, [], ◌∷◌, ◌++◌, length, map, drop, get_or, slice_index, unsigned_abs, if◌then◌else◌, bit_and, nat_eq, refl, ap, sym, ◌∙◌, append_assoc, arith}
-use Rattle.std.specs.Int.{bit_at}
-use Rattle.std.specs.List.{range_with_len, sum}
-use Rattle.std.proofs.Math.Nat.{div-add-mod}
-use Rattle.std.proofs.lemmas.Int.{ints}
-use Rattle.std.proofs.lemmas.List.{drop_more, length-map, map-append}
-use Rattle.std.proofs.lemmas.List.FromFn.{map-range_with_len_more}
-use Rattle.std.proofs.lemmas.List.Sums.{sum_by-cons}
-use Rattle.std.proofs.lemmas.Nat.Bits.{bit_at_cat_low, shr_and_one}
-use Rattle.std.proofs.lemmas.Nat.{shr-shr}
-use Rattle.arrow_memory.specs.Ends.{ends_from, word_length, word_lengths}
-use Rattle.arrow_memory.specs.Offsets.{valid_length, valid_items, valid_ends}
-use Rattle.arrow_memory.specs.Words.{is_set, bits_in}
+use Rattle.arrow_memory.proofs.Common.{◌≡◌, ℕ, zero, suc, ◌+◌, ◌-◌, ◌/◌, ◌%◌, ◌*◌, ◌^◌, ◌<◌, ◌≤◌, ◌==◌, ℤ, pos, ◌-ℤ◌, ◌≤ℤ◌, Bool, true, false, List, [], ◌∷◌, ◌++◌, length, map, drop, get_or, slice_index, unsigned_abs, if◌then◌else◌, bit_and, nat_eq, refl, ap, sym, ◌∙◌, append_assoc, arith, bit_at, range_with_len, sum, div-add-mod, ints, drop_more, length-map, map-append, map-range_with_len_more, sum_by-cons, bit_at_cat_low, shr_and_one, shr-shr, ends_from, word_length, word_lengths, valid_length, valid_items, valid_ends, is_set, bits_in}
 use Rattle.arrow_memory.proofs.OffsetLemmas.{number_at, same_at}
 
 -- ---- rows by the bits of a word

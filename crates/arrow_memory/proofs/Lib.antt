@@ -1,3 +1,4 @@
+pub mod Common
 pub mod AppendLemmas
 pub mod BitLemmas
 pub mod BitmapLemmas

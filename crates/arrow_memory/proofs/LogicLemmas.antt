@@ -1,13 +1,6 @@
 -- Logic on bits and on the words that hold them.
-use Rattle.std.proofs.Common.{◌≡◌, ℕ, ◌+◌, ◌-◌, ◌*◌, ◌/◌, ◌%◌, ◌^◌, ◌<◌, ◌≤◌, min, max, map, zero, suc, w64, ◌&&◌, ◌||◌, Bool, false, not, List, [], ◌∷◌, length, get_or, refl, ap, sym, ◌∙◌, arith, slice_index, inl, inr}
-use Rattle.std.specs.Prelude.{◌==◌, bit_and, bit_or, set}
-use Rattle.std.specs.Int.{bit_at, bit_not}
-use Rattle.std.proofs.lemmas.Bool.{cases_eq}
-use Rattle.std.proofs.lemmas.Bool.Decides.{nat_tests}
-use Rattle.std.proofs.lemmas.List.{get_or-set_same, get_or-set_other, length-map}
-use Rattle.std.proofs.lemmas.Nat.Bits.{bit_at_and, bit_at_or, bit_at_not, bit_at-lt}
-use Rattle.arrow_memory.specs.Bits.{paired}
-use Rattle.arrow_memory.specs.Words.{is_set, bits_in, word_of}
+use Rattle.arrow_memory.proofs.Common.{◌≡◌, ℕ, ◌+◌, ◌-◌, ◌*◌, ◌/◌, ◌%◌, ◌^◌, ◌<◌, ◌≤◌, min, max, map, zero, suc, w64, ◌&&◌, ◌||◌, Bool, false, not, List, [], ◌∷◌, length, get_or, refl, ap, sym, ◌∙◌, arith, slice_index, inl, inr, bit_or, set, bit_at, bit_not, cases_eq, nat_tests, get_or-set_same, get_or-set_other, length-map, bit_at_and, bit_at_or, bit_at_not, bit_at-lt, paired, is_set, bits_in, word_of}
+use Rattle.std.specs.Prelude.{◌==◌, bit_and}
 use Rattle.arrow_memory.proofs.BitmapLemmas.{bit_of-word_of, bits_in_is}
 use Rattle.arrow_memory.proofs.WordLemmas.{get_or-bits_in}
 

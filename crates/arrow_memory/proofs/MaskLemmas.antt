@@ -1,14 +1,5 @@
 -- Masks, and the bits of a word as those of a mask.
-use Rattle.std.proofs.Common.{◌≡◌, ℕ, ◌<◌, ◌≤◌, ◌==◌, Bool, false, Option, None, Some, List, [], ◌∷◌, length, map, get_or, refl, ap, sym, ◌∙◌, arith, subst₂, zero-add}
-use Rattle.std.specs.Int.{bit_at}
-use Rattle.std.specs.List.{range_with_len}
-use Rattle.std.proofs.lemmas.List.{ext_get_or, take_all}
-use Rattle.std.proofs.lemmas.List.FromFn.{get_or-map-range_with_len, length-map-range_with_len}
-use Rattle.arrow_memory.specs.Bits.{paired}
-use Rattle.arrow_memory.specs.Gathered.{AnswersBits, GathersBits}
-use Rattle.arrow_memory.specs.Masks.{IsMask, mask_in}
-use Rattle.arrow_memory.specs.Sliced.{sliced}
-use Rattle.arrow_memory.specs.Words.{bits_in, is_set, low_bits, word_of}
+use Rattle.arrow_memory.proofs.Common.{◌≡◌, ℕ, ◌<◌, ◌≤◌, ◌==◌, Bool, false, Option, None, Some, List, [], ◌∷◌, length, map, get_or, refl, ap, sym, ◌∙◌, arith, subst₂, zero-add, bit_at, range_with_len, ext_get_or, take_all, get_or-map-range_with_len, length-map-range_with_len, paired, AnswersBits, GathersBits, IsMask, mask_in, sliced, bits_in, is_set, low_bits, word_of}
 use Rattle.arrow_memory.proofs.BitLemmas.{bits_of_word}
 use Rattle.arrow_memory.proofs.LengthLemmas.{bit_of}
 use Rattle.arrow_memory.proofs.WordLemmas.{length-low_bits}

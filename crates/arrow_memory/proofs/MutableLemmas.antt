@@ -1,12 +1,5 @@
 -- Bitmaps under construction.
-use Rattle.std.proofs.Common.{◌≡◌, ℕ, zero, suc, ◌+◌, ◌-◌, ◌^◌, Bool, true, false, List, [], ◌∷◌, ◌++◌, length, get_or, replicate, refl, ap, sym, ◌∙◌, arith, inl, inr, zero-add, length-append}
-use mir.Val.{bool_byte}
-use Rattle.std.specs.Int.{div_ceil}
-use Rattle.std.proofs.Math.Nat.{pow-suc}
-use Rattle.std.proofs.lemmas.Bool.{cases_lt}
-use Rattle.std.proofs.lemmas.List.{get_or_past}
-use Rattle.std.proofs.lemmas.Nat.{pow_pos}
-use Rattle.arrow_memory.specs.Words.{is_set, bits_in, word_of, Reads, IsPadded, AppendsBits}
+use Rattle.arrow_memory.proofs.Common.{◌≡◌, ℕ, zero, suc, ◌+◌, ◌-◌, ◌^◌, Bool, true, false, List, [], ◌∷◌, ◌++◌, length, get_or, replicate, refl, ap, sym, ◌∙◌, arith, inl, inr, zero-add, length-append, bool_byte, div_ceil, pow-suc, cases_lt, get_or_past, pow_pos, is_set, bits_in, word_of, Reads, IsPadded, AppendsBits}
 use Rattle.arrow_memory.proofs.BitmapLemmas.{bits_in_is}
 use Rattle.arrow_memory.proofs.WordLemmas.{length-bits_in, get_or-bits_in}
 

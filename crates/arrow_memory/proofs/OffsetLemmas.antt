@@ -1,15 +1,6 @@
 -- Offsets as they are stored, and as contracts see them.
-use Rattle.std.proofs.Common.{◌≡◌, ℕ, zero, suc, ◌+◌, ◌-◌, ◌<◌, ◌≤◌, ℤ, pos, negsuc, ◌+ℤ◌, ◌-ℤ◌, ◌≤ℤ◌, List, [], ◌∷◌, ◌++◌, length, map, get_or, take, drop, replicate, slice_index, unsigned_abs, refl, ap, sym, subst, ◌∙◌, arith, rules}
-use Rattle.std.proofs.Math.ListN.{get_or-map}
-use Rattle.std.specs.Prelude.{nat_eq, set, Bool}
-use Rattle.std.specs.Bool.{Decides, one_answer}
-use Rattle.std.specs.Cmp.{unsigned_Decides}
-use Rattle.std.specs.Cmp.Lexicographic.{pointwise, pointwise_decides}
-use Rattle.std.specs.List.{All}
-use Rattle.std.proofs.lemmas.Int.{ints}
-use Rattle.std.proofs.lemmas.List.{map-append, take-map, drop-map, length-map, length-take, take_all, take_more, take_more_set, drop-drop, drop-set-lt, get_or-take, get_or-drop, get_or_default}
-use Rattle.arrow_memory.specs.Offsets.{RisesFrom, AreOffsets, IsOffsets, last_of, with_row, with_rows, counted_on}
-use Rattle.arrow_memory.specs.Sliced.{sliced}
+use Rattle.arrow_memory.proofs.Common.{◌≡◌, ℕ, zero, suc, ◌+◌, ◌-◌, ◌<◌, ◌≤◌, ℤ, pos, negsuc, ◌+ℤ◌, ◌-ℤ◌, ◌≤ℤ◌, List, [], ◌∷◌, ◌++◌, length, map, get_or, take, drop, replicate, slice_index, unsigned_abs, refl, ap, sym, subst, ◌∙◌, arith, rules, get_or-map, set, Decides, one_answer, unsigned_Decides, pointwise, pointwise_decides, All, ints, map-append, take-map, drop-map, length-map, length-take, take_all, take_more, take_more_set, drop-drop, drop-set-lt, get_or-take, get_or-drop, get_or_default, RisesFrom, AreOffsets, IsOffsets, last_of, with_row, with_rows, counted_on, sliced}
+use Rattle.std.specs.Prelude.{nat_eq, Bool}
 use Rattle.arrow_memory.proofs.SlicedLemmas.{length-sliced}
 
 -- stored numbers and natural numbers

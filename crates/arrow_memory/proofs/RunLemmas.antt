@@ -1,19 +1,6 @@
 -- Runs of equal bits: in a word, and over words.
-use Rattle.std.proofs.Common.{◌≡◌, ℕ, zero, suc, ◌+◌, ◌-◌, ◌*◌, ◌/◌, ◌^◌, ◌<◌, ◌≤◌, min, w64, Bool, true, false, not, List, [], ◌∷◌, length, get_or, drop, replicate, ◌++◌, ap, sym, ◌∙◌, arith, inl, inr}
-use Rattle.std.specs.Prelude.{◌==◌, nat_eq, slice_get, Some}
-use Rattle.std.specs.Int.{bit_at, bit_not, trailing_zeros}
-use Rattle.std.specs.Int.Count.{trailing_of_zero}
-use Rattle.std.proofs.lemmas.Bool.{cases_lt}
-use Rattle.std.proofs.lemmas.List.{length-replicate, ext_get_or, get_or-take, get_or-drop, get_or-replicate, length-take, length-drop}
-use Rattle.std.proofs.lemmas.Nat.Bits.{bit_at_not, bit_at-zero, bit_at-trailing_zeros, bit_at-lt}
-use Rattle.std.proofs.lemmas.Option.{slice_get-get_or}
-use Rattle.std.specs.List.{flat_map}
-use Rattle.std.proofs.lemmas.List.Concat.{flat_map-cons}
-use Rattle.std.proofs.lemmas.Grind.{flat_map-append}
-use Rattle.std.proofs.Math.Nat.{add-mul, mul-le-mul_right}
-use Rattle.std.proofs.lemmas.List.{replicate-append-replicate}
-use Rattle.arrow_memory.specs.Sliced.{sliced}
-use Rattle.arrow_memory.specs.Words.{is_set, bits_in, word_of, IsWordAt, IsLowRun}
+use Rattle.arrow_memory.proofs.Common.{◌≡◌, ℕ, zero, suc, ◌+◌, ◌-◌, ◌*◌, ◌/◌, ◌^◌, ◌<◌, ◌≤◌, min, w64, Bool, true, false, not, List, [], ◌∷◌, length, get_or, drop, replicate, ◌++◌, ap, sym, ◌∙◌, arith, inl, inr, slice_get, bit_at, bit_not, trailing_zeros, trailing_of_zero, cases_lt, length-replicate, ext_get_or, get_or-take, get_or-drop, get_or-replicate, length-take, length-drop, bit_at_not, bit_at-zero, bit_at-trailing_zeros, bit_at-lt, slice_get-get_or, flat_map, flat_map-cons, flat_map-append, add-mul, mul-le-mul_right, replicate-append-replicate, sliced, is_set, bits_in, word_of, IsWordAt, IsLowRun}
+use Rattle.std.specs.Prelude.{◌==◌, nat_eq, Some}
 use Rattle.arrow_memory.proofs.AppendLemmas.{bit_at-shr}
 use Rattle.arrow_memory.proofs.BitmapLemmas.{bit_of-word_of}
 use Rattle.arrow_memory.proofs.WordLemmas.{length-bits_in, get_or-bits_in, bits_in-add}

@@ -1,8 +1,5 @@
 -- A slice of a slice.
-use Rattle.std.proofs.Common.{◌≡◌, ℕ, ◌+◌, ◌-◌, ◌≤◌, min, List, ◌++◌, length, take, drop, ap, sym, ◌∙◌, arith}
-use Rattle.std.proofs.Math.Seq.{take-add}
-use Rattle.std.proofs.lemmas.List.{drop-take, take-take, drop-drop, length-take, length-drop, take_min, drop_min}
-use Rattle.arrow_memory.specs.Sliced.{sliced}
+use Rattle.arrow_memory.proofs.Common.{◌≡◌, ℕ, ◌+◌, ◌-◌, ◌≤◌, min, List, ◌++◌, length, take, drop, ap, sym, ◌∙◌, arith, take-add, drop-take, take-take, drop-drop, length-take, length-drop, take_min, drop_min, sliced}
 
 pub sliced-sliced : {A : Type 0} (xs : List A) (a m o n : ℕ) → o + n ≤ m → sliced (sliced xs a m) o n ≡ sliced xs (a + o) n
 sliced-sliced xs a m o n h =

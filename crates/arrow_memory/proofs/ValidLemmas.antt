@@ -1,13 +1,7 @@
 -- Rows of others, of which those are empty whose bit is not set.
-use Rattle.std.proofs.Common.{◌≡◌, ℕ, zero, suc, ◌+◌, ◌-◌, ◌/◌, ◌%◌, ◌<◌, ◌≤◌, ℤ, pos, Bool, true, false, List, [], ◌∷◌, ◌++◌, length, map, take, drop, get_or, slice_index, unsigned_abs, refl, ap, sym, ◌∙◌, arith}
-use Rattle.std.specs.Prelude.{◌==◌, slice_get, Some}
-use Rattle.std.specs.Int.{bit_at}
-use Rattle.std.proofs.Math.Seq.{take-add}
-use Rattle.std.proofs.lemmas.Int.{ints}
-use Rattle.std.proofs.lemmas.List.{append_assoc, drop-drop, map-append}
-use Rattle.arrow_memory.specs.Offsets.{RisesFrom, AreOffsets, IsOffsets, last_of, valid_length, valid_items, valid_ends, with_valid_rows}
-use Rattle.arrow_memory.specs.Sliced.{sliced}
-use Rattle.arrow_memory.specs.Words.{is_set, bits_in, word_of}
+use Rattle.arrow_memory.proofs.Common.{◌≡◌, ℕ, zero, suc, ◌+◌, ◌-◌, ◌/◌, ◌%◌, ◌<◌, ◌≤◌, ℤ, pos, Bool, true, false, List, [], ◌∷◌, ◌++◌, length, map, take, drop, get_or, slice_index, unsigned_abs, refl, ap, sym, ◌∙◌, arith, slice_get, bit_at, take-add, ints, drop-drop, map-append, RisesFrom, AreOffsets, IsOffsets, last_of, valid_length, valid_items, valid_ends, with_valid_rows, sliced, is_set, bits_in, word_of}
+use Rattle.std.specs.Prelude.{◌==◌, Some}
+use Rattle.std.proofs.lemmas.List.{append_assoc}
 use Rattle.arrow_memory.proofs.BitmapLemmas.{bit_of-word_of, bits_in_is}
 use Rattle.arrow_memory.proofs.OffsetLemmas.{StoredAs, offsets_more, offsets_rise, stored_more}
 use Rattle.arrow_memory.proofs.SlicedLemmas.{length-sliced}

@@ -1,20 +1,6 @@
 -- Bits as they lie in words.
-use Rattle.std.proofs.Common.{◌≡◌, ℕ, zero, suc, ◌+◌, ◌-◌, ◌*◌, ◌/◌, ◌%◌, ◌^◌, ◌<◌, ◌≤◌, Bool, true, false, cond, List, [], ◌∷◌, ◌++◌, length, map, get_or, take, drop, refl, ap, sym, ◌∙◌, arith, lit<, slice_index, Fits, w64, zero-add, add-zero}
-use mathlib.Core.Logic.{dite}
-use Rattle.std.proofs.Math.Decide.{dec_le}
-use Rattle.std.specs.Prelude.{◌==◌, count_ones, bit_or}
-use Rattle.std.specs.Int.{bit_at, from_bool}
-use Rattle.std.specs.List.{range_with_len}
-use Rattle.std.proofs.lemmas.Bool.Decides.{nat_tests}
-use Rattle.std.proofs.lemmas.List.{same_lists, length-take, length-drop, get_or-take, get_or-drop, map-id, map-append}
-use Rattle.std.proofs.lemmas.List.Sums.{count_by-le-length, sum_by-append}
-use Rattle.std.proofs.lemmas.List.FromFn.{length-map-range_with_len, get_or-map-range_with_len}
-use Rattle.std.proofs.lemmas.Nat.{shr-shr, shr_le, shl-shr, mod-pow-add, mod_below, field_of, pow_pos, or_shifted, or_comm, mul-mod_first, pow-add}
-use Rattle.std.proofs.Math.Nat.{pow-le-pow_right, pow-suc, mul-mod_left, mod-eq_of_lt, add-mul-mod_self_left, mul_assoc, mul_comm}
-use Rattle.std.proofs.lemmas.Nat.Bits.{bit_at-lt}
-use Rattle.std.proofs.lemmas.Simd.{ones-mask_l, mask_l-lt}
-use Rattle.arrow_memory.specs.Sliced.{sliced}
-use Rattle.arrow_memory.specs.Words.{is_set, bits_in, low_bits, word_of, set_count}
+use Rattle.arrow_memory.proofs.Common.{◌≡◌, ℕ, zero, suc, ◌+◌, ◌-◌, ◌*◌, ◌/◌, ◌%◌, ◌^◌, ◌<◌, ◌≤◌, Bool, true, false, cond, List, [], ◌∷◌, ◌++◌, length, map, get_or, take, drop, refl, ap, sym, ◌∙◌, arith, lit<, slice_index, Fits, w64, zero-add, add-zero, dite, dec_le, count_ones, bit_or, bit_at, from_bool, range_with_len, nat_tests, same_lists, length-take, length-drop, get_or-take, get_or-drop, map-id, map-append, count_by-le-length, sum_by-append, length-map-range_with_len, get_or-map-range_with_len, shr-shr, shr_le, shl-shr, mod-pow-add, mod_below, field_of, pow_pos, or_shifted, or_comm, mul-mod_first, pow-add, pow-le-pow_right, pow-suc, mul-mod_left, mod-eq_of_lt, add-mul-mod_self_left, mul_assoc, mul_comm, bit_at-lt, ones-mask_l, mask_l-lt, sliced, is_set, bits_in, low_bits, word_of, set_count}
+use Rattle.std.specs.Prelude.{◌==◌}
 
 -- ---- lists of bits
 

@@ -1,6 +1,4 @@
-use Rattle.std.proofs.Common.{rules, ◌≡◌, ◌+◌, ◌-◌, ◌++◌, ◌∙◌, ap, drop, length, take, arith}
-use Rattle.std.proofs.Math.Seq.{take-append-add}
-use Rattle.std.proofs.lemmas.List.{take-take}
+use Rattle.arrow_memory.proofs.Common.{rules, ◌≡◌, ◌+◌, ◌-◌, ◌++◌, ◌∙◌, ap, drop, length, take, arith, take-append-add, take-take}
 use Rattle.arrow_memory.proofs.bytes.append_span.Goals as goal
 
 pub returns-then-block-capacity-clause-ok : goal.returns-then-block-capacity-clause-ok

@@ -1,5 +1,4 @@
-use Rattle.std.proofs.Common.{arith}
-use Rattle.std.proofs.lemmas.Int.{ints}
+use Rattle.arrow_memory.proofs.Common.{arith, ints}
 use Rattle.arrow_memory.proofs.OffsetLemmas.{number_at, rows_fit, rows_counted}
 use Rattle.arrow_memory.proofs.offset.append_rows.Goals as goal
 

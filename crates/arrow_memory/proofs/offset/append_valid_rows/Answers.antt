@@ -1,5 +1,4 @@
-use Rattle.std.proofs.Common.{◌+◌, ◌≤◌, map, unsigned_abs, ap, arith}
-use Rattle.std.proofs.lemmas.Int.{ints}
+use Rattle.arrow_memory.proofs.Common.{◌+◌, ◌≤◌, map, unsigned_abs, ap, arith, ints}
 use Rattle.arrow_memory.proofs.ValidLemmas.{word_items, word_ends}
 use Rattle.arrow_memory.proofs.offset.append_valid_rows.Goals as goal
 

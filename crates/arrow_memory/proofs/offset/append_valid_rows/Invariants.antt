@@ -1,7 +1,4 @@
-use Rattle.std.proofs.Common.{◌≡◌, pos, ◌+◌, ◌-◌, ◌≤◌, ◌≤ℤ◌, ◌++◌, map, unsigned_abs}
-use Rattle.std.specs.Vec.{vec_len, vec_capacity}
-use Rattle.arrow_memory.specs.Offsets.{valid_items, valid_ends}
-use Rattle.arrow_memory.specs.Sliced.{sliced}
+use Rattle.arrow_memory.proofs.Common.{◌≡◌, pos, ◌+◌, ◌-◌, ◌≤◌, ◌≤ℤ◌, ◌++◌, map, unsigned_abs, vec_len, vec_capacity, valid_items, valid_ends, sliced}
 use Rattle.arrow_memory.proofs.offset.append_valid_rows.Given as goal
 
 -- with the rows that are left, those so far are all

@@ -1,5 +1,4 @@
-use Rattle.std.proofs.Common.{pos, ◌↔◌, map, drop}
-use Rattle.arrow_memory.specs.Offsets.{RisesFrom}
+use Rattle.arrow_memory.proofs.Common.{pos, ◌↔◌, map, drop, RisesFrom}
 use Rattle.arrow_memory.proofs.offset.are_offsets.Given as goal
 
 -- all rise where those behind the last one seen rise from it

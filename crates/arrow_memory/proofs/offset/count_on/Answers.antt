@@ -1,7 +1,4 @@
-use Rattle.std.proofs.Common.{◌≡◌, pos, ◌+◌, ◌≤◌, length, map, take, drop, slice_index, unsigned_abs, ap, sym, ◌∙◌, arith}
-use Rattle.std.proofs.lemmas.Int.{ints}
-use Rattle.std.specs.List.{sum}
-use Rattle.std.proofs.lemmas.List.{drop_all, length-map, length-set, take_all, take_more_set}
+use Rattle.arrow_memory.proofs.Common.{◌≡◌, pos, ◌+◌, ◌≤◌, length, map, take, drop, slice_index, unsigned_abs, ap, sym, ◌∙◌, arith, ints, sum, drop_all, length-map, length-set, take_all, take_more_set}
 use Rattle.arrow_memory.proofs.LengthLemmas.{ends_done, ends_next, length_at, lengths_from, sum_from, total_next}
 use Rattle.arrow_memory.proofs.OffsetLemmas.{left_next, natural}
 use Rattle.arrow_memory.proofs.offset.count_on.Goals as goal

@@ -1,6 +1,4 @@
-use Rattle.std.proofs.Common.{◌≡◌, pos, ◌+◌, ◌≤ℤ◌, ◌++◌, length, map, take, drop, unsigned_abs}
-use Rattle.std.specs.List.{sum}
-use Rattle.arrow_memory.specs.Ends.{ends_from}
+use Rattle.arrow_memory.proofs.Common.{◌≡◌, pos, ◌+◌, ◌≤ℤ◌, ◌++◌, length, map, take, drop, unsigned_abs, sum, ends_from}
 use Rattle.arrow_memory.proofs.offset.count_on.Given as goal
 
 -- with the rows that are left, those so far are all

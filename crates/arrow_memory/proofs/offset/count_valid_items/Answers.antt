@@ -1,5 +1,4 @@
-use Rattle.std.proofs.Common.{◌+◌, ap, sym, arith}
-use Rattle.arrow_memory.specs.Offsets.{valid_items}
+use Rattle.arrow_memory.proofs.Common.{◌+◌, ap, sym, arith, valid_items}
 use Rattle.arrow_memory.proofs.ValidLemmas.{part_within, sliced-next}
 use Rattle.arrow_memory.proofs.offset.count_valid_items.Goals as goal
 

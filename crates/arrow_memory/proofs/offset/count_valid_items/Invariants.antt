@@ -1,6 +1,4 @@
-use Rattle.std.proofs.Common.{◌≡◌, ◌+◌, ◌-◌}
-use Rattle.arrow_memory.specs.Offsets.{valid_items}
-use Rattle.arrow_memory.specs.Sliced.{sliced}
+use Rattle.arrow_memory.proofs.Common.{◌≡◌, ◌+◌, ◌-◌, valid_items, sliced}
 use Rattle.arrow_memory.proofs.offset.count_valid_items.Given as goal
 
 -- with the rows that are left, those so far are all

@@ -1,4 +1,4 @@
-use Rattle.std.proofs.Common.{pos, ◌+ℤ◌, ◌-ℤ◌, ◌≤ℤ◌, ◌<◌, length, sym, ap, ◌∙◌, subst, arith}
+use Rattle.arrow_memory.proofs.Common.{pos, ◌+ℤ◌, ◌-ℤ◌, ◌≤ℤ◌, ◌<◌, length, sym, ap, ◌∙◌, subst, arith}
 use Rattle.arrow_memory.proofs.OffsetLemmas.{same_at, mapped_next, left_next}
 use Rattle.arrow_memory.proofs.offset.shift.Goals as goal
 

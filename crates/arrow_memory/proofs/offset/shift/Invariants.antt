@@ -1,4 +1,4 @@
-use Rattle.std.proofs.Common.{◌≡◌, ◌+ℤ◌, ◌-ℤ◌, map, take, drop}
+use Rattle.arrow_memory.proofs.Common.{◌≡◌, ◌+ℤ◌, ◌-ℤ◌, map, take, drop}
 use Rattle.arrow_memory.proofs.offset.shift.Given as goal
 
 -- the offsets so far are counted on, and the others as they were

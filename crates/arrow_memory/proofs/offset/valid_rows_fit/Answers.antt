@@ -1,5 +1,4 @@
-use Rattle.std.proofs.Common.{◌≡◌, ◌+◌, ◌-◌, ◌≤◌, unsigned_abs, refl, sym, ◌∙◌, arith}
-use Rattle.std.proofs.lemmas.Int.{ints}
+use Rattle.arrow_memory.proofs.Common.{◌≡◌, ◌+◌, ◌-◌, ◌≤◌, unsigned_abs, refl, sym, ◌∙◌, arith, ints}
 use Rattle.arrow_memory.proofs.OffsetLemmas.{natural}
 use Rattle.arrow_memory.proofs.ValidLemmas.{part_within}
 use Rattle.arrow_memory.proofs.offset.valid_rows_fit.Goals as goal

@@ -1,6 +1,4 @@
-use Rattle.std.proofs.Common.{◌≡◌, ◌+◌, ◌<◌, length, take, ◌∙◌, arith}
-use Rattle.std.proofs.lemmas.Int.{ints}
-use Rattle.std.proofs.lemmas.List.{length-set, take_more_set}
+use Rattle.arrow_memory.proofs.Common.{◌≡◌, ◌+◌, ◌<◌, length, take, ◌∙◌, arith, ints, length-set, take_more_set}
 use Rattle.arrow_memory.proofs.LengthLemmas.{length_next}
 use Rattle.arrow_memory.proofs.OffsetLemmas.{number_at, offsets_rise}
 use Rattle.arrow_memory.proofs.offset.write_some_lengths.Goals as goal

@@ -1,5 +1,4 @@
-use Rattle.std.proofs.Common.{◌≡◌, pos, ◌+◌, length, map, take}
-use Rattle.arrow_memory.specs.Ends.{word_lengths}
+use Rattle.arrow_memory.proofs.Common.{◌≡◌, pos, ◌+◌, length, map, take, word_lengths}
 use Rattle.arrow_memory.proofs.offset.write_some_lengths.Given as goal
 
 -- the lengths of the rows so far

@@ -1,6 +1,4 @@
-use Rattle.std.proofs.Common.{pos, ◌+◌, length, map, unsigned_abs, ap, sym, ◌∙◌, arith}
-use Rattle.std.specs.List.{sum}
-use Rattle.arrow_memory.specs.Ends.{ends_from, word_lengths}
+use Rattle.arrow_memory.proofs.Common.{pos, ◌+◌, length, map, unsigned_abs, ap, sym, ◌∙◌, arith, sum, ends_from, word_lengths}
 use Rattle.arrow_memory.proofs.LengthLemmas.{word_ends_by_lengths, word_items_by_lengths}
 use Rattle.arrow_memory.proofs.OffsetLemmas.{as_seen}
 use Rattle.arrow_memory.proofs.offset.write_word_of_rows.Goals as goal

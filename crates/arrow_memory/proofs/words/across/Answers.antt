@@ -1,5 +1,4 @@
-use Rattle.std.proofs.Common.{◌/◌, ◌^◌, ap}
-use Rattle.std.specs.Prelude.{bit_or}
+use Rattle.arrow_memory.proofs.Common.{◌/◌, ◌^◌, ap, bit_or}
 use Rattle.arrow_memory.proofs.WordLemmas.{shifted_twice}
 use Rattle.arrow_memory.proofs.words.across.Goals as goal
 

@@ -1,4 +1,4 @@
-use Rattle.arrow_memory.specs.Words.{bits_in}
+use Rattle.arrow_memory.proofs.Common.{bits_in}
 use Rattle.arrow_memory.proofs.WordLemmas.{length-bits_in}
 use Rattle.arrow_memory.proofs.words.append_bits.Goals as goal
 

@@ -1,6 +1,4 @@
-use Rattle.std.proofs.Common.{◌≡◌, ◌+◌, ◌-◌, ◌*◌, ◌/◌, ◌%◌, length, replicate, ap, sym, ◌∙◌, subst, arith}
-use Rattle.std.proofs.lemmas.List.{length-replicate, replicate-append-replicate}
-use Rattle.arrow_memory.specs.Words.{AppendsBits}
+use Rattle.arrow_memory.proofs.Common.{◌≡◌, ◌+◌, ◌-◌, ◌*◌, ◌/◌, ◌%◌, length, replicate, ap, sym, ◌∙◌, subst, arith, length-replicate, replicate-append-replicate, AppendsBits}
 use Rattle.arrow_memory.proofs.AppendLemmas.{appends_both, word_appends}
 use Rattle.arrow_memory.proofs.words.append_equal.Goals as goal
 

@@ -1,6 +1,4 @@
-use Rattle.std.proofs.Common.{◌≡◌, ◌+◌, ◌-◌, ◌*◌, ◌≤◌, length, replicate, rules}
-use Rattle.std.specs.Vec.{vec_len}
-use Rattle.std.proofs.lemmas.List.{take_all}
+use Rattle.arrow_memory.proofs.Common.{◌≡◌, ◌+◌, ◌-◌, ◌*◌, ◌≤◌, length, replicate, rules, vec_len, take_all}
 use Rattle.arrow_memory.proofs.AppendLemmas.{reads_join, reads_equal}
 use Rattle.arrow_memory.proofs.words.append_equal_words.Goals as goal
 

@@ -1,5 +1,4 @@
-use Rattle.std.proofs.Common.{◌≡◌, ◌+◌, ◌-◌, ◌*◌, ◌/◌, ◌%◌, length, ap, sym, ◌∙◌, subst, arith}
-use Rattle.arrow_memory.specs.Words.{bits_in, AppendsBits}
+use Rattle.arrow_memory.proofs.Common.{◌≡◌, ◌+◌, ◌-◌, ◌*◌, ◌/◌, ◌%◌, length, ap, sym, ◌∙◌, subst, arith, bits_in, AppendsBits}
 use Rattle.arrow_memory.proofs.AppendLemmas.{appends_both, word_appends}
 use Rattle.arrow_memory.proofs.WordLemmas.{length-bits_in, bits_in-add}
 use Rattle.arrow_memory.proofs.words.append_more.Goals as goal

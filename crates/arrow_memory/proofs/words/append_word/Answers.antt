@@ -1,6 +1,4 @@
-use Rattle.std.proofs.Common.{◌≡◌, ◌+◌, ◌-◌, ◌*◌, ◌/◌, ◌%◌, ◌^◌, ◌<◌, ◌≤◌, length, min, ap, ◌∙◌, arith, rules}
-use Rattle.std.specs.Prelude.{bit_or, set}
-use Rattle.std.proofs.lemmas.Grind.{get_or_default_zero}
+use Rattle.arrow_memory.proofs.Common.{◌≡◌, ◌+◌, ◌-◌, ◌*◌, ◌/◌, ◌%◌, ◌^◌, ◌<◌, ◌≤◌, length, min, ap, ◌∙◌, arith, rules, bit_or, set, get_or_default_zero}
 use Rattle.arrow_memory.proofs.AppendLemmas.{no_bits, one_word, behind_whole, over_end}
 use Rattle.arrow_memory.proofs.words.append_word.Goals as goal
 use Rattle.arrow_memory.proofs.words.append_word.Goals.{then-used-gt0, else-used-gt0}

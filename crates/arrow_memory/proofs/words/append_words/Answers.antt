@@ -1,6 +1,4 @@
-use Rattle.std.proofs.Common.{◌≡◌, ◌+◌, ◌-◌, ◌*◌, ◌/◌, ◌≤◌, ◌++◌, ◌∙◌, drop, take, length, replicate, arith, rules}
-use borrow.Rule.Slice.PartMut.{post_of}
-use Rattle.arrow_memory.specs.Words.{bits_in}
+use Rattle.arrow_memory.proofs.Common.{◌≡◌, ◌+◌, ◌-◌, ◌*◌, ◌/◌, ◌≤◌, ◌++◌, ◌∙◌, drop, take, length, replicate, arith, rules, post_of, bits_in}
 use Rattle.arrow_memory.proofs.AppendLemmas.{reads_bits, reads_join, reads_part, part_written, written}
 use Rattle.arrow_memory.proofs.words.append_words.Goals as goal
 

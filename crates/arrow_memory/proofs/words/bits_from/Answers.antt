@@ -1,5 +1,4 @@
-use Rattle.std.proofs.Common.{◌+◌, ◌-◌, ◌/◌, ◌%◌, ◌^◌, ◌<◌, ap, sym, ◌∙◌, arith, slice_index}
-use Rattle.arrow_memory.specs.Words.{bits_in, word_of}
+use Rattle.arrow_memory.proofs.Common.{◌+◌, ◌-◌, ◌/◌, ◌%◌, ◌^◌, ◌<◌, ap, sym, ◌∙◌, arith, slice_index, bits_in, word_of}
 use Rattle.arrow_memory.proofs.WordLemmas.{word_of-ends, word_of-low_bits}
 use Rattle.arrow_memory.proofs.words.bits_from.Goals as goal
 

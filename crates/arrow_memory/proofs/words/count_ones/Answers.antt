@@ -1,5 +1,4 @@
-use Rattle.std.proofs.Common.{◌≡◌, ◌+◌, ◌-◌, ◌*◌, ◌/◌, ◌%◌, drop, arith}
-use Rattle.std.proofs.lemmas.List.{length-take, length-drop}
+use Rattle.arrow_memory.proofs.Common.{◌≡◌, ◌+◌, ◌-◌, ◌*◌, ◌/◌, ◌%◌, drop, arith, length-take, length-drop}
 use Rattle.arrow_memory.proofs.WordLemmas.{set_count-le, set_count-more, set_count-between}
 use Rattle.arrow_memory.proofs.words.count_ones.Goals as goal
 

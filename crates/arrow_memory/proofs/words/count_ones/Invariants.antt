@@ -1,5 +1,4 @@
-use Rattle.std.proofs.Common.{◌≡◌, ◌+◌, ◌*◌, ◌/◌}
-use Rattle.arrow_memory.specs.Words.{bits_in, set_count}
+use Rattle.arrow_memory.proofs.Common.{◌≡◌, ◌+◌, ◌*◌, ◌/◌, bits_in, set_count}
 use Rattle.arrow_memory.proofs.words.count_ones.Given as goal
 
 -- the words so far are counted

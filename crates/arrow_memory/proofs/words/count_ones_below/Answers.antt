@@ -1,5 +1,4 @@
-use Rattle.std.proofs.Common.{◌<◌, ◌%◌, arith, sym}
-use Rattle.std.proofs.lemmas.Nat.{one_shl, and_mask}
+use Rattle.arrow_memory.proofs.Common.{◌<◌, ◌%◌, arith, sym, one_shl, and_mask}
 use Rattle.arrow_memory.proofs.WordLemmas.{set_count-below}
 use Rattle.arrow_memory.proofs.words.count_ones_below.Goals as goal
 

@@ -1,6 +1,4 @@
-use Rattle.std.proofs.Common.{◌≡◌, true, false, replicate, ap, sym, ◌∙◌, rules}
-use Rattle.std.proofs.lemmas.Nat.{one_shl}
-use Rattle.arrow_memory.specs.Words.{word_of}
+use Rattle.arrow_memory.proofs.Common.{◌≡◌, true, false, replicate, ap, sym, ◌∙◌, rules, one_shl, word_of}
 use Rattle.arrow_memory.proofs.MutableLemmas.{word_of-ones, word_of-zeros}
 use Rattle.arrow_memory.proofs.words.equal_bits.Goals as goal
 

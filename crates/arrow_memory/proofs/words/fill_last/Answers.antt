@@ -1,5 +1,4 @@
-use Rattle.std.proofs.Common.{◌/◌, ◌<◌, length, ◌∙◌, arith}
-use Rattle.std.proofs.lemmas.Grind.{get_or_default_zero}
+use Rattle.arrow_memory.proofs.Common.{◌/◌, ◌<◌, length, ◌∙◌, arith, get_or_default_zero}
 use Rattle.arrow_memory.proofs.AppendLemmas.{one_word}
 use Rattle.arrow_memory.proofs.words.fill_last.Goals as goal
 

@@ -1,6 +1,4 @@
-use Rattle.std.proofs.Common.{◌∙◌, ap, subst, sym, min, w64}
-use Rattle.std.specs.Int.{trailing_zeros}
-use Rattle.arrow_memory.specs.Words.{IsLowRun}
+use Rattle.arrow_memory.proofs.Common.{◌∙◌, ap, subst, sym, min, w64, trailing_zeros, IsLowRun}
 use Rattle.arrow_memory.proofs.RunLemmas.{low_ones, low_zeros}
 use Rattle.arrow_memory.proofs.words.low_run.Goals as goal
 use Rattle.arrow_memory.proofs.words.low_run.Goals.{then-bit, else-bit}

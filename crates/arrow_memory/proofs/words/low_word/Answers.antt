@@ -1,6 +1,4 @@
-use Rattle.std.proofs.Common.{◌≡◌, ◌%◌, ◌^◌, ap, sym, ◌∙◌, arith}
-use Rattle.std.proofs.lemmas.Nat.{one_shl, and_mask}
-use Rattle.arrow_memory.specs.Words.{low_bits, word_of}
+use Rattle.arrow_memory.proofs.Common.{◌≡◌, ◌%◌, ◌^◌, ap, sym, ◌∙◌, arith, one_shl, and_mask, low_bits, word_of}
 use Rattle.arrow_memory.proofs.WordLemmas.{word_of-low_bits}
 use Rattle.arrow_memory.proofs.words.low_word.Goals as goal
 

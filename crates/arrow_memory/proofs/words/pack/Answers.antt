@@ -1,6 +1,4 @@
-use Rattle.std.proofs.Common.{◌<◌, ◌++◌, ◌∷◌, [], Bool, List, length, ap, ◌∙◌, append_assoc, arith, length-append}
-use Rattle.std.specs.Iterator.Adapters.{rev_source}
-use Rattle.std.specs.Slice.Iter.{iter_rest}
+use Rattle.arrow_memory.proofs.Common.{◌<◌, ◌++◌, ◌∷◌, [], Bool, List, length, ap, ◌∙◌, append_assoc, arith, length-append, rev_source, iter_rest}
 use Rattle.arrow_memory.proofs.WordLemmas.{pushed_below}
 use Rattle.arrow_memory.proofs.words.pack.Goals as goal
 

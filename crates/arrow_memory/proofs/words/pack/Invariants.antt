@@ -1,7 +1,4 @@
-use Rattle.std.proofs.Common.{◌≡◌, ◌++◌, Bool, List}
-use Rattle.std.specs.Iterator.Adapters.{rev_source}
-use Rattle.std.specs.Slice.Iter.{iter_rest}
-use Rattle.arrow_memory.specs.Words.{word_of}
+use Rattle.arrow_memory.proofs.Common.{◌≡◌, ◌++◌, Bool, List, rev_source, iter_rest, word_of}
 use Rattle.arrow_memory.proofs.words.pack.Given as goal
 
 -- the bits that are packed stand behind those that are left

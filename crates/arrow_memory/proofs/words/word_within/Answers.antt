@@ -1,4 +1,4 @@
-use Rattle.std.proofs.Common.{◌/◌}
+use Rattle.arrow_memory.proofs.Common.{◌/◌}
 use Rattle.arrow_memory.proofs.WordLemmas.{word_of-aligned, word_of-across}
 use Rattle.arrow_memory.proofs.words.word_within.Goals as goal
 

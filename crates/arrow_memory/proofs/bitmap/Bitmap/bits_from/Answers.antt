@@ -1,6 +1,4 @@
-use Rattle.std.proofs.Common.{◌+◌, ◌≤◌, ap, sym, length, ◌∙◌, arith}
-use Rattle.arrow_memory.specs.Sliced.{sliced}
-use Rattle.arrow_memory.specs.Words.{word_of}
+use Rattle.arrow_memory.proofs.Common.{◌+◌, ◌≤◌, ap, sym, length, ◌∙◌, arith, sliced, word_of}
 use Rattle.arrow_memory.proofs.WordLemmas.{length-bits_in, sliced-bits_in}
 use Rattle.arrow_memory.proofs.bitmap.Bitmap.bits_from.Goals as goal
 

@@ -1,5 +1,4 @@
-use Rattle.std.proofs.Common.{rules}
-use Rattle.std.proofs.lemmas.Result.{IfOk-weaker}
+use Rattle.arrow_memory.proofs.Common.{rules, IfOk-weaker}
 use Rattle.arrow_memory.proofs.GatherLemmas.{rows_by_words}
 use Rattle.arrow_memory.proofs.bitmap.Bitmap.collect_bool.Goals as goal
 

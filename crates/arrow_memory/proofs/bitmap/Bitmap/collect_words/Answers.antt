@@ -1,5 +1,4 @@
-use Rattle.std.proofs.Common.{arith}
-use Rattle.std.proofs.lemmas.Result.{IfOk-weaker}
+use Rattle.arrow_memory.proofs.Common.{arith, IfOk-weaker}
 use Rattle.arrow_memory.proofs.GatherLemmas.{answers_more}
 use Rattle.arrow_memory.proofs.bitmap.Bitmap.collect_words.Goals as goal
 

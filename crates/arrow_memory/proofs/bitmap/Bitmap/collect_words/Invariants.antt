@@ -1,5 +1,4 @@
-use Rattle.std.proofs.Common.{◌≤◌}
-use Rattle.std.specs.Vec.{vec_capacity}
+use Rattle.arrow_memory.proofs.Common.{◌≤◌, vec_capacity}
 use Rattle.arrow_memory.proofs.GatherLemmas.{AnswersUpTo}
 use Rattle.arrow_memory.proofs.bitmap.Bitmap.collect_words.Given as goal
 

@@ -1,7 +1,4 @@
-use Rattle.std.proofs.Common.{◌≡◌, ℕ, ◌+◌, ◌<◌, ◌++◌, false, length, get_or, take, drop, ap, sym, ◌∙◌, arith}
-use Rattle.std.proofs.lemmas.List.{take_at}
-use Rattle.arrow_memory.specs.Bits.{paired}
-use Rattle.arrow_memory.specs.Words.{bits_in, is_set}
+use Rattle.arrow_memory.proofs.Common.{◌≡◌, ℕ, ◌+◌, ◌<◌, ◌++◌, false, length, get_or, take, drop, ap, sym, ◌∙◌, arith, take_at, paired, bits_in, is_set}
 use Rattle.arrow_memory.proofs.LogicLemmas.{bits_in-paired}
 use Rattle.arrow_memory.proofs.WordLemmas.{length-bits_in, get_or-bits_in}
 use Rattle.arrow_memory.proofs.bitmap.Bitmap.combined.Goals as goal

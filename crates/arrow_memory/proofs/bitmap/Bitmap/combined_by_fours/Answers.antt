@@ -1,7 +1,4 @@
-use Rattle.std.proofs.Common.{◌≡◌, ℕ, ◌<◌, ◌++◌, false, length, get_or, take, drop, ap, ◌∙◌, arith}
-use Rattle.std.proofs.lemmas.List.{take_at}
-use Rattle.arrow_memory.specs.Bits.{by_fours}
-use Rattle.arrow_memory.specs.Words.{bits_in, is_set}
+use Rattle.arrow_memory.proofs.Common.{◌≡◌, ℕ, ◌<◌, ◌++◌, false, length, get_or, take, drop, ap, ◌∙◌, arith, take_at, by_fours, bits_in, is_set}
 use Rattle.arrow_memory.proofs.FoursLemmas.{bit_behind, bits_in-by_fours}
 use Rattle.arrow_memory.proofs.WordLemmas.{length-bits_in}
 use Rattle.arrow_memory.proofs.bitmap.Bitmap.combined_by_fours.Goals as goal

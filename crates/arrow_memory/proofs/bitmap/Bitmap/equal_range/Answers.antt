@@ -1,5 +1,4 @@
-use Rattle.std.proofs.Common.{◌+◌, ◌≤◌, ap, sym, ◌∙◌, arith}
-use Rattle.arrow_memory.specs.Words.{word_of}
+use Rattle.arrow_memory.proofs.Common.{◌+◌, ◌≤◌, ap, sym, ◌∙◌, arith, word_of}
 use Rattle.arrow_memory.proofs.BitmapLemmas.{same_more}
 use Rattle.arrow_memory.proofs.SlicedLemmas.{same_within}
 use Rattle.arrow_memory.proofs.bitmap.Bitmap.equal_range.Goals as goal

@@ -1,5 +1,4 @@
-use Rattle.std.proofs.Common.{◌≡◌, ◌-◌, ◌≤◌}
-use Rattle.arrow_memory.specs.Sliced.{sliced}
+use Rattle.arrow_memory.proofs.Common.{◌≡◌, ◌-◌, ◌≤◌, sliced}
 use Rattle.arrow_memory.proofs.bitmap.Bitmap.equal_range.Given as goal
 
 -- the bits so far are the same

@@ -1,6 +1,4 @@
-use Rattle.std.proofs.Common.{◌≡◌, ◌+◌, ◌*◌, length, ap, ◌∙◌, min, arith}
-use Rattle.std.proofs.lemmas.List.{length_push, length-drop}
-use Rattle.std.specs.Slice.Iter.{chunks_rest}
+use Rattle.arrow_memory.proofs.Common.{◌≡◌, ◌+◌, ◌*◌, length, ap, ◌∙◌, min, arith, length_push, length-drop, chunks_rest}
 use Rattle.arrow_memory.proofs.BitmapLemmas.{Packs-more, drop-more, bits_in-packed}
 use Rattle.arrow_memory.proofs.bitmap.Bitmap.from_bools.Goals as goal
 

@@ -1,5 +1,4 @@
-use Rattle.std.proofs.Common.{◌≡◌, ◌*◌, length, drop}
-use Rattle.std.specs.Slice.Iter.{chunks_rest, chunks_size}
+use Rattle.arrow_memory.proofs.Common.{◌≡◌, ◌*◌, length, drop, chunks_rest, chunks_size}
 use Rattle.arrow_memory.proofs.BitmapLemmas.{Packs}
 use Rattle.arrow_memory.proofs.bitmap.Bitmap.from_bools.Given as goal
 

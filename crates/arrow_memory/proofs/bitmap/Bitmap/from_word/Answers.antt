@@ -1,5 +1,4 @@
-use Rattle.std.proofs.Common.{◌≡◌, ◌∷◌, [], rules, ap, ◌∙◌}
-use Rattle.arrow_memory.specs.Words.{bits_in, low_bits}
+use Rattle.arrow_memory.proofs.Common.{◌≡◌, ◌∷◌, [], rules, ap, ◌∙◌, bits_in, low_bits}
 use Rattle.arrow_memory.proofs.MaskLemmas.{low_bits_in}
 use Rattle.arrow_memory.proofs.bitmap.Bitmap.from_word.Goals as goal
 

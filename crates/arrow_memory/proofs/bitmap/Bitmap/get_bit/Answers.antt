@@ -1,5 +1,4 @@
-use Rattle.std.proofs.Common.{◌+◌, ◌/◌, ◌<◌, ap, length, arith}
-use Rattle.std.proofs.lemmas.List.{get_or_read}
+use Rattle.arrow_memory.proofs.Common.{◌+◌, ◌/◌, ◌<◌, ap, length, arith, get_or_read}
 use Rattle.arrow_memory.proofs.BitmapLemmas.{slice_get-bits_in}
 use Rattle.arrow_memory.proofs.WordLemmas.{length-bits_in}
 use Rattle.arrow_memory.proofs.bitmap.Bitmap.get_bit.Goals as goal

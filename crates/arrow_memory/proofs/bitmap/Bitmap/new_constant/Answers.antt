@@ -1,4 +1,4 @@
-use Rattle.std.proofs.Common.{◌≡◌, replicate, arith, rules}
+use Rattle.arrow_memory.proofs.Common.{◌≡◌, replicate, arith, rules}
 use Rattle.arrow_memory.proofs.BitmapLemmas.{bits_in-constant}
 use Rattle.arrow_memory.proofs.bitmap.Bitmap.new_constant.Goals as goal
 

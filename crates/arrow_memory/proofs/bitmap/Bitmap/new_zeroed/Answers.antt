@@ -1,4 +1,4 @@
-use Rattle.std.proofs.Common.{◌≡◌, replicate, rules}
+use Rattle.arrow_memory.proofs.Common.{◌≡◌, replicate, rules}
 use Rattle.arrow_memory.proofs.BitmapLemmas.{bits_in-zeros, slice_index-zeros}
 use Rattle.arrow_memory.proofs.bitmap.Bitmap.new_zeroed.Goals as goal
 

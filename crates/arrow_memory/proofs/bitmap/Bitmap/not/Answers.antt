@@ -1,6 +1,4 @@
-use Rattle.std.proofs.Common.{◌≡◌, ℕ, ◌<◌, ◌++◌, false, not, map, length, get_or, take, drop, ap, ◌∙◌, arith}
-use Rattle.std.proofs.lemmas.List.{take_at}
-use Rattle.arrow_memory.specs.Words.{bits_in, is_set}
+use Rattle.arrow_memory.proofs.Common.{◌≡◌, ℕ, ◌<◌, ◌++◌, false, not, map, length, get_or, take, drop, ap, ◌∙◌, arith, take_at, bits_in, is_set}
 use Rattle.arrow_memory.proofs.LogicLemmas.{bits_in-turned}
 use Rattle.arrow_memory.proofs.bitmap.Bitmap.not.Goals as goal
 

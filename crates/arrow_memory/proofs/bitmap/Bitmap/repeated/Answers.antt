@@ -1,7 +1,5 @@
-use Rattle.std.proofs.Common.{ℕ, ◌≡◌, ◌+◌, ◌*◌, ◌++◌, length, replicate, Bool, List, true, false, ap, sym, ◌∙◌, arith}
-use Rattle.std.specs.List.{flat_map}
-use Rattle.std.proofs.Math.Nat.{add-mul}
-use Rattle.std.proofs.lemmas.List.{append_assoc, length-append, length-replicate}
+use Rattle.arrow_memory.proofs.Common.{ℕ, ◌≡◌, ◌+◌, ◌*◌, ◌++◌, length, replicate, Bool, List, true, false, ap, sym, ◌∙◌, arith, flat_map, add-mul, length-replicate}
+use Rattle.std.proofs.lemmas.List.{append_assoc, length-append}
 use Rattle.arrow_memory.proofs.RunLemmas.{repeated_count, repeated_runs}
 use Rattle.arrow_memory.proofs.bitmap.Bitmap.repeated.Goals as goal
 

@@ -1,6 +1,4 @@
-use Rattle.std.proofs.Common.{◌-◌, ◌≡◌, ◌+◌, ◌*◌, ◌++◌, length, replicate}
-use Rattle.std.specs.List.{flat_map}
-use Rattle.arrow_memory.specs.Sliced.{sliced}
+use Rattle.arrow_memory.proofs.Common.{◌-◌, ◌≡◌, ◌+◌, ◌*◌, ◌++◌, length, replicate, flat_map, sliced}
 use Rattle.arrow_memory.proofs.bitmap.Bitmap.repeated.Given as goal
 
 -- those that are left, repeated, come behind those that are there

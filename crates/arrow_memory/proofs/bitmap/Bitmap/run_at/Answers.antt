@@ -1,4 +1,4 @@
-use Rattle.std.proofs.Common.{◌≡◌, ◌+◌, ◌≤◌, subst, arith}
+use Rattle.arrow_memory.proofs.Common.{◌≡◌, ◌+◌, ◌≤◌, subst, arith}
 use Rattle.arrow_memory.proofs.RunLemmas.{AreAlike, alike_are, alike_more, ends_there, some_alike}
 use Rattle.arrow_memory.proofs.bitmap.Bitmap.run_at.Goals as goal
 

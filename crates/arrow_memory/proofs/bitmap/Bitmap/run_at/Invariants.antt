@@ -1,4 +1,4 @@
-use Rattle.std.proofs.Common.{◌-◌, ◌≤◌}
+use Rattle.arrow_memory.proofs.Common.{◌-◌, ◌≤◌}
 use Rattle.arrow_memory.proofs.RunLemmas.{AreAlike}
 use Rattle.arrow_memory.proofs.bitmap.Bitmap.run_at.Given as goal
 

@@ -1,6 +1,4 @@
-use Rattle.std.proofs.Common.{◌+◌, ◌≤◌, ap, sym, length, ◌∙◌, arith}
-use Rattle.arrow_memory.specs.Sliced.{sliced}
-use Rattle.arrow_memory.specs.Words.{bits_in}
+use Rattle.arrow_memory.proofs.Common.{◌+◌, ◌≤◌, ap, sym, length, ◌∙◌, arith, sliced, bits_in}
 use Rattle.arrow_memory.proofs.WordLemmas.{length-bits_in, sliced-bits_in}
 use Rattle.arrow_memory.proofs.bitmap.Bitmap.runs.Goals as goal
 

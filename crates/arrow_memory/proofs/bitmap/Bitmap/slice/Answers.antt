@@ -1,5 +1,4 @@
-use Rattle.std.proofs.Common.{sym, ap, ◌∙◌, ◌+◌, ◌≤◌, length, arith}
-use Rattle.arrow_memory.specs.Sliced.{sliced}
+use Rattle.arrow_memory.proofs.Common.{sym, ap, ◌∙◌, ◌+◌, ◌≤◌, length, arith, sliced}
 use Rattle.arrow_memory.proofs.WordLemmas.{length-bits_in, sliced-bits_in}
 use Rattle.arrow_memory.proofs.bitmap.Bitmap.slice.Goals as goal
 

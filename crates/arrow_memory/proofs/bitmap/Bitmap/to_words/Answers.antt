@@ -1,7 +1,4 @@
-use Rattle.std.proofs.Common.{◌≡◌, [], sym, refl, subst, arith}
-use Rattle.std.proofs.lemmas.List.{take_all}
-use Rattle.arrow_memory.specs.Sliced.{sliced}
-use Rattle.arrow_memory.specs.Words.{Reads}
+use Rattle.arrow_memory.proofs.Common.{◌≡◌, [], sym, refl, subst, arith, take_all, sliced, Reads}
 use Rattle.arrow_memory.proofs.AppendLemmas.{reads_none}
 use Rattle.arrow_memory.proofs.bitmap.Bitmap.to_words.Goals as goal
 

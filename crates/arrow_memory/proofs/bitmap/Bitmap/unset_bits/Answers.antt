@@ -1,4 +1,4 @@
-use Rattle.std.proofs.Common.{ap, ◌∙◌}
+use Rattle.arrow_memory.proofs.Common.{ap, ◌∙◌}
 use Rattle.arrow_memory.proofs.BitmapLemmas.{unset_count}
 use Rattle.arrow_memory.proofs.bitmap.Bitmap.unset_bits.Goals as goal
 

@@ -1,6 +1,4 @@
-use Rattle.std.proofs.Common.{◌+◌, ◌*◌, ◌≤◌, ap, sym, ◌∙◌, arith}
-use Rattle.arrow_memory.specs.Sliced.{sliced}
-use Rattle.arrow_memory.specs.Words.{word_of}
+use Rattle.arrow_memory.proofs.Common.{◌+◌, ◌*◌, ◌≤◌, ap, sym, ◌∙◌, arith, sliced, word_of}
 use Rattle.arrow_memory.proofs.BitmapLemmas.{bit_of-word}
 use Rattle.arrow_memory.proofs.WordLemmas.{sliced-bits_in}
 use Rattle.arrow_memory.proofs.bitmap.Bitmap.word.Goals as goal

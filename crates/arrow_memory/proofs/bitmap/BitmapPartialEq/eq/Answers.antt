@@ -1,4 +1,4 @@
-use Rattle.std.proofs.Common.{sym, ◌∙◌}
+use Rattle.arrow_memory.proofs.Common.{sym, ◌∙◌}
 use Rattle.arrow_memory.proofs.BitmapLemmas.{all_decide}
 use Rattle.arrow_memory.proofs.bitmap.BitmapPartialEq.eq.Goals as goal
 

@@ -1,7 +1,5 @@
-use Rattle.std.proofs.Common.{◌%◌, ◌<◌, ap, sym, ◌∙◌, slice_index, not, length, arith}
+use Rattle.arrow_memory.proofs.Common.{◌%◌, ◌<◌, ap, sym, ◌∙◌, slice_index, not, length, arith, bit_at, length-set}
 use Rattle.std.specs.Prelude.{◌==◌}
-use Rattle.std.specs.Int.{bit_at}
-use Rattle.std.proofs.lemmas.List.{length-set}
 use Rattle.arrow_memory.proofs.LogicLemmas.{gives_more}
 use Rattle.arrow_memory.proofs.bitmap.bitmap_ops.turn.Goals as goal
 

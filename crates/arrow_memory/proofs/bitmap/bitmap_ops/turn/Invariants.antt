@@ -1,4 +1,4 @@
-use Rattle.std.proofs.Common.{◌≡◌, length, not}
+use Rattle.arrow_memory.proofs.Common.{◌≡◌, length, not}
 use Rattle.arrow_memory.proofs.LogicLemmas.{GivesUpTo}
 use Rattle.arrow_memory.proofs.bitmap.bitmap_ops.turn.Given as goal
 

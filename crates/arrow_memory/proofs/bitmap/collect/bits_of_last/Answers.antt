@@ -1,4 +1,4 @@
-use Rattle.std.proofs.Common.{arith}
+use Rattle.arrow_memory.proofs.Common.{arith}
 use Rattle.arrow_memory.proofs.GatherLemmas.{gathers_all, gathers_none, gathers_more}
 use Rattle.arrow_memory.proofs.bitmap.collect.bits_of_last.Goals as goal
 

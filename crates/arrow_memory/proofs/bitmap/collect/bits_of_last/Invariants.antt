@@ -1,4 +1,4 @@
-use Rattle.arrow_memory.specs.Gathered.{GathersBits}
+use Rattle.arrow_memory.proofs.Common.{GathersBits}
 use Rattle.arrow_memory.proofs.bitmap.collect.bits_of_last.Given as goal
 
 -- the word holds the bits so far

@@ -1,4 +1,4 @@
-use Rattle.std.proofs.Common.{arith}
+use Rattle.arrow_memory.proofs.Common.{arith}
 use Rattle.arrow_memory.proofs.GatherLemmas.{gathers_all, gathers_none, gathers_half}
 use Rattle.arrow_memory.proofs.bitmap.collect.half_of_rows.Goals as goal
 

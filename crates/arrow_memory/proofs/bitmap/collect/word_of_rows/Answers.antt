@@ -1,4 +1,4 @@
-use Rattle.std.proofs.Common.{◌-◌, ◌*◌, arith, min}
+use Rattle.arrow_memory.proofs.Common.{◌-◌, ◌*◌, arith, min}
 use Rattle.arrow_memory.proofs.GatherLemmas.{gathers_all, gathers_both}
 use Rattle.arrow_memory.proofs.bitmap.collect.word_of_rows.Goals as goal
 

@@ -1,4 +1,4 @@
-use Rattle.std.proofs.Common.{◌&&◌}
+use Rattle.arrow_memory.proofs.Common.{◌&&◌}
 use Rattle.arrow_memory.proofs.MaskLemmas.{both_of_words}
 use Rattle.arrow_memory.proofs.bitmap.mask.both_set.Goals as goal
 

@@ -1,4 +1,4 @@
-use Rattle.std.proofs.Common.{◌-◌, min, arith}
+use Rattle.arrow_memory.proofs.Common.{◌-◌, min, arith}
 use Rattle.arrow_memory.proofs.MaskLemmas.{answered_word}
 use Rattle.arrow_memory.proofs.bitmap.mask.first_word.Goals as goal
 

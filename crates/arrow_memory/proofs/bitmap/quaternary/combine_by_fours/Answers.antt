@@ -1,5 +1,4 @@
-use Rattle.std.proofs.Common.{◌≡◌, ◌<◌, ◌∙◌, subst, length, arith}
-use Rattle.std.proofs.lemmas.List.{length-set}
+use Rattle.arrow_memory.proofs.Common.{◌≡◌, ◌<◌, ◌∙◌, subst, length, arith, length-set}
 use Rattle.arrow_memory.proofs.FoursLemmas.{GivesFoursUpTo, fours_more}
 use Rattle.arrow_memory.proofs.bitmap.quaternary.combine_by_fours.Goals as goal
 

@@ -1,4 +1,4 @@
-use Rattle.std.proofs.Common.{◌≡◌, length}
+use Rattle.arrow_memory.proofs.Common.{◌≡◌, length}
 use Rattle.arrow_memory.proofs.FoursLemmas.{GivesFoursUpTo}
 use Rattle.arrow_memory.proofs.bitmap.quaternary.combine_by_fours.Given as goal
 

@@ -1,4 +1,4 @@
-use Rattle.std.proofs.Common.{◌≡◌, ◌+◌, ◌*◌, ◌/◌, ◌%◌, ◌∙◌, arith}
+use Rattle.arrow_memory.proofs.Common.{◌≡◌, ◌+◌, ◌*◌, ◌/◌, ◌%◌, ◌∙◌, arith}
 use Rattle.arrow_memory.proofs.WordLemmas.{word_of-across}
 use Rattle.arrow_memory.proofs.bitmap.quaternary.word_before_last.Goals as goal
 

@@ -1,6 +1,5 @@
-use Rattle.std.proofs.Common.{ap, ◌∙◌, ◌≡◌, ◌+◌, ◌%◌, ◌/◌, arith, slice_index}
+use Rattle.arrow_memory.proofs.Common.{ap, ◌∙◌, ◌≡◌, ◌+◌, ◌%◌, ◌/◌, arith, slice_index, bit_at}
 use Rattle.std.specs.Prelude.{nat_eq}
-use Rattle.std.specs.Int.{bit_at}
 use Rattle.arrow_memory.proofs.AppendLemmas.{bit_at-shr}
 use Rattle.arrow_memory.proofs.bitmap.runs.rest_of_word.Goals as goal
 

@@ -1,4 +1,4 @@
-use Rattle.std.proofs.Common.{◌≡◌, ◌+◌, subst, arith}
+use Rattle.arrow_memory.proofs.Common.{◌≡◌, ◌+◌, subst, arith}
 use Rattle.arrow_memory.proofs.RunLemmas.{AreSet, bits_set, set_more, set_ends}
 use Rattle.arrow_memory.proofs.bitmap.runs.run_end.Goals as goal
 

@@ -1,4 +1,4 @@
-use Rattle.std.proofs.Common.{◌-◌, ◌≤◌}
+use Rattle.arrow_memory.proofs.Common.{◌-◌, ◌≤◌}
 use Rattle.arrow_memory.proofs.RunLemmas.{AreSet}
 use Rattle.arrow_memory.proofs.bitmap.runs.run_end.Given as goal
 

@@ -1,4 +1,4 @@
-use Rattle.std.proofs.Common.{◌+◌, true, false, arith}
+use Rattle.arrow_memory.proofs.Common.{◌+◌, true, false, arith}
 use Rattle.arrow_memory.proofs.RunLemmas.{bits_set, set_more, set_behind, set_behind_ends}
 use Rattle.arrow_memory.proofs.bitmap.runs.run_ends.Goals as goal
 

@@ -1,6 +1,4 @@
-use Rattle.std.proofs.Common.{sym, ap, ◌∙◌, ◌+◌, ◌≤◌, length, drop, arith}
-use Rattle.std.proofs.lemmas.List.{length-take}
-use Rattle.arrow_memory.specs.Sliced.{sliced}
+use Rattle.arrow_memory.proofs.Common.{sym, ap, ◌∙◌, ◌+◌, ◌≤◌, length, drop, arith, length-take, sliced}
 use Rattle.arrow_memory.proofs.SlicedLemmas.{sliced-sliced}
 use Rattle.arrow_memory.proofs.buffer.Buffer.slice.Goals as goal
 

@@ -1,6 +1,4 @@
-use Rattle.std.proofs.Common.{◌≡◌, ◌∙◌, ◌+◌, ◌++◌, ◌-◌, length, replicate, take, ap, arith, rules, sym}
-use Rattle.std.specs.Vec.{vec_len}
-use Rattle.arrow_memory.specs.Offsets.{last_of}
+use Rattle.arrow_memory.proofs.Common.{◌≡◌, ◌∙◌, ◌+◌, ◌++◌, ◌-◌, length, replicate, take, ap, arith, rules, sym, vec_len, last_of}
 use Rattle.arrow_memory.proofs.OffsetLemmas.{StoredAs, stored_constant}
 use Rattle.arrow_memory.proofs.offset.Offsets.extend_constant.Given.{Over}
 use Rattle.arrow_memory.proofs.offset.Offsets.extend_constant.Goals as goal

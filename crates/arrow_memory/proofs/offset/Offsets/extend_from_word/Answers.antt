@@ -1,6 +1,4 @@
-use Rattle.std.proofs.Common.{◌≡◌, pos, ◌+◌, ◌++◌, [], ◌∷◌, length, map, unsigned_abs, slice_index, ap, ◌∙◌, arith}
-use Rattle.arrow_memory.specs.Offsets.{valid_ends, with_valid_rows}
-use Rattle.arrow_memory.specs.Words.{bits_in, low_bits}
+use Rattle.arrow_memory.proofs.Common.{◌≡◌, pos, ◌+◌, ◌++◌, [], ◌∷◌, length, map, unsigned_abs, slice_index, ap, ◌∙◌, arith, valid_ends, with_valid_rows, bits_in, low_bits}
 use Rattle.arrow_memory.proofs.MaskLemmas.{low_bits_in}
 use Rattle.arrow_memory.proofs.OffsetLemmas.{StoredAs}
 use Rattle.arrow_memory.proofs.ValidLemmas.{stored_valid_rows, valid_items-within}

@@ -1,5 +1,4 @@
-use Rattle.std.proofs.Common.{unsigned_abs, ap, arith}
-use Rattle.arrow_memory.specs.Offsets.{with_rows}
+use Rattle.arrow_memory.proofs.Common.{unsigned_abs, ap, arith, with_rows}
 use Rattle.arrow_memory.proofs.OffsetLemmas.{StoredAs, stored_rows}
 use Rattle.arrow_memory.proofs.offset.Offsets.try_extend_from_slice.Given.{Over}
 use Rattle.arrow_memory.proofs.offset.Offsets.try_extend_from_slice.Goals as goal

@@ -1,6 +1,4 @@
-use Rattle.std.proofs.Common.{unsigned_abs, ap}
-use Rattle.arrow_memory.specs.Offsets.{with_valid_rows}
-use Rattle.arrow_memory.specs.Sliced.{sliced}
+use Rattle.arrow_memory.proofs.Common.{unsigned_abs, ap, with_valid_rows, sliced}
 use Rattle.arrow_memory.proofs.OffsetLemmas.{StoredAs}
 use Rattle.arrow_memory.proofs.ValidLemmas.{stored_valid_rows}
 use Rattle.arrow_memory.proofs.offset.Offsets.try_extend_from_valid.Given.{Over}

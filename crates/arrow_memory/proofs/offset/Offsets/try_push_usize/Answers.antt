@@ -1,6 +1,4 @@
-use Rattle.std.proofs.Common.{◌≡◌, pos, ◌+◌, arith}
-use Rattle.std.proofs.lemmas.Int.{ints}
-use Rattle.arrow_memory.specs.Offsets.{last_of, with_row}
+use Rattle.arrow_memory.proofs.Common.{◌≡◌, pos, ◌+◌, arith, ints, last_of, with_row}
 use Rattle.arrow_memory.proofs.OffsetLemmas.{StoredAs, stored_row}
 use Rattle.arrow_memory.proofs.offset.Offsets.try_push_usize.Given.{Over}
 use Rattle.arrow_memory.proofs.offset.Offsets.try_push_usize.Goals as goal

@@ -1,5 +1,4 @@
-use Rattle.std.proofs.Common.{◌+◌, arith}
-use Rattle.std.proofs.lemmas.Int.{ints}
+use Rattle.arrow_memory.proofs.Common.{◌+◌, arith, ints}
 use Rattle.arrow_memory.proofs.OffsetLemmas.{number_at, offsets_rise, at_most_last}
 use Rattle.arrow_memory.proofs.offset.OffsetsBuffer.range.Goals as goal
 

@@ -1,5 +1,4 @@
-use Rattle.std.proofs.Common.{◌≡◌, subst, sym}
-use Rattle.std.specs.Bool.{Decides}
+use Rattle.arrow_memory.proofs.Common.{◌≡◌, subst, sym, Decides}
 use Rattle.arrow_memory.proofs.OffsetLemmas.{same_numbers, same_offsets}
 use Rattle.arrow_memory.proofs.offset.OffsetsBufferPartialEq.eq.Given.{Over}
 use Rattle.arrow_memory.proofs.offset.OffsetsBufferPartialEq.eq.Goals as goal

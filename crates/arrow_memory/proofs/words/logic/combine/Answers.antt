@@ -1,5 +1,4 @@
-use Rattle.std.proofs.Common.{◌+◌, ◌<◌, refl, length, arith}
-use Rattle.arrow_memory.specs.Words.{is_set}
+use Rattle.arrow_memory.proofs.Common.{◌+◌, ◌<◌, refl, length, arith, is_set}
 use Rattle.arrow_memory.proofs.LogicLemmas.{GivesUpTo, combines_more}
 use Rattle.arrow_memory.proofs.words.logic.combine.Goals as goal
 

@@ -1,6 +1,4 @@
-use Rattle.std.proofs.Common.{◌≡◌, ◌+◌, ◌*◌, ◌/◌, ◌%◌, ◌<◌, refl, ◌∙◌, length, arith}
-use Rattle.std.proofs.lemmas.List.{length-set}
-use Rattle.arrow_memory.specs.Words.{bits_in, word_of}
+use Rattle.arrow_memory.proofs.Common.{◌≡◌, ◌+◌, ◌*◌, ◌/◌, ◌%◌, ◌<◌, refl, ◌∙◌, length, arith, length-set, bits_in, word_of}
 use Rattle.arrow_memory.proofs.LogicLemmas.{combines_more}
 use Rattle.arrow_memory.proofs.WordLemmas.{word_of-across}
 use Rattle.arrow_memory.proofs.words.logic.combine_within.Goals as goal

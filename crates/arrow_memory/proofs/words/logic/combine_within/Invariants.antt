@@ -1,5 +1,4 @@
-use Rattle.std.proofs.Common.{◌≡◌, ◌+◌, length}
-use Rattle.arrow_memory.specs.Words.{is_set}
+use Rattle.arrow_memory.proofs.Common.{◌≡◌, ◌+◌, length, is_set}
 use Rattle.arrow_memory.proofs.LogicLemmas.{GivesUpTo}
 use Rattle.arrow_memory.proofs.words.logic.combine_within.Given as goal
 

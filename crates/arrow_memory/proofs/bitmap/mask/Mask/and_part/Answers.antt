@@ -1,7 +1,4 @@
-use Rattle.std.proofs.Common.{◌≡◌, ◌≤◌, length, sym, ap, ◌∙◌, arith}
-use Rattle.arrow_memory.specs.Bits.{both_bits}
-use Rattle.arrow_memory.specs.Sliced.{sliced}
-use Rattle.arrow_memory.specs.Words.{low_bits}
+use Rattle.arrow_memory.proofs.Common.{◌≡◌, ◌≤◌, length, sym, ap, ◌∙◌, arith, both_bits, sliced, low_bits}
 use Rattle.arrow_memory.proofs.BitLemmas.{bits_of_word}
 use Rattle.arrow_memory.proofs.MaskLemmas.{mask_length, word_of_mask}
 use Rattle.arrow_memory.proofs.SlicedLemmas.{length-sliced}

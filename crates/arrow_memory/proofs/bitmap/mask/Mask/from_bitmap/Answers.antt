@@ -1,4 +1,4 @@
-use Rattle.std.proofs.Common.{◌∙◌}
+use Rattle.arrow_memory.proofs.Common.{◌∙◌}
 use Rattle.arrow_memory.proofs.MaskLemmas.{first_bits_of}
 use Rattle.arrow_memory.proofs.bitmap.mask.Mask.from_bitmap.Goals as goal
 

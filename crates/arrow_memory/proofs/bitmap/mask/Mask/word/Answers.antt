@@ -1,5 +1,4 @@
-use Rattle.std.proofs.Common.{◌≤◌, length, subst, sym, ap, ◌∙◌}
-use Rattle.arrow_memory.specs.Words.{low_bits}
+use Rattle.arrow_memory.proofs.Common.{◌≤◌, length, subst, sym, ap, ◌∙◌, low_bits}
 use Rattle.arrow_memory.proofs.MaskLemmas.{word_of_mask}
 use Rattle.arrow_memory.proofs.bitmap.mask.Mask.word.Goals as goal
 

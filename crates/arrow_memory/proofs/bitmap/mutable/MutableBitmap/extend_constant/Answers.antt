@@ -1,8 +1,4 @@
-use Rattle.std.proofs.Common.{◌≡◌, ◌+◌, ◌++◌, length, replicate, ap, sym, ◌∙◌, subst, arith}
-use Rattle.std.specs.Int.{div_ceil}
-use Rattle.std.specs.Prelude.{OnOk}
-use Rattle.std.proofs.lemmas.List.{length-replicate}
-use Rattle.arrow_memory.specs.Words.{bits_in, IsPadded, AppendsBits}
+use Rattle.arrow_memory.proofs.Common.{◌≡◌, ◌+◌, ◌++◌, length, replicate, ap, sym, ◌∙◌, subst, arith, div_ceil, OnOk, length-replicate, bits_in, IsPadded, AppendsBits}
 use Rattle.arrow_memory.proofs.BitLemmas.{bits_of_word, own_bits}
 use Rattle.arrow_memory.proofs.MutableLemmas.{done}
 use Rattle.arrow_memory.proofs.bitmap.mutable.MutableBitmap.extend_constant.Goals as goal

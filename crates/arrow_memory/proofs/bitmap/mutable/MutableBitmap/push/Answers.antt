@@ -1,6 +1,4 @@
-use Rattle.std.proofs.Common.{◌≡◌, ◌+◌, ◌++◌, ◌∷◌, [], length, ap, sym, refl, ◌∙◌, subst, arith}
-use Rattle.std.specs.Int.{div_ceil}
-use Rattle.arrow_memory.specs.Words.{bits_in, IsPadded, Reads}
+use Rattle.arrow_memory.proofs.Common.{◌≡◌, ◌+◌, ◌++◌, ◌∷◌, [], length, ap, sym, refl, ◌∙◌, subst, arith, div_ceil, bits_in, IsPadded, Reads}
 use Rattle.arrow_memory.proofs.MutableLemmas.{done, byte_is}
 use Rattle.arrow_memory.proofs.bitmap.mutable.MutableBitmap.push.Goals as goal
 

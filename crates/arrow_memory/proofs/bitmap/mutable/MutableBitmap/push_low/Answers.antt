@@ -1,6 +1,4 @@
-use Rattle.std.proofs.Common.{◌≡◌, ◌+◌, ◌++◌, length, ap, ◌∙◌, arith}
-use Rattle.std.specs.Int.{div_ceil}
-use Rattle.arrow_memory.specs.Words.{bits_in, low_bits, IsPadded}
+use Rattle.arrow_memory.proofs.Common.{◌≡◌, ◌+◌, ◌++◌, length, ap, ◌∙◌, arith, div_ceil, bits_in, low_bits, IsPadded}
 use Rattle.arrow_memory.proofs.MutableLemmas.{done}
 use Rattle.arrow_memory.proofs.WordLemmas.{length-low_bits}
 use Rattle.arrow_memory.proofs.bitmap.mutable.MutableBitmap.push_low.Goals as goal

@@ -1,6 +1,5 @@
-use Rattle.std.proofs.Common.{◌≡◌, subst}
-use Rattle.std.specs.Prelude.{◌++◌, OnOk}
-use Rattle.arrow_memory.specs.Words.{low_bits}
+use Rattle.arrow_memory.proofs.Common.{◌≡◌, subst, OnOk, low_bits}
+use Rattle.std.specs.Prelude.{◌++◌}
 use Rattle.arrow_memory.proofs.BitLemmas.{bits_of_word, own_bits}
 use Rattle.arrow_memory.proofs.WordLemmas.{length-low_bits}
 use Rattle.arrow_memory.proofs.bitmap.mutable.MutableBitmap.push_word.Goals as goal

@@ -1,5 +1,4 @@
-use Rattle.std.proofs.Common.{◌≡◌, ◌+◌, ◌-◌, ap, sym, ◌∙◌, arith}
-use Rattle.arrow_memory.specs.Words.{bits_in}
+use Rattle.arrow_memory.proofs.Common.{◌≡◌, ◌+◌, ◌-◌, ap, sym, ◌∙◌, arith, bits_in}
 use Rattle.arrow_memory.proofs.RunLemmas.{cut_twice, not_first}
 use Rattle.arrow_memory.proofs.bitmap.runs.BitRuns.next_set.Goals as goal
 

@@ -1,5 +1,4 @@
-use Rattle.std.proofs.Common.{ap, ◌∙◌}
-use Rattle.arrow_memory.specs.Words.{bits_in}
+use Rattle.arrow_memory.proofs.Common.{ap, ◌∙◌, bits_in}
 use Rattle.arrow_memory.proofs.MaskLemmas.{low_bits_in}
 use Rattle.arrow_memory.proofs.bitmap.runs.BitRuns.of_word.Goals as goal
 
