@@ -1,21 +1,8 @@
 -- Rows of which those are empty whose bit is not set: the bits by words, and these rows behind others as any rows.
-use Rattle.std.proofs.Common.{arith, ◌≡◌, ◌+◌, ◌-◌, ◌*◌, ◌/◌, ◌%◌, ◌^◌, ◌<◌, ◌≤◌, ℕ, zero, suc, Bool, true, false, List, [], ◌∷◌, ◌++◌, length, map, replicate, take, drop, slice_index, get_or, if◌then◌else◌, refl, ap, sym, subst, ◌∙◌, w64, inl, inr}
+use Rattle.arrow_flat_growable.proofs.Common.{arith, ◌≡◌, ◌+◌, ◌-◌, ◌*◌, ◌/◌, ◌%◌, ◌^◌, ◌<◌, ◌≤◌, ℕ, zero, suc, Bool, true, false, List, [], ◌∷◌, ◌++◌, length, map, replicate, take, drop, slice_index, get_or, if◌then◌else◌, refl, ap, sym, subst, ◌∙◌, w64, inl, inr, bit_at, bit_not, trailing_zeros, bit_at_above, bit_at_and, bit_at_clear_other, bit_at_clear_same, bit_at_not, bit_at_ones, bit_at_ones_above, bit_at-lt, bit_at-trailing_zeros, ones_shr, cases_lt, eqb_tells, and_le_l, div-le_self, append-nil, get_or-drop, get_or-take, IsOffsets, last_of, valid_length, valid_items, valid_ends, with_rows, with_valid_rows, sliced, AreEmptyNulls, valid_values, bit_at-shr, offsets_rise, length-sliced}
 use Rattle.std.specs.Prelude.{◌==◌, bit_and, slice_index_or}
-use Rattle.std.specs.Int.{bit_at, bit_not, trailing_zeros}
-use Rattle.std.proofs.lemmas.Nat.Bits.{bit_at_above, bit_at_and, bit_at_clear_other, bit_at_clear_same, bit_at_not, bit_at_ones, bit_at_ones_above, bit_at-lt, bit_at-trailing_zeros, ones_shr}
-use Rattle.std.proofs.lemmas.Bool.{cases_lt}
-use Rattle.std.proofs.lemmas.Bool.Decides.{eqb_tells}
-use Rattle.std.proofs.lemmas.Nat.{and_le_l}
-use Rattle.std.proofs.Math.Nat.{div-le_self}
-use Rattle.std.proofs.lemmas.List.{append-nil, get_or-drop, get_or-take}
-use Rattle.arrow_memory.specs.Offsets.{IsOffsets, last_of, valid_length, valid_items, valid_ends, with_rows, with_valid_rows}
-use Rattle.arrow_memory.specs.Sliced.{sliced}
-use Rattle.arrow_flat_growable.specs.GrownRows.{AreEmptyNulls, valid_values}
 use Rattle.arrow_flat_growable.proofs.GrownRowLemmas.{part_cut}
 use Rattle.arrow_flat_growable.proofs.ValidRowLemmas.{set_run}
-use Rattle.arrow_memory.proofs.AppendLemmas.{bit_at-shr}
-use Rattle.arrow_memory.proofs.OffsetLemmas.{offsets_rise}
-use Rattle.arrow_memory.proofs.SlicedLemmas.{length-sliced}
 
 -- ---- the bits that are not set, in a word
 

@@ -1,18 +1,7 @@
 -- Rows of bytes or items that lie one behind the other: where they end.
-use Rattle.std.proofs.Common.{arith, ◌≡◌, ◌+◌, ◌-◌, ℕ, zero, suc, ◌<◌, ◌≤◌, List, [], ◌∷◌, ◌++◌, length, map, take, drop, slice_index, refl, ap, sym, subst, ◌∙◌, append_assoc}
-use Rattle.std.specs.Prelude.{sum}
-use Rattle.std.specs.List.{All, concat, range_with_len}
-use Rattle.std.proofs.lemmas.List.{get_or-drop, get_or-take, get_or_default, length-append}
-use Rattle.std.proofs.Math.Seq.{drop-append_seam, take-append_seam}
-use Rattle.std.proofs.lemmas.List.Sums.{sum_by-cons}
-use Rattle.arrow_memory.specs.Offsets.{IsOffsets, counted_on, last_of, with_row}
-use Rattle.arrow_memory.specs.Sliced.{sliced}
-use Rattle.arrow_memory.proofs.OffsetLemmas.{offsets_rise}
-use Rattle.arrow_memory.proofs.SlicedLemmas.{length-sliced}
-use Rattle.arrow_flat.specs.Pieces.{pieces, pieces_from}
+use Rattle.arrow_flat_growable.proofs.Common.{arith, ◌≡◌, ◌+◌, ◌-◌, ℕ, zero, suc, ◌<◌, ◌≤◌, List, [], ◌∷◌, ◌++◌, length, map, take, drop, slice_index, refl, ap, sym, subst, ◌∙◌, append_assoc, sum, All, concat, range_with_len, get_or-drop, get_or-take, get_or_default, drop-append_seam, take-append_seam, sum_by-cons, IsOffsets, counted_on, last_of, with_row, sliced, offsets_rise, length-sliced, pieces, pieces_from, ends_from, concatenated, row_length}
+use Rattle.std.proofs.lemmas.List.{length-append}
 use Rattle.arrow_flat_growable.proofs.GrownRowLemmas.{last_behind, last_more, part_cut}
-use Rattle.arrow_memory.specs.Ends.{ends_from}
-use Rattle.arrow_flat_growable.specs.Ends.{concatenated, row_length}
 
 pub ends_next : (place : ℕ) (lengths : List ℕ) (n : ℕ) → place ∷ ends_from place (lengths ++ n ∷ []) ≡ with_row (place ∷ ends_from place lengths) n
 ends_next place [] n = refl

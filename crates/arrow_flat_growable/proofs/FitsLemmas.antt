@@ -1,13 +1,6 @@
 -- Which rows fit a type by their count alone.
-use Rattle.std.proofs.Common.{◌≡◌, ◌*◌, ◌<◌, ◌^◌, Bool, true, false, List, length, refl, arith}
-use Rattle.arrow_types.specs.declared.datatypes.physical_type.PhysicalType.{PhysicalType}
+use Rattle.arrow_flat_growable.proofs.Common.{◌≡◌, ◌*◌, ◌<◌, ◌^◌, Bool, true, false, List, length, refl, arith, PhysicalType, ArrowType, PlainType, plain, list, struct, union, dictionary, extension, null, binary, large_binary, utf8, large_utf8, fixed_size_binary, small, large, fixed_size, mapped, Fits, physical_type_of, plain_physical_type, Slot, fixed_size_in, is_counted, fits_counted}
 use Rattle.arrow_types.specs.declared.datatypes.physical_type.PhysicalType.TheVariants as physical
-use Rattle.arrow_types.specs.ArrowType.{ArrowType, PlainType, plain, list, struct, union, dictionary, extension, null, binary, large_binary, utf8, large_utf8, fixed_size_binary, small, large, fixed_size, mapped}
-use Rattle.arrow_types.specs.Fits.{Fits}
-use Rattle.arrow_types.specs.Physical.{physical_type_of, plain_physical_type}
-use Rattle.arrow_types.specs.Slot.{Slot}
-use Rattle.arrow_flat.specs.FixedRows.{fixed_size_in}
-use Rattle.arrow_flat_growable.specs.FlatLaws.{is_counted, fits_counted}
 
 -- whether rows that lie so fit by nothing but their count
 abbrev pub is_only_counted : PhysicalType → Bool

@@ -1,22 +1,6 @@
 -- Rows of so many bytes each under construction.
-use Rattle.std.proofs.Common.{◌≡◌, ℕ, zero, suc, ◌+◌, ◌-◌, ◌*◌, ◌/◌, ◌%◌, ◌<◌, ◌≤◌, ◌^◌, Bool, Option, List, [], ◌∷◌, ◌++◌, length, map, drop, replicate, refl, ap, sym, subst, ◌∙◌, arith, length-append}
-use Rattle.std.proofs.Math.Nat.{mul-le-mul_right}
-use Rattle.std.proofs.lemmas.List.{length-replicate, length-drop, map-append, take-append-le, drop-append-le, take-replicate, drop-replicate}
-use Rattle.arrow_types.specs.ArrowType.{ArrowType}
-use Rattle.arrow_types.specs.Fits.{Fits}
-use Rattle.arrow_types.specs.Physical.{physical_type_of}
-use Rattle.arrow_types.specs.Slot.{Slot, Bytes}
+use Rattle.arrow_flat_growable.proofs.Common.{◌≡◌, ℕ, zero, suc, ◌+◌, ◌-◌, ◌*◌, ◌/◌, ◌%◌, ◌<◌, ◌≤◌, ◌^◌, Bool, Option, List, [], ◌∷◌, ◌++◌, length, map, drop, replicate, refl, ap, sym, subst, ◌∙◌, arith, length-append, mul-le-mul_right, length-replicate, length-drop, map-append, take-append-le, drop-append-le, take-replicate, drop-replicate, ArrowType, Fits, physical_type_of, Slot, Bytes, sliced, length-sliced, FixedParts, AreFixedRows, FitsBytes, fixed_slots, fixed_size_in, FitsRows, slots_of_chunks, chunks, length-fixed_slots, count_fits, bytes_fit, whole_product, map_constant, is_counted, fits_count, fits_counted}
 use Rattle.arrow_types.specs.declared.datatypes.physical_type.PhysicalType.TheVariants as physical
-use Rattle.arrow_memory.specs.Sliced.{sliced}
-use Rattle.arrow_memory.proofs.SlicedLemmas.{length-sliced}
-use Rattle.arrow_flat.specs.FixedRows.{FixedParts, AreFixedRows, FitsBytes, fixed_slots, fixed_size_in}
-use Rattle.arrow_flat.specs.Parts.{FitsRows}
-use Rattle.arrow_flat.specs.PieceLaws.{slots_of_chunks}
-use Rattle.arrow_flat.specs.Pieces.{chunks}
-use Rattle.arrow_flat.proofs.FixedLemmas.{length-fixed_slots, count_fits}
-use Rattle.arrow_arrays.proofs.FitNullLemmas.{bytes_fit, whole_product}
-use Rattle.arrow_arrays.proofs.NullLemmas.{map_constant}
-use Rattle.arrow_flat_growable.specs.FlatLaws.{is_counted, fits_count, fits_counted}
 
 abbrev parts : ℕ → ℕ → List ℕ → FixedParts
 parts size count bytes = record { size = size; count = count; bytes = bytes }

@@ -1,22 +1,7 @@
 -- A flat array under construction: what is stored and its bits, one part behind the other.
-use Rattle.std.proofs.Common.{arith, ◌≡◌, ◌+◌, ◌≤◌, ◌<◌, ◌^◌, ℕ, Bool, false, List, [], ◌∷◌, ◌++◌, length, map, get_or, ap, sym, ◌∙◌}
+use Rattle.arrow_flat_growable.proofs.Common.{arith, ◌≡◌, ◌+◌, ◌≤◌, ◌<◌, ◌^◌, ℕ, Bool, false, List, [], ◌∷◌, ◌++◌, length, map, get_or, ap, sym, ◌∙◌, All, get_or-map, ArrowType, IsCarried, Fits, mask, Slot, Layout, type_of_layout, Fits-nil, length-mask, sliced, length-sliced, BindsAll, IsGrownFlat, KeepsBound, fits_count, first_type, source_at, mask-append}
 use Rattle.std.specs.Borrow.{Bor}
-use Rattle.std.specs.List.{All}
-use Rattle.std.proofs.lemmas.List.{length-append, get_or-map}
-use Rattle.arrow_types.specs.ArrowType.{ArrowType}
-use Rattle.arrow_types.specs.Carried.{IsCarried}
-use Rattle.arrow_types.specs.Fits.{Fits}
-use Rattle.arrow_types.specs.Rows.{mask}
-use Rattle.arrow_types.specs.Slot.{Slot}
-use Rattle.arrow_arrays.specs.Layout.{Layout, type_of_layout}
-use Rattle.arrow_types.proofs.FitsLemmas.{Fits-nil}
-use Rattle.arrow_types.proofs.RowsLemmas.{length-mask}
-use Rattle.arrow_memory.specs.Sliced.{sliced}
-use Rattle.arrow_memory.proofs.SlicedLemmas.{length-sliced}
-use Rattle.arrow_flat_growable.specs.Flat.{BindsAll, IsGrownFlat, KeepsBound}
-use Rattle.arrow_flat_growable.specs.FlatLaws.{fits_count}
-use Rattle.arrow_flat_growable.specs.Grown.{first_type, source_at}
-use Rattle.arrow_flat_growable.specs.MaskLaws.{mask-append}
+use Rattle.std.proofs.lemmas.List.{length-append}
 
 -- the layout of an array that is bound
 pub source_is : {A : Type 0} (f : A → Layout) (arrays : List A) (i : ℕ) (x : A) → i < length arrays → x ≡ get_or arrays i x → source_at (map f arrays) i ≡ f x

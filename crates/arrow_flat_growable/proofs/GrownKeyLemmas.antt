@@ -1,16 +1,5 @@
 -- Keys that grow by the values of the dictionaries before their own.
-use Rattle.std.proofs.Common.{arith, ◌≡◌, ◌+◌, ◌<◌, ◌≤◌, ◌^◌, ℕ, pos, List, [], ◌∷◌, ◌++◌, length, map, get_or, ap, sym, subst, ◌∙◌, append_assoc}
-use Rattle.std.specs.List.{All}
-use Rattle.std.proofs.lemmas.List.{append-nil, map-append}
-use Rattle.std.proofs.lemmas.List.Elements.{All-append, All-cons}
-use Rattle.arrow_types.specs.declared.datatypes.IntegerType.{IntegerType}
-use Rattle.arrow_types.specs.declared.datatypes.IntegerType.TheVariants.{Int8, Int16, Int32, Int64, UInt8, UInt16, UInt32, UInt64}
-use Rattle.arrow_types.specs.Greatest.{greatest_number}
-use Rattle.arrow_types.specs.Slot.{Slot, Null, Number}
-use Rattle.arrow_memory.specs.Sliced.{sliced}
-use Rattle.arrow_memory.proofs.SlicedLemmas.{sliced-cut}
-use Rattle.arrow_arrays.proofs.EqualLemmas.{one_row}
-use Rattle.arrow_flat_growable.specs.Keys.{KeyFits, PassesGreatest, grown_key}
+use Rattle.arrow_flat_growable.proofs.Common.{arith, ◌≡◌, ◌+◌, ◌<◌, ◌≤◌, ◌^◌, ℕ, pos, List, [], ◌∷◌, ◌++◌, length, map, get_or, ap, sym, subst, ◌∙◌, append_assoc, All, append-nil, map-append, All-append, All-cons, IntegerType, Int8, Int16, Int32, Int64, UInt8, UInt16, UInt32, UInt64, greatest_number, Slot, Null, Number, sliced, sliced-cut, one_row, KeyFits, PassesGreatest, grown_key}
 
 pub greatest_small : (t : IntegerType) → greatest_number t < 2 ^ 64
 greatest_small Int8 = omega arith

@@ -1,20 +1,7 @@
 -- Rows that come behind others, in bytes or in the rows of a child.
-use Rattle.std.proofs.Common.{arith, ◌≡◌, ◌+◌, ◌-◌, ◌<◌, ◌≤◌, ℕ, zero, suc, pos, true, List, [], ◌∷◌, ◌++◌, length, map, replicate, take, drop, slice_index, refl, ap, sym, subst, ◌∙◌}
-use Rattle.std.specs.Prelude.{Result, Ok, Err, OnOk, OnErr}
-use Rattle.std.specs.List.{All}
-use Rattle.std.proofs.Math.Seq.{drop-append-add, take-add}
-use Rattle.std.proofs.lemmas.Int.{ints}
-use Rattle.std.proofs.lemmas.List.{length-map, length-drop, length-append, length-replicate, drop-drop, take-append-le, drop-append-le, get_or-take, get_or-drop, get_or-replicate}
-use Rattle.std.proofs.lemmas.List.Sums.{sum_by-append, sum_by-cons}
-use Rattle.std.proofs.lemmas.List.Elements.{All-append, All-take, All-drop}
-use Rattle.arrow_memory.specs.Offsets.{IsOffsets, RisesFrom, last_of, with_rows, counted_on}
-use Rattle.arrow_memory.specs.Sliced.{sliced}
-use Rattle.arrow_memory.proofs.OffsetLemmas.{at_most_last, offsets_rise}
-use Rattle.arrow_memory.proofs.SlicedLemmas.{length-sliced, sliced-sliced}
-use Rattle.arrow_flat.specs.PieceLaws.{pieces-sliced}
-use Rattle.arrow_flat.specs.Pieces.{pieces, pieces_from}
-use Rattle.arrow_flat.proofs.PieceLemmas.{last_of_part, part_of_offsets}
-use Rattle.arrow_flat_growable.specs.GrownRows.{AreGrown, filled, total}
+use Rattle.arrow_flat_growable.proofs.Common.{arith, ◌≡◌, ◌+◌, ◌-◌, ◌<◌, ◌≤◌, ℕ, zero, suc, pos, true, List, [], ◌∷◌, ◌++◌, length, map, replicate, take, drop, slice_index, refl, ap, sym, subst, ◌∙◌, OnErr, All, drop-append-add, take-add, ints, length-map, length-drop, length-replicate, drop-drop, take-append-le, drop-append-le, get_or-take, get_or-drop, get_or-replicate, sum_by-append, sum_by-cons, All-append, All-take, All-drop, IsOffsets, RisesFrom, last_of, with_rows, counted_on, sliced, at_most_last, offsets_rise, length-sliced, sliced-sliced, pieces-sliced, pieces, pieces_from, last_of_part, part_of_offsets, AreGrown, filled, total}
+use Rattle.std.specs.Prelude.{Result, Ok, Err, OnOk}
+use Rattle.std.proofs.lemmas.List.{length-append}
 
 -- the last of some offsets
 

@@ -1,3 +1,4 @@
+pub mod Common
 pub mod EmptyNullLemmas
 pub mod EndLemmas
 pub mod FitsLemmas

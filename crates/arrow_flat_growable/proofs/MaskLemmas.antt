@@ -1,16 +1,7 @@
 -- Rows under a mask of bits.
-use Rattle.std.proofs.Common.{arith, ◌≡◌, ◌+◌, ◌≤◌, ◌∙◌, ℕ, Bool, true, false, not, List, [], ◌∷◌, Option, Some, None, length, suc, Bor, refl, ap, sym, subst}
-use Rattle.std.specs.Prelude.{cond, count_by, option_copied, IfSome}
-use Rattle.std.proofs.lemmas.List.Sums.{sum_by-cons}
+use Rattle.arrow_flat_growable.proofs.Common.{arith, ◌≡◌, ◌+◌, ◌≤◌, ◌∙◌, ℕ, Bool, true, false, not, List, [], ◌∷◌, Option, Some, None, length, suc, Bor, refl, ap, sym, subst, cond, count_by, IfSome, sum_by-cons, mask, masked, Slot, Null, both_bits, sliced, length-sliced, FitsRows, masked-sliced, valid_in_both}
+use Rattle.std.specs.Prelude.{option_copied}
 use Rattle.std.specs.Prelude.{if◌then◌else◌}
-use Rattle.arrow_types.specs.Rows.{mask, masked}
-use Rattle.arrow_types.specs.Slot.{Slot, Null}
-use Rattle.arrow_memory.specs.Bits.{both_bits}
-use Rattle.arrow_memory.specs.Sliced.{sliced}
-use Rattle.arrow_memory.proofs.SlicedLemmas.{length-sliced}
-use Rattle.arrow_flat.specs.Parts.{FitsRows}
-use Rattle.arrow_flat.proofs.PartsLemmas.{masked-sliced}
-use Rattle.arrow_flat_growable.specs.Validity.{valid_in_both}
 
 -- bits none of which is not set leave the rows as they are
 pub mask-all : (bits : List Bool) (xs : List Slot) → length xs ≡ length bits → count_by not bits ≡ 0 → mask bits xs ≡ xs

@@ -1,10 +1,5 @@
 -- Rows of a part under a mask and under their validity, as one.
-use Rattle.std.proofs.Common.{arith, ◌≡◌, ◌+◌, ◌≤◌, ◌∙◌, ℕ, Bool, List, Option, length, ap}
-use Rattle.arrow_types.specs.Rows.{mask, masked}
-use Rattle.arrow_types.specs.Slot.{Slot}
-use Rattle.arrow_memory.specs.Sliced.{sliced}
-use Rattle.arrow_flat.specs.Parts.{FitsRows}
-use Rattle.arrow_flat.proofs.PartsLemmas.{length-masked}
+use Rattle.arrow_flat_growable.proofs.Common.{arith, ◌≡◌, ◌+◌, ◌≤◌, ◌∙◌, ℕ, Bool, List, Option, length, ap, mask, masked, Slot, sliced, FitsRows, length-masked}
 use Rattle.arrow_flat_growable.proofs.MaskLemmas.{part_in_both, part_under}
 
 module _ (v : Option (List Bool)) (stored : List Slot) (start : ℕ) (own both : List Bool) (is : both ≡ part_in_both v start own) (fits : FitsRows v (length stored)) (within : start + length own ≤ length (masked v stored)) where

@@ -1,23 +1,5 @@
 -- Keys that are moved behind the values of other dictionaries, by the bits of half a word.
-use Rattle.std.proofs.Common.{arith, ◌≡◌, ◌+◌, ◌/◌, ◌%◌, ◌*◌, ◌^◌, ◌==◌, ◌<◌, ◌≤◌, ℕ, Bool, true, false, Option, Some, None, List, [], ◌∷◌, ◌++◌, length, map, take, drop, get_or, nat_eq, bit_and, replicate, if◌then◌else◌, refl, ap, sym, ◌∙◌, append_assoc}
-use Rattle.std.specs.Prelude.{IfSome, set}
-use Rattle.std.specs.Int.{bit_at}
-use Rattle.std.proofs.lemmas.List.{ext_get_or, get_or-drop, get_or-replicate, get_or-take, get_or_default, length-map, length-replicate, map-append, take_more, take_more_set}
-use Rattle.std.proofs.lemmas.List.FromFn.{get_or-map-range_with_len}
-use Rattle.std.proofs.lemmas.Nat.{shr-shr}
-use Rattle.std.proofs.lemmas.Nat.Bits.{bit_at_cat_low, shr_and_one}
-use Rattle.std.proofs.lemmas.Option.{get_or_from_slice_get, slice_get-get_or, slice_get_read}
-use Rattle.arrow_types.specs.Rows.{mask, masked, valid_at}
-use Rattle.arrow_types.specs.Slot.{Slot, Null}
-use Rattle.arrow_types.proofs.RowsLemmas.{length-mask, slice_get-mask}
-use Rattle.arrow_memory.specs.Sliced.{sliced}
-use Rattle.arrow_memory.specs.Words.{low_bits}
-use Rattle.arrow_memory.proofs.OffsetLemmas.{map_sliced}
-use Rattle.arrow_memory.proofs.SlicedLemmas.{length-sliced, sliced-cut}
-use Rattle.arrow_memory.proofs.WordLemmas.{length-low_bits}
-use Rattle.arrow_flat.specs.Parts.{FitsRows, bits_of_slice}
-use Rattle.arrow_flat.proofs.PieceLemmas.{slot_of_row}
-use Rattle.arrow_flat_growable.specs.MaskLaws.{mask-part}
+use Rattle.arrow_flat_growable.proofs.Common.{arith, ◌≡◌, ◌+◌, ◌/◌, ◌%◌, ◌*◌, ◌^◌, ◌==◌, ◌<◌, ◌≤◌, ℕ, Bool, true, false, Option, Some, None, List, [], ◌∷◌, ◌++◌, length, map, take, drop, get_or, nat_eq, bit_and, replicate, if◌then◌else◌, refl, ap, sym, ◌∙◌, append_assoc, IfSome, set, bit_at, ext_get_or, get_or-drop, get_or-replicate, get_or-take, get_or_default, length-map, length-replicate, map-append, take_more, take_more_set, get_or-map-range_with_len, shr-shr, bit_at_cat_low, shr_and_one, get_or_from_slice_get, slice_get-get_or, slice_get_read, mask, masked, valid_at, Slot, Null, length-mask, slice_get-mask, sliced, low_bits, map_sliced, length-sliced, sliced-cut, length-low_bits, FitsRows, bits_of_slice, slot_of_row, mask-part}
 
 -- a bit of a number
 bit_of_low : (half n k : ℕ) (d : Bool) → k < n → get_or (low_bits half n) k d ≡ (bit_at half k == 1)

@@ -1,18 +1,6 @@
 -- Arrays of the null type under construction.
-use Rattle.std.proofs.Common.{arith, ◌≡◌, ◌+◌, ◌<◌, ◌≤◌, ◌^◌, ℕ, zero, suc, Bool, false, List, [], ◌∷◌, ◌++◌, length, map, replicate, None, ap, sym, ◌∙◌}
-use Rattle.std.proofs.lemmas.List.{length-replicate, replicate-append-replicate}
+use Rattle.arrow_flat_growable.proofs.Common.{arith, ◌≡◌, ◌+◌, ◌<◌, ◌≤◌, ◌^◌, ℕ, zero, suc, Bool, false, List, [], ◌∷◌, ◌++◌, length, map, replicate, None, ap, sym, ◌∙◌, length-replicate, replicate-append-replicate, ArrowType, plain, list, struct, union, dictionary, extension, null, small, large, fixed_size, mapped, Fits, physical_type_of, Slot, Null, null_slot, null_slot-no_union, sliced, NullParts, nulls-sliced, rows, source_at, Grown, FitsItself, FitsWith, appended, named_rows, null_rows_of, rows_among, IsGrownNull, null_layout}
 use Rattle.arrow_types.specs.declared.datatypes.physical_type.PhysicalType.TheVariants as physical
-use Rattle.arrow_types.specs.ArrowType.{ArrowType, plain, list, struct, union, dictionary, extension, null, small, large, fixed_size, mapped}
-use Rattle.arrow_types.specs.Fits.{Fits}
-use Rattle.arrow_types.specs.Physical.{physical_type_of}
-use Rattle.arrow_types.specs.Slot.{Slot, Null, null_slot}
-use Rattle.arrow_types.proofs.SlotLemmas.{null_slot-no_union}
-use Rattle.arrow_memory.specs.Sliced.{sliced}
-use Rattle.arrow_flat.specs.NullParts.{NullParts}
-use Rattle.arrow_flat.proofs.PartsLemmas.{nulls-sliced}
-use Rattle.arrow_arrays.specs.Layout.{rows}
-use Rattle.arrow_flat_growable.specs.Grown.{source_at, Grown, FitsItself, FitsWith, appended, named_rows, null_rows_of, rows_among}
-use Rattle.arrow_flat_growable.specs.Nulls.{IsGrownNull, null_layout}
 use Rattle.arrow_flat_growable.proofs.FlatLemmas.{too_many}
 
 -- more nulls behind so many

@@ -1,15 +1,5 @@
 -- Parts of a source that wait, one for each run of rows.
-use Rattle.std.proofs.Common.{arith, ◌≡◌, ◌+◌, ◌-◌, ◌<◌, ◌≤◌, ◌∙◌, ℕ, Bool, true, false, List, [], ◌∷◌, ◌++◌, length, replicate, get_or, slice_index, ap, subst, sym}
-use Rattle.std.specs.List.{All, flat_map}
-use Rattle.std.proofs.lemmas.Grind.{flat_map-append}
-use Rattle.std.proofs.lemmas.List.{append-nil}
-use Rattle.std.proofs.lemmas.List.Elements.{All-push}
-use Rattle.arrow_memory.specs.Offsets.{IsOffsets, last_of}
-use Rattle.arrow_memory.proofs.OffsetLemmas.{at_most_last, offsets_rise}
-use Rattle.arrow_flat_growable.specs.declared.growable.parts.Part.{Part}
-use Rattle.arrow_flat_growable.specs.declared.growable.parts.Part.TheVariants.{Of}
-use Rattle.arrow_flat_growable.specs.GrownParts.{LiesIn, part_values}
-use Rattle.arrow_flat_growable.specs.GrownRows.{valid_values}
+use Rattle.arrow_flat_growable.proofs.Common.{arith, ◌≡◌, ◌+◌, ◌-◌, ◌<◌, ◌≤◌, ◌∙◌, ℕ, Bool, true, false, List, [], ◌∷◌, ◌++◌, length, replicate, get_or, slice_index, ap, subst, sym, All, flat_map, flat_map-append, append-nil, All-push, IsOffsets, last_of, at_most_last, offsets_rise, Part, Of, LiesIn, part_values, valid_values}
 use Rattle.arrow_flat_growable.proofs.ValidRowLemmas.{run_copied, run_long}
 
 -- parts so far, of which the values of some rows are still to come

@@ -1,13 +1,6 @@
 -- Rows of bytes by themselves, whose offsets are a part of others.
-use Rattle.std.proofs.Common.{arith, ◌≡◌, ◌+◌, ◌≤◌, ◌∙◌, ℕ, Bool, List, length, ap, sym}
-use Rattle.std.specs.List.{All}
+use Rattle.arrow_flat_growable.proofs.Common.{arith, ◌≡◌, ◌+◌, ◌≤◌, ◌∙◌, ℕ, Bool, List, length, ap, sym, All, take_all, sliced, length-sliced, pieces, pieces-sliced, filled}
 use Rattle.std.proofs.lemmas.Grind.{pieces as parts_of_lists}
-use Rattle.std.proofs.lemmas.List.{take_all}
-use Rattle.arrow_memory.specs.Sliced.{sliced}
-use Rattle.arrow_memory.proofs.SlicedLemmas.{length-sliced}
-use Rattle.arrow_flat.specs.Pieces.{pieces}
-use Rattle.arrow_flat.specs.PieceLaws.{pieces-sliced}
-use Rattle.arrow_flat_growable.specs.GrownRows.{filled}
 
 pub part_rows : (os bytes part : List ℕ) (start len : ℕ) → part ≡ sliced os start (len + 1) → pieces part bytes ≡ sliced (pieces os bytes) start len
 part_rows os bytes part start len is = ap (λ p. pieces p bytes) is ∙ pieces-sliced os bytes start len

@@ -1,8 +1,6 @@
 -- Clauses on what a call answers.
-use Rattle.std.proofs.Common.{◌≡◌, Result, Ok, Err}
-use Rattle.std.specs.Prelude.{IfOk, OnOk}
-use Rattle.std.specs.Result.{IsErrAnd}
-use Rattle.arrow_types.specs.declared.error.Error.{Error}
+use Rattle.arrow_flat_growable.proofs.Common.{◌≡◌, Result, Ok, Err, IfOk, IsErrAnd, Error}
+use Rattle.std.specs.Prelude.{OnOk}
 
 -- what follows from a fact on success
 pub on_ok : {T E P Q : Type 0} (r : Result T E) → OnOk r P → (P → Q) → OnOk r Q

@@ -1,19 +1,6 @@
 -- Slots of stored values: those that are appended, and how many fit.
-use Rattle.std.proofs.Common.{◌≡◌, ℕ, ◌+◌, ◌-◌, ◌<◌, ◌≤◌, ◌^◌, true, List, [], ◌++◌, length, map, take, replicate, ap, ◌∙◌, arith, length-append}
+use Rattle.arrow_flat_growable.proofs.Common.{◌≡◌, ℕ, ◌+◌, ◌-◌, ◌<◌, ◌≤◌, ◌^◌, true, List, [], ◌++◌, length, map, take, replicate, ap, ◌∙◌, arith, length-append, lt_of_not-le, append-nil, length-map, length-replicate, map-append, take_all, ArrowType, Fits, physical_type_of, Slot, sliced, map_sliced, length-sliced, map_constant, Part, with_parts, fits_count}
 use Rattle.std.specs.Prelude.{OnOk, Result, Ok, Err}
-use Rattle.std.proofs.Math.Nat.{lt_of_not-le}
-use Rattle.std.proofs.lemmas.List.{append-nil, length-map, length-replicate, map-append, take_all}
-use Rattle.arrow_types.specs.ArrowType.{ArrowType}
-use Rattle.arrow_types.specs.Fits.{Fits}
-use Rattle.arrow_types.specs.Physical.{physical_type_of}
-use Rattle.arrow_types.specs.Slot.{Slot}
-use Rattle.arrow_memory.specs.Sliced.{sliced}
-use Rattle.arrow_memory.proofs.OffsetLemmas.{map_sliced}
-use Rattle.arrow_memory.proofs.SlicedLemmas.{length-sliced}
-use Rattle.arrow_arrays.proofs.NullLemmas.{map_constant}
-use Rattle.arrow_flat_growable.specs.declared.growable.parts.Part.{Part}
-use Rattle.arrow_flat_growable.specs.GrownParts.{with_parts}
-use Rattle.arrow_flat_growable.specs.FlatLaws.{fits_count}
 use Rattle.arrow_flat_growable.proofs.FitsLemmas.{is_only_counted, fits_only_counted}
 
 module _ {A : Type 0} (slot : A → Slot) where

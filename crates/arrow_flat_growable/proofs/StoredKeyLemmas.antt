@@ -1,20 +1,5 @@
 -- Keys that are stored for an array, whatever beneath nulls, and where they come behind others.
-use Rattle.std.proofs.Common.{arith, ◌≡◌, ◌+◌, ◌≤◌, ℕ, ℤ, zero, suc, pos, negsuc, Bool, true, false, Bor, Option, Some, None, List, [], ◌∷◌, ◌++◌, length, map, take, drop, get_or, replicate, refl, ap, sym, subst, ◌∙◌}
-use Rattle.std.specs.List.{AllZip}
-use Rattle.std.proofs.lemmas.List.{length-map}
-use Rattle.std.proofs.lemmas.List.Elements.{All-take, All-drop}
-use Rattle.std.proofs.lemmas.Slice.Zip.{AllZip-long}
-use Rattle.arrow_types.specs.Rows.{mask, masked}
-use Rattle.arrow_types.specs.Slot.{Slot, Null, Number}
-use Rattle.arrow_memory.specs.Sliced.{sliced}
-use Rattle.arrow_memory.proofs.OffsetLemmas.{map_sliced}
-use Rattle.arrow_memory.proofs.SlicedLemmas.{length-sliced}
-use Rattle.arrow_flat.specs.Parts.{FitsRows, bits_of_slice}
-use Rattle.arrow_arrays.specs.KeyedParts.{AreKeys, IsKey, KeyedParts, key_in, keys_in}
-use Rattle.arrow_arrays.proofs.NullLemmas.{map_constant}
-use Rattle.arrow_flat_growable.specs.Flat.{BindsAll}
-use Rattle.arrow_flat_growable.specs.Keys.{BindsKeys, StoresAt, StoresKey, StoresKeys, grown_key, zero_key}
-use Rattle.arrow_flat_growable.specs.MaskLaws.{mask-part, mask-set, mask-unset}
+use Rattle.arrow_flat_growable.proofs.Common.{arith, ◌≡◌, ◌+◌, ◌≤◌, ℕ, ℤ, zero, suc, pos, negsuc, Bool, true, false, Bor, Option, Some, None, List, [], ◌∷◌, ◌++◌, length, map, take, drop, get_or, replicate, refl, ap, sym, subst, ◌∙◌, AllZip, length-map, All-take, All-drop, AllZip-long, mask, masked, Slot, Null, Number, sliced, map_sliced, length-sliced, FitsRows, bits_of_slice, AreKeys, IsKey, KeyedParts, key_in, keys_in, map_constant, BindsAll, BindsKeys, StoresAt, StoresKey, StoresKeys, grown_key, zero_key, mask-part, mask-set, mask-unset}
 use Rattle.arrow_flat_growable.proofs.StoreLemmas.{slots_part}
 
 -- of a part of two lists, place by place

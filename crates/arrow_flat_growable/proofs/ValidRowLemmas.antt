@@ -1,16 +1,6 @@
 -- Rows that come behind others, in bytes or in the rows of a child: empty where their bit is not set.
-use Rattle.std.proofs.Common.{arith, ◌≡◌, ◌+◌, ◌-◌, ◌<◌, ◌≤◌, ℕ, zero, suc, Bool, true, false, List, [], ◌∷◌, ◌++◌, length, replicate, take, slice_index, if◌then◌else◌, refl, ap, sym, subst, ◌∙◌}
-use Rattle.std.specs.List.{All}
-use Rattle.std.proofs.Math.Seq.{drop-append_seam, take-append_seam}
-use Rattle.std.proofs.lemmas.List.{length-append, length-replicate, append_assoc}
-use Rattle.std.proofs.lemmas.List.Sums.{sum_by-append, sum_by-cons}
-use Rattle.std.proofs.lemmas.List.Elements.{All-append, All-take, All-drop, All-cons, All-nil}
-use Rattle.arrow_memory.specs.Offsets.{IsOffsets, last_of, valid_length, valid_items, valid_ends, with_valid_rows}
-use Rattle.arrow_memory.specs.Sliced.{sliced}
-use Rattle.arrow_memory.proofs.OffsetLemmas.{at_most_last, offsets_rise}
-use Rattle.arrow_memory.proofs.SlicedLemmas.{length-sliced}
-use Rattle.arrow_flat.specs.Pieces.{pieces, pieces_from}
-use Rattle.arrow_flat_growable.specs.GrownRows.{AreGrown, filled, total, valid_values}
+use Rattle.arrow_flat_growable.proofs.Common.{arith, ◌≡◌, ◌+◌, ◌-◌, ◌<◌, ◌≤◌, ℕ, zero, suc, Bool, true, false, List, [], ◌∷◌, ◌++◌, length, replicate, take, slice_index, if◌then◌else◌, refl, ap, sym, subst, ◌∙◌, All, drop-append_seam, take-append_seam, length-replicate, sum_by-append, sum_by-cons, All-append, All-take, All-drop, All-cons, All-nil, IsOffsets, last_of, valid_length, valid_items, valid_ends, with_valid_rows, sliced, at_most_last, offsets_rise, length-sliced, pieces, pieces_from, AreGrown, filled, total, valid_values}
+use Rattle.std.proofs.lemmas.List.{length-append, append_assoc}
 use Rattle.arrow_flat_growable.proofs.GrownRowLemmas.{last_behind, last_more, part_cut, part_rows, pieces-more, pieces-within, same_begin, sliced-cut, total_grown}
 
 -- the last of their offsets

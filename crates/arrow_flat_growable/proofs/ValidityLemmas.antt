@@ -1,8 +1,7 @@
 -- Bits that are kept only where one of them may not be set.
-use Rattle.std.proofs.Common.{arith, ◌≡◌, ◌+◌, ◌≤◌, ℕ, Bool, true, List, ◌++◌, Option, Some, None, length, replicate, refl, ap, sym, ◌∙◌}
-use Rattle.std.specs.Prelude.{option_map, IfSome, IsSomeAnd, ◌^◌}
-use Rattle.std.proofs.lemmas.List.{length-replicate, replicate-append-replicate, length-append}
-use Rattle.arrow_flat_growable.specs.Validity.{AppendsValidity}
+use Rattle.arrow_flat_growable.proofs.Common.{arith, ◌≡◌, ◌+◌, ◌≤◌, ℕ, Bool, true, List, ◌++◌, Option, Some, None, length, replicate, refl, ap, sym, ◌∙◌, option_map, IfSome, IsSomeAnd, length-replicate, replicate-append-replicate, AppendsValidity}
+use Rattle.std.specs.Prelude.{◌^◌}
+use Rattle.std.proofs.lemmas.List.{length-append}
 
 -- bits that are set come behind others, whether these are kept or not
 pub set_appended : (old new : Option (List Bool)) (n len : ℕ) → new ≡ option_map (λ bits. bits ++ replicate len true) old → IfSome old (λ bits. length bits ≡ n) → AppendsValidity old new n (replicate len true)

@@ -1,26 +1,7 @@
 -- What a closure answered to numbers of rows, one more at a time, and to the values in these rows.
-use Rattle.std.proofs.Common.{◌≡◌, ◌∙◌, ℕ, suc, ◌+◌, ◌*◌, ◌%◌, ◌^◌, ◌<◌, append_assoc, Bool, Option, Some, None, List, [], ◌∷◌, ◌++◌, length, map, arith, ap, subst, sym, refl}
-use Rattle.std.specs.Prelude.{Result, Ok, Err, slice_get, is_none, not, unwrap_or}
-use Rattle.std.specs.Prelude.{bit_or}
+use Rattle.arrow_logic.proofs.Common.{◌≡◌, ◌∙◌, ℕ, suc, ◌+◌, ◌*◌, ◌%◌, ◌^◌, ◌<◌, append_assoc, Bool, Option, Some, None, List, [], ◌∷◌, ◌++◌, length, map, arith, ap, subst, sym, refl, slice_get, is_none, unwrap_or, bit_or, bit_at, from_bool, length-map-range_with_len, AllZip, zip, common_steps, All-cons, All-nil, get_or, slice_get-get_or, get_or-zip, IfErr, IfOk, inl, inr, ◌⊎◌, IsErrAnd, Error, Slot, either_bits, low_bits, bits_of_word, word_more, AnswersSome, nulls, RefusesFirst, answers_ok, AnswersFrom, AppendsAnswers, RefusesBelow, answers_at, answers_parts, parts_of}
+use Rattle.std.specs.Prelude.{Result, Ok, Err, not}
 use Rattle.std.specs.Prelude.{◌==◌}
-use Rattle.std.specs.Int.{bit_at, from_bool}
-use Rattle.std.proofs.lemmas.List.FromFn.{length-map-range_with_len}
-use Rattle.std.specs.List.{AllZip, zip}
-use Rattle.std.proofs.lemmas.Grind.{common_steps}
-use Rattle.std.proofs.lemmas.List.Elements.{All-cons, All-nil}
-use Rattle.std.proofs.Common.{get_or}
-use Rattle.std.proofs.lemmas.Option.{slice_get-get_or}
-use Rattle.std.proofs.lemmas.Slice.Zip.{get_or-zip}
-use Rattle.std.proofs.Common.{IfErr, IfOk, inl, inr}
-use Rattle.std.specs.Prelude.{◌⊎◌}
-use Rattle.std.specs.Result.{IsErrAnd}
-use Rattle.arrow_types.specs.declared.error.Error.{Error}
-use Rattle.arrow_types.specs.Slot.{Slot}
-use Rattle.arrow_memory.specs.Bits.{either_bits}
-use Rattle.arrow_memory.specs.Words.{low_bits}
-use Rattle.arrow_memory.proofs.BitLemmas.{bits_of_word, word_more}
-use Rattle.arrow_logic.specs.Answers.{AnswersSome, nulls, RefusesFirst, answers_ok}
-use Rattle.arrow_logic.specs.Gathered.{AnswersFrom, AppendsAnswers, RefusesBelow, answers_at, answers_parts, parts_of}
 
 -- more answers behind some
 pub answers_join : {Y : Type 0} (R : ℕ → Y → Type 0) (n m : ℕ) (ys zs : List Y) → n + length ys ≡ m → AnswersFrom R n ys → AnswersFrom R m zs → AnswersFrom R n (ys ++ zs)

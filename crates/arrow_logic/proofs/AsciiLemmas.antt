@@ -1,14 +1,6 @@
 -- Which of 16 bytes are ASCII, by one mask.
-use Rattle.std.proofs.Common.{◌≡◌, ℕ, ◌<◌, ◌≤◌, ◌%◌, ◌^◌, Bool, true, false, cond, leb, List, [], ◌∷◌, length, map, take, replicate, get_or, slice_index, w8, w64, refl, ap, sym, subst, ◌∙◌, arith, inl, inr}
-use Rattle.std.specs.Prelude.{IsAscii}
-use Rattle.std.specs.Int.{bit_at, trailing_zeros}
-use Rattle.std.specs.Simd.Lanes.{mask_l, top, zip2}
-use Rattle.std.proofs.Math.Nat.{eq-zero-or-pos}
-use Rattle.std.proofs.lemmas.Bool.{cases_lt, leb-false}
-use Rattle.std.proofs.lemmas.List.{get_or-take, get_or_past, length-map, length-take, length-take-le}
+use Rattle.arrow_logic.proofs.Common.{◌≡◌, ℕ, ◌<◌, ◌≤◌, ◌%◌, ◌^◌, Bool, true, false, cond, leb, List, [], ◌∷◌, length, map, take, replicate, get_or, slice_index, w8, w64, refl, ap, sym, subst, ◌∙◌, arith, inl, inr, IsAscii, bit_at, trailing_zeros, mask_l, top, zip2, eq-zero-or-pos, cases_lt, leb-false, get_or-take, get_or_past, length-map, length-take, length-take-le, bit_at-zero, bit_at-trailing_zeros, bit_mask_l, mask_l-mod, tops_compared}
 use Rattle.std.proofs.Math.ListN.{get_or-map}
-use Rattle.std.proofs.lemmas.Nat.Bits.{bit_at-zero, bit_at-trailing_zeros}
-use Rattle.std.proofs.lemmas.Simd.{bit_mask_l, mask_l-mod, tops_compared}
 
 abbrev high : ℕ → Bool
 high b = leb 128 b

@@ -1,10 +1,5 @@
 -- What is given of batches of rows that are joined.
-use Rattle.std.proofs.Common.{arith, ◌≡◌, ◌∙◌, List, [], ◌∷◌, ◌++◌, length, map, ap, refl}
-use Rattle.std.proofs.lemmas.List.{map-append}
-use Rattle.arrow_types.specs.Rows.{joined}
-use Rattle.arrow_types.specs.Slot.{Slot}
-use Rattle.arrow_flat.specs.RowByRow.{AreAlikeLong, row_by_row}
-use Rattle.arrow_logic.specs.Laws.{GiveByBatch, GiveEachByBatch}
+use Rattle.arrow_logic.proofs.Common.{arith, ◌≡◌, ◌∙◌, List, [], ◌∷◌, ◌++◌, length, map, ap, refl, map-append, joined, Slot, AreAlikeLong, row_by_row, GiveByBatch, GiveEachByBatch}
 
 row_by_row-append : {A B C : Type 0} (give : A → B → C) (xs zs : List A) (ys ws : List B) → length xs ≡ length ys → row_by_row give (xs ++ zs) (ys ++ ws) ≡ row_by_row give xs ys ++ row_by_row give zs ws
 row_by_row-append give [] zs [] ws same = refl

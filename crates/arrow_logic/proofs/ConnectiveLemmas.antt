@@ -1,20 +1,6 @@
 -- What a connective makes of two arrays of truth values, row by row.
-use Rattle.std.proofs.Common.{◌≡◌, ℕ, ◌^◌, ◌<◌, w64, ◌&&◌, ◌||◌, Bool, true, false, not, Option, Some, None, List, [], ◌∷◌, length, map, if◌then◌else◌, refl, ap, sym, subst, ◌∙◌, arith}
-use Rattle.std.specs.Prelude.{◌==◌, bit_and, bit_or}
-use Rattle.std.specs.Int.{bit_at, bit_not}
-use Rattle.std.proofs.lemmas.List.{length-map}
-use Rattle.arrow_types.specs.Logic.{both, either, kleene_both, kleene_either}
-use Rattle.arrow_types.specs.Rows.{mask, masked}
-use Rattle.arrow_types.specs.Slot.{Slot, Null, Boolean}
-use Rattle.arrow_memory.specs.Bits.{both_bits, by_fours, either_bits, first_bits, paired}
-use Rattle.arrow_flat.specs.Parts.{FitsRows}
-use Rattle.arrow_flat.proofs.PartsLemmas.{length-masked}
-use Rattle.arrow_logic.specs.Connective.{bits_by, slot_by, kleene_by, decides, known_bit, known_side}
-use Rattle.arrow_flat.specs.RowByRow.{row_by_row}
-use Rattle.arrow_logic.specs.Validities.{combined}
-use Rattle.arrow_logic.specs.declared.connective.Connective.{Connective}
-use Rattle.arrow_logic.specs.declared.connective.Connective.TheVariants.{And, Or}
-use Rattle.arrow_memory.proofs.LogicLemmas.{and_each, and_not_each, length-paired, or_each}
+use Rattle.arrow_logic.proofs.Common.{◌≡◌, ℕ, ◌^◌, ◌<◌, w64, ◌&&◌, ◌||◌, Bool, true, false, not, Option, Some, None, List, [], ◌∷◌, length, map, if◌then◌else◌, refl, ap, sym, subst, ◌∙◌, arith, bit_or, bit_at, bit_not, length-map, both, either, kleene_both, kleene_either, mask, masked, Slot, Null, Boolean, both_bits, by_fours, either_bits, first_bits, paired, FitsRows, length-masked, bits_by, slot_by, kleene_by, decides, known_bit, known_side, row_by_row, combined, Connective, And, Or, and_each, and_not_each, length-paired, or_each}
+use Rattle.std.specs.Prelude.{◌==◌, bit_and}
 use Rattle.arrow_logic.proofs.MaskedLemmas.{bits_of, masked-by_bits, length-bits_of, bits_of-combined, fits_combined, bits_of-known_side, fits_known_side}
 
 -- one row: what is stored, where it is valid

@@ -1,11 +1,5 @@
 -- What is stored of each row: one row at a time, and as slots.
-use Rattle.std.proofs.Common.{◌≡◌, ℕ, zero, suc, ◌<◌, Bool, true, false, Option, Some, None, List, [], ◌∷◌, length, map, get_or, if◌then◌else◌, refl, ap, sym, arith}
-use Rattle.std.specs.List.{All}
-use Rattle.std.proofs.lemmas.List.{get_or-map, length-map}
-use Rattle.arrow_types.specs.Rows.{mask, masked, valid_at}
-use Rattle.arrow_types.specs.Slot.{Slot, Null}
-use Rattle.arrow_flat.specs.Parts.{FitsRows}
-use Rattle.arrow_logic.specs.Kept.{kept, kept_by}
+use Rattle.arrow_logic.proofs.Common.{◌≡◌, ℕ, zero, suc, ◌<◌, Bool, true, false, Option, Some, None, List, [], ◌∷◌, length, map, get_or, if◌then◌else◌, refl, ap, sym, arith, All, get_or-map, length-map, mask, masked, valid_at, Slot, Null, FitsRows, kept, kept_by}
 
 module _ {A B : Type 0} (spare : B) (f : A → B) where
   length-kept_by : (bits : List Bool) (xs : List A) → length bits ≡ length xs → length (kept_by spare f bits xs) ≡ length xs

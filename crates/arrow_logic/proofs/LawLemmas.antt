@@ -1,18 +1,7 @@
 -- The laws of both logics, of one row and of all, and of parts.
-use Rattle.std.proofs.Common.{◌≡◌, ℕ, zero, suc, ◌+◌, ◌-◌, pos, min, Bool, true, false, not, Option, Some, None, List, [], ◌∷◌, length, map, take, drop, refl, ap, sym, ◌∙◌, arith}
+use Rattle.arrow_logic.proofs.Common.{◌≡◌, ℕ, zero, suc, ◌+◌, ◌-◌, pos, min, Bool, true, false, not, Option, Some, None, List, [], ◌∷◌, length, map, take, drop, refl, ap, sym, ◌∙◌, arith, and_assoc, and_comm, not-not, or_assoc, or_comm, take-nil, scalar, scalars, drop-drop, drop_min, chars-encodes, scalars-chars, both, either, kleene_both, kleene_either, negated, at_most, cut, part, masked, Slot, Boolean, Bytes, Text, length_within, row_by_row}
 use Rattle.std.specs.Prelude.{◌&&◌, IsUtf8, encode_utf8_all}
 use Rattle.std.specs.Str.{chars}
-use Rattle.std.proofs.Math.Bool.{and_assoc, and_comm, not-not, or_assoc, or_comm}
-use Rattle.std.proofs.Math.Seq.{take-nil}
-use Rattle.std.proofs.Math.Utf8.{scalar, scalars}
-use Rattle.std.proofs.lemmas.List.{drop-drop, drop_min}
-use Rattle.std.proofs.lemmas.Str.{chars-encodes, scalars-chars}
-use Rattle.arrow_types.specs.Logic.{both, either, kleene_both, kleene_either, negated}
-use Rattle.arrow_types.specs.Part.{at_most, cut, part}
-use Rattle.arrow_types.specs.Rows.{masked}
-use Rattle.arrow_types.specs.Slot.{Slot, Boolean, Bytes, Text}
-use Rattle.arrow_logic.specs.Laws.{length_within}
-use Rattle.arrow_flat.specs.RowByRow.{row_by_row}
 use Rattle.arrow_logic.proofs.ScalarLemmas.{turned_rows}
 
 -- ---- lists, by what holds of each pair

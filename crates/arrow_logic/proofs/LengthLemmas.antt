@@ -1,27 +1,6 @@
 -- How long rows are, a word of rows at a time.
-use Rattle.std.proofs.Common.{◌≡◌, ℕ, suc, ◌+◌, ◌-◌, ◌/◌, ◌^◌, ◌<◌, ◌≤◌, ◌==◌, ℤ, pos, ◌-ℤ◌, ◌≤ℤ◌, Bool, true, false, Option, List, [], ◌∷◌, ◌++◌, length, map, take, get_or, slice_index, if◌then◌else◌, bit_and, nat_eq, refl, ap, subst, subst₂, sym, ◌∙◌, append_assoc, arith, inl, inr}
-use Rattle.std.specs.Int.{bit_at}
-use Rattle.std.specs.List.{range_with_len}
-use Rattle.std.proofs.Math.Seq.{take-add}
-use Rattle.std.proofs.lemmas.Int.{ints}
-use Rattle.std.proofs.lemmas.Bool.{cases_lt}
-use Rattle.std.proofs.lemmas.List.{ext_get_or, get_or-append_right, get_or_append_left, length-append, map-append}
-use Rattle.std.proofs.lemmas.List.FromFn.{get_or-map-range_with_len, length-map-range_with_len, map-range_with_len_more}
-use Rattle.std.proofs.lemmas.Nat.Bits.{shr_and_one}
-use Rattle.std.proofs.lemmas.Option.{get_or_from_slice_get}
-use Rattle.std.proofs.lemmas.Simd.{map-map}
-use Rattle.arrow_types.specs.Slot.{Slot, Number}
-use Rattle.arrow_memory.specs.Offsets.{IsOffsets, last_of, valid_length}
-use Rattle.arrow_memory.specs.Sliced.{sliced}
-use Rattle.arrow_memory.proofs.OffsetLemmas.{at_most_last, offsets_rise}
-use Rattle.arrow_memory.proofs.SlicedLemmas.{length-sliced}
-use Rattle.arrow_flat.specs.Parts.{FitsRows}
-use Rattle.arrow_flat.specs.Pieces.{pieces}
-use Rattle.arrow_flat.proofs.PartsLemmas.{fits_within}
-use Rattle.arrow_flat.proofs.PieceLemmas.{length-pieces, member_of_part, piece_at}
-use Rattle.arrow_logic.specs.Kept.{kept}
-use Rattle.arrow_memory.specs.Ends.{word_length}
-use Rattle.arrow_logic.specs.Length.{HasBitsFrom}
+use Rattle.arrow_logic.proofs.Common.{◌≡◌, ℕ, suc, ◌+◌, ◌-◌, ◌/◌, ◌^◌, ◌<◌, ◌≤◌, ◌==◌, ℤ, pos, ◌-ℤ◌, ◌≤ℤ◌, Bool, true, false, Option, List, [], ◌∷◌, ◌++◌, length, map, take, get_or, slice_index, if◌then◌else◌, bit_and, nat_eq, refl, ap, subst, subst₂, sym, ◌∙◌, append_assoc, arith, inl, inr, bit_at, range_with_len, take-add, ints, cases_lt, ext_get_or, get_or-append_right, get_or_append_left, map-append, get_or-map-range_with_len, length-map-range_with_len, map-range_with_len_more, shr_and_one, get_or_from_slice_get, map-map, Slot, Number, IsOffsets, last_of, valid_length, sliced, at_most_last, offsets_rise, length-sliced, FitsRows, pieces, fits_within, length-pieces, member_of_part, piece_at, kept, word_length, HasBitsFrom}
+use Rattle.std.proofs.lemmas.List.{length-append}
 use Rattle.arrow_logic.proofs.KeptLemmas.{at-kept, length-kept}
 
 -- rows that lie so in bytes, under a validity

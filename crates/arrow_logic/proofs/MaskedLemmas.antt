@@ -1,13 +1,5 @@
 -- Truth values under a validity: what a function of each row gives, and validities as bits.
-use Rattle.std.proofs.Common.{◌≡◌, ℕ, suc, ◌&&◌, ◌||◌, Bool, true, false, Option, Some, None, List, [], ◌∷◌, length, map, replicate, refl, ap, sym, ◌∙◌}
-use Rattle.std.proofs.lemmas.List.{length-map, length-replicate}
-use Rattle.arrow_types.specs.Rows.{mask, masked}
-use Rattle.arrow_types.specs.Slot.{Slot, Null, Boolean}
-use Rattle.arrow_memory.specs.Bits.{both_bits, either_bits}
-use Rattle.arrow_memory.proofs.LogicLemmas.{length-paired}
-use Rattle.arrow_flat.specs.Parts.{FitsRows}
-use Rattle.arrow_logic.specs.Connective.{known_side}
-use Rattle.arrow_logic.specs.Validities.{AreOneLength, combined}
+use Rattle.arrow_logic.proofs.Common.{◌≡◌, ℕ, suc, ◌&&◌, ◌||◌, Bool, true, false, Option, Some, None, List, [], ◌∷◌, length, map, replicate, refl, ap, sym, ◌∙◌, length-map, length-replicate, mask, masked, Slot, Null, Boolean, both_bits, either_bits, length-paired, FitsRows, known_side, AreOneLength, combined}
 
 -- ---- a function of each row
 

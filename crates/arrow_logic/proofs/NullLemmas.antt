@@ -1,16 +1,7 @@
 -- Which rows of an array of any type are null, by its validity.
-use Rattle.std.proofs.Common.{◌≡◌, ◌↔◌, ℕ, suc, Bool, true, false, not, Some, None, List, [], ◌∷◌, length, map, replicate, refl, ap, sym, ◌∙◌, arith}
-use Rattle.std.specs.Prelude.{IsTrue}
-use Rattle.std.specs.List.{All}
-use Rattle.std.proofs.lemmas.List.{length-replicate}
-use Rattle.std.proofs.lemmas.Simd.{map-map}
-use Rattle.std.proofs.Math.Bool.{not-not}
-use Rattle.arrow_types.specs.Relation.{is_null}
-use Rattle.arrow_types.specs.Slot.{Slot, Null as null}
-use Rattle.arrow_flat.specs.Parts.{IsValue}
-use Rattle.arrow_arrays.specs.Any.{MarksArray, any_array_rows, kind_of, null_kind}
-use Rattle.arrow_arrays.specs.declared.array.any.AnyArray.{AnyArray}
-use Rattle.arrow_arrays.specs.declared.array.any.AnyArray.TheVariants.{Null, Boolean, Primitive, Utf8, LargeUtf8, Binary, LargeBinary, FixedSizeBinary, List as ListOf, FixedSizeList, Struct, Union, Map, Dictionary}
+use Rattle.arrow_logic.proofs.Common.{◌≡◌, ◌↔◌, ℕ, suc, Bool, true, false, not, Some, None, List, [], ◌∷◌, length, map, replicate, refl, ap, sym, ◌∙◌, arith, IsTrue, All, length-replicate, map-map, not-not, is_null, Slot, IsValue, MarksArray, any_array_rows, kind_of, null_kind, AnyArray, Primitive, Utf8, LargeUtf8, Binary, LargeBinary, FixedSizeBinary, FixedSizeList, Struct, Union, Map, Dictionary}
+use Rattle.arrow_types.specs.Slot.{Null as null}
+use Rattle.arrow_arrays.specs.declared.array.any.AnyArray.TheVariants.{Null, Boolean, List as ListOf}
 use Rattle.arrow_logic.proofs.MaskedLemmas.{replicate-of}
 
 -- no row is null, and each is

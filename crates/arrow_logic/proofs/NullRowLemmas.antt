@@ -1,17 +1,6 @@
 -- Which rows are null, by the validity.
-use Rattle.std.proofs.Common.{◌≡◌, ◌∙◌, ℕ, zero, suc, Bool, true, false, Option, Some, None, List, [], ◌∷◌, length, map, replicate, arith, ap, subst, sym, refl}
+use Rattle.arrow_logic.proofs.Common.{◌≡◌, ◌∙◌, ℕ, zero, suc, Bool, true, false, Option, Some, None, List, [], ◌∷◌, length, map, replicate, arith, ap, subst, sym, refl, All, All-head, All-tail, is_null, Slot, both_bits, either_bits, FitsRows, IsValue, MarksNulls, length-map, masked, length-masked, marks-masked, nulls, combined}
 use Rattle.std.specs.Prelude.{not}
-use Rattle.std.specs.List.{All}
-use Rattle.std.proofs.lemmas.List.Elements.{All-head, All-tail}
-use Rattle.arrow_types.specs.Relation.{is_null}
-use Rattle.arrow_types.specs.Slot.{Slot}
-use Rattle.arrow_memory.specs.Bits.{both_bits, either_bits}
-use Rattle.arrow_flat.specs.Parts.{FitsRows, IsValue, MarksNulls}
-use Rattle.std.proofs.lemmas.List.{length-map}
-use Rattle.arrow_types.specs.Rows.{masked}
-use Rattle.arrow_flat.proofs.PartsLemmas.{length-masked, marks-masked}
-use Rattle.arrow_logic.specs.Answers.{nulls}
-use Rattle.arrow_logic.specs.Validities.{combined}
 
 -- which of so many rows a validity marks as null
 abbrev pub unset_bits : Option (List Bool) → ℕ → List Bool

@@ -1,13 +1,6 @@
 -- Rows that become null where they equal others, by what is stored and two validities.
-use Rattle.std.proofs.Common.{◌≡◌, ◌∙◌, ◌&&◌, Bool, true, false, not, Option, None, Some, List, [], ◌∷◌, length, map, if◌then◌else◌, ap, subst, sym, refl}
-use Rattle.std.specs.Prelude.{◌↔◌, IsTrue}
-use Rattle.std.proofs.lemmas.List.{length-map}
-use Rattle.arrow_types.specs.Relation.{eq, is_null, nulled, related, same}
-use Rattle.arrow_types.specs.Rows.{mask, masked}
-use Rattle.arrow_types.specs.Slot.{Slot, Boolean, Null}
-use Rattle.arrow_flat.specs.Parts.{FitsRows, IsValue}
-use Rattle.arrow_logic.specs.Nullif.{valid_but, within_valid}
-use Rattle.arrow_flat.specs.RowByRow.{row_by_row}
+use Rattle.arrow_logic.proofs.Common.{◌≡◌, ◌∙◌, ◌&&◌, Bool, true, false, not, Option, None, Some, List, [], ◌∷◌, length, map, if◌then◌else◌, ap, subst, sym, refl, IsTrue, length-map, eq, is_null, nulled, related, same, mask, masked, Slot, Boolean, Null, FitsRows, IsValue, valid_but, within_valid, row_by_row}
+use Rattle.std.specs.Prelude.{◌↔◌}
 use Rattle.arrow_logic.proofs.SameLemmas.{same_slots, slot_is_value}
 
 -- ---- one row

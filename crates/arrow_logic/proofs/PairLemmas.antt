@@ -1,9 +1,6 @@
 -- What each pair of members of two lists gives, and bits that were answered of them.
-use Rattle.std.proofs.Common.{arith, ◌≡◌, ◌∙◌, ℕ, zero, suc, ◌<◌, Bool, false, List, [], ◌∷◌, get_or, length, ap, sym, refl}
+use Rattle.arrow_logic.proofs.Common.{arith, ◌≡◌, ◌∙◌, ℕ, zero, suc, ◌<◌, Bool, false, List, [], ◌∷◌, get_or, length, ap, sym, refl, ext_get_or, AnswersBits, row_by_row}
 use Rattle.std.specs.Prelude.{Result, Ok, Err, IfOk}
-use Rattle.std.proofs.lemmas.List.{ext_get_or}
-use Rattle.arrow_memory.specs.Gathered.{AnswersBits}
-use Rattle.arrow_flat.specs.RowByRow.{row_by_row}
 
 pub length-row_by_row : {A B C : Type 0} (give : A → B → C) (xs : List A) (ys : List B) → length xs ≡ length ys → length (row_by_row give xs ys) ≡ length xs
 length-row_by_row give [] ys long = refl

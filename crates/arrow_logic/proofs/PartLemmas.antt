@@ -1,23 +1,6 @@
 -- Rows of bytes under construction: a row is written behind those so far.
-use Rattle.std.proofs.Common.{◌≡◌, ℕ, ◌+◌, ◌-◌, ◌<◌, ◌≤◌, Bool, true, false, Option, Result, Ok, Err, IsOkUnless, if◌then◌else◌, List, [], ◌∷◌, ◌++◌, length, get_or, take, drop, slice_index, refl, ap, sym, subst, ◌∙◌, arith}
-use Rattle.std.specs.List.{All}
-use Rattle.std.specs.Result.{IsErrAnd}
-use Rattle.std.proofs.lemmas.Int.{ints}
-use Rattle.std.proofs.lemmas.Option.{get_or_from_slice_get}
-use Rattle.std.proofs.lemmas.List.{take-append-le, drop-append-le, take_all, length-drop, length-append, take_more}
-use Rattle.std.proofs.Math.Seq.{drop-append_seam}
-use Rattle.arrow_memory.proofs.SlicedLemmas.{sliced-sliced}
-use Rattle.arrow_types.specs.declared.error.Error.{Error}
-use Rattle.arrow_types.specs.declared.error.Error.TheVariants.{Overflow, OutOfMemory}
-use Rattle.arrow_memory.specs.Grown.{IsGrowthError}
-use Rattle.arrow_memory.specs.Offsets.{IsOffsets, last_of, with_row}
-use Rattle.arrow_memory.specs.Sliced.{sliced}
-use Rattle.arrow_memory.proofs.OffsetLemmas.{at_most_last, last_behind, offsets_more, offsets_rise}
-use Rattle.arrow_flat.specs.Parts.{FitsRows}
-use Rattle.arrow_flat.specs.Pieces.{pieces, pieces_from}
-use Rattle.arrow_flat.proofs.PieceLemmas.{length-pieces, piece_at}
-use Rattle.arrow_types.specs.Rows.{valid_at}
-use Rattle.arrow_logic.specs.Kept.{kept}
+use Rattle.arrow_logic.proofs.Common.{◌≡◌, ℕ, ◌+◌, ◌-◌, ◌<◌, ◌≤◌, Bool, true, false, Option, Result, Ok, Err, IsOkUnless, if◌then◌else◌, List, [], ◌∷◌, ◌++◌, length, get_or, take, drop, slice_index, refl, ap, sym, subst, ◌∙◌, arith, All, IsErrAnd, ints, get_or_from_slice_get, take-append-le, drop-append-le, take_all, length-drop, take_more, drop-append_seam, sliced-sliced, Error, Overflow, OutOfMemory, IsGrowthError, IsOffsets, last_of, with_row, sliced, at_most_last, last_behind, offsets_more, offsets_rise, FitsRows, pieces, pieces_from, length-pieces, piece_at, valid_at, kept}
+use Rattle.std.proofs.lemmas.List.{length-append}
 use Rattle.arrow_logic.proofs.KeptLemmas.{at-kept}
 
 -- rows that lie so: the bytes end with the last row

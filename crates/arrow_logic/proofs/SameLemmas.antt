@@ -1,14 +1,6 @@
 -- Slots of values: none is null, and two are the same exactly where the values are equal.
-use Rattle.std.proofs.Common.{◌≡◌, Bool, ap}
-use Rattle.std.specs.Prelude.{◌↔◌, IsTrue}
-use Rattle.std.proofs.lemmas.Bool.Decides.{Decides-like, same_from_decides}
-use Rattle.arrow_types.specs.Relation.{related, eq, same}
-use Rattle.arrow_types.specs.SameTree.{same_by-decides}
-use Rattle.arrow_types.specs.Slot.{Slot, Boolean}
-use Rattle.arrow_types.specs.StoredSlot.{slot_code}
-use Rattle.arrow_flat.specs.Laws.{is_value}
-use Rattle.arrow_flat.specs.Parts.{IsValue}
-use Rattle.arrow_flat.proofs.StoredLemmas.{slots_same}
+use Rattle.arrow_logic.proofs.Common.{◌≡◌, Bool, ap, IsTrue, Decides-like, same_from_decides, related, eq, same, same_by-decides, Slot, Boolean, slot_code, is_value, IsValue, slots_same}
+use Rattle.std.specs.Prelude.{◌↔◌}
 
 -- `==` of the values is the same of their slots
 pub same_slots : {A : Type 0} (slot : A → Slot) (equal : A → A → Bool) → ((x y : A) → related eq (slot x) (slot y) ≡ Boolean (equal x y)) → ((x y : A) → IsTrue (equal x y) ↔ (x ≡ y)) → (x y : A) → same (slot x) (slot y) ≡ equal x y

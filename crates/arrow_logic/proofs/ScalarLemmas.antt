@@ -1,12 +1,5 @@
 -- What a connective makes of rows and a scalar.
-use Rattle.std.proofs.Common.{◌≡◌, ℕ, Bool, true, false, not, Option, Some, None, List, [], ◌∷◌, length, map, replicate, if◌then◌else◌, refl, ap, sym, ◌∙◌}
-use Rattle.std.proofs.lemmas.Simd.{map-map}
-use Rattle.arrow_types.specs.Logic.{negated}
-use Rattle.arrow_types.specs.Rows.{mask, masked}
-use Rattle.arrow_types.specs.Slot.{Slot, Null, Boolean}
-use Rattle.arrow_logic.specs.Connective.{slot_by, kleene_by, decider, decides}
-use Rattle.arrow_logic.specs.declared.connective.Connective.{Connective}
-use Rattle.arrow_logic.specs.declared.connective.Connective.TheVariants.{And, Or}
+use Rattle.arrow_logic.proofs.Common.{◌≡◌, ℕ, Bool, true, false, not, Option, Some, None, List, [], ◌∷◌, length, map, replicate, if◌then◌else◌, refl, ap, sym, ◌∙◌, map-map, negated, mask, masked, Slot, Null, Boolean, slot_by, kleene_by, decider, decides, Connective, And, Or}
 use Rattle.arrow_logic.proofs.MaskedLemmas.{map-constant, map-masked, masked-constant, masked-same, replicate-of, none-valid}
 
 -- one row and a truth value, or null

@@ -1,19 +1,6 @@
 -- Characters of a text, and the bytes that begin them.
-use Rattle.std.proofs.Common.{◌≡◌, ℕ, zero, suc, ◌+◌, ◌-◌, ◌<◌, ◌≤◌, ◌/◌, min, ℤ, pos, negsuc, ◌≤ℤ◌, ◌<ℤ◌, unsigned_abs, Bool, true, false, ◌||◌, nat_lt, nat_le, ltb, List, [], ◌∷◌, ◌++◌, length, take, drop, get_or, refl, ap, sym, subst, ◌∙◌, arith, count_by, cond, if◌then◌else◌, IsUtf8, chars, encode_utf8_all, encode_utf8, append_assoc, take_at, drop_at, length-append, lt-ltb, le-leb, ltb-true, drop-cons, take-append-drop}
-use Rattle.std.specs.List.{All}
-use Rattle.std.proofs.Math.Utf8.{encode}
-use Rattle.std.proofs.lemmas.Bool.{le-ltb, lt-leb}
-use Rattle.std.proofs.lemmas.Int.{ints}
-use Rattle.std.proofs.lemmas.List.{drop_min, length-drop, take_all}
-use Rattle.std.proofs.lemmas.List.Sums.{sum_by-append, sum_by-cons}
-use Rattle.std.specs.Prelude.{Option, None, Some, IsAscii, bit_or}
-use Rattle.std.proofs.lemmas.Nat.{le_or_l, le_or_r, or_lt}
-use Rattle.std.proofs.lemmas.Str.Ascii.{IsAscii-nil}
-use Rattle.std.proofs.lemmas.Str.{IsAscii-drop, IsAscii-take, chars-IsAscii, encodes-IsAscii, encodes-chars}
-use lib.Utf8.{next}
-use Rattle.arrow_types.specs.Part.{cut, part_begin}
-use Rattle.arrow_memory.specs.Sliced.{sliced}
-use Rattle.arrow_logic.specs.Substring.{IsCutByBytes, begins, skipped, text_cut}
+use Rattle.arrow_logic.proofs.Common.{◌≡◌, ℕ, zero, suc, ◌+◌, ◌-◌, ◌<◌, ◌≤◌, ◌/◌, min, ℤ, pos, negsuc, ◌≤ℤ◌, ◌<ℤ◌, unsigned_abs, Bool, true, false, ◌||◌, nat_lt, nat_le, ltb, List, [], ◌∷◌, ◌++◌, length, take, drop, get_or, refl, ap, sym, subst, ◌∙◌, arith, count_by, cond, if◌then◌else◌, IsUtf8, chars, encode_utf8_all, encode_utf8, append_assoc, take_at, drop_at, length-append, lt-ltb, le-leb, ltb-true, drop-cons, take-append-drop, All, encode, le-ltb, lt-leb, ints, drop_min, length-drop, take_all, sum_by-append, sum_by-cons, IsAscii, bit_or, le_or_l, le_or_r, or_lt, IsAscii-nil, IsAscii-drop, IsAscii-take, chars-IsAscii, encodes-IsAscii, encodes-chars, next, cut, part_begin, sliced, IsCutByBytes, begins, skipped, text_cut}
+use Rattle.std.specs.Prelude.{Option, None, Some}
 
 -- a character's bytes: one that begins it, and others that go on with it
 record Spelt (c : ℕ) : Type 0 where

@@ -1,18 +1,6 @@
 -- Truth values that are true: in a word of rows, some, and all.
-use Rattle.std.proofs.Common.{◌≡◌, ℕ, zero, suc, ◌+◌, ◌-◌, ◌*◌, ◌^◌, ◌<◌, ◌≤◌, ◌&&◌, Bool, true, false, not, cond, Option, List, [], ◌∷◌, length, map, get_or, if◌then◌else◌, refl, ap, sym, subst, ◌∙◌, arith, inl, inr, w64}
-use Rattle.std.specs.Prelude.{◌==◌, Contains, count_by}
-use Rattle.std.specs.Int.{bit_at, trailing_zeros}
-use Rattle.std.specs.List.{All}
-use Rattle.std.proofs.lemmas.Bool.{cases_lt}
-use Rattle.std.proofs.lemmas.Bool.Decides.{nat_tests}
-use Rattle.std.proofs.lemmas.List.{length-map}
-use Rattle.std.proofs.lemmas.List.Elements.{All-nil, All-cons}
-use Rattle.std.proofs.lemmas.List.Sums.{sum_by-cons}
-use Rattle.std.proofs.lemmas.Nat.Bits.{bit_at-zero, bit_at-trailing_zeros}
-use Rattle.arrow_types.specs.Relation.{is_null}
-use Rattle.arrow_types.specs.Rows.{mask, masked, selects}
-use Rattle.arrow_types.specs.Slot.{Slot, Null, Boolean}
-use Rattle.arrow_flat.specs.Parts.{FitsRows}
+use Rattle.arrow_logic.proofs.Common.{◌≡◌, ℕ, zero, suc, ◌+◌, ◌-◌, ◌*◌, ◌^◌, ◌<◌, ◌≤◌, ◌&&◌, Bool, true, false, not, cond, Option, List, [], ◌∷◌, length, map, get_or, if◌then◌else◌, refl, ap, sym, subst, ◌∙◌, arith, inl, inr, w64, Contains, bit_at, trailing_zeros, All, cases_lt, nat_tests, length-map, All-nil, All-cons, sum_by-cons, bit_at-zero, bit_at-trailing_zeros, is_null, mask, masked, selects, Slot, Null, Boolean, FitsRows}
+use Rattle.std.specs.Prelude.{◌==◌, count_by}
 use Rattle.arrow_logic.proofs.MaskedLemmas.{bits_of, length-bits_of, masked-by_bits}
 
 -- ---- one row

@@ -34,7 +34,8 @@ pub use Rattle.arrow_memory.specs.Gathered.{AnswersBits, AnswersWords, GathersBi
 pub use Rattle.arrow_memory.specs.Masks.{IsMask, mask_in}
 pub use Rattle.arrow_memory.specs.Offsets.{AreOffsets, IsOffsets, RisesFrom, counted_on, last_of, valid_ends, valid_items, valid_length, with_row, with_rows, with_valid_rows}
 pub use Rattle.arrow_memory.specs.Sliced.{sliced}
-pub use Rattle.arrow_memory.specs.Words.{AppendsBits, AppendsWord, IsLowRun, IsPadded, IsWordAt, Reads, bits_in, is_set, low_bits, set_count, word_of}
+pub use Rattle.arrow_memory.specs.Words.{AppendsBits, AppendsWord, IsLowRun, IsPadded, IsWordAt, Reads, is_set, low_bits, set_count, word_of}
+unfoldable pub use Rattle.arrow_memory.specs.Words.{bits_in}
 pub use borrow.Rule.Slice.PartMut.{post_of}
 pub use mathlib.Core.Logic.{dite}
 pub use mir.Val.{bool_byte}

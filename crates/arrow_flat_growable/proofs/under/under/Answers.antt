@@ -1,8 +1,5 @@
-use Rattle.std.proofs.Common.{◌≡◌, ◌∙◌, Some, ap, arith, length, rules, subst, sym}
+use Rattle.arrow_flat_growable.proofs.Common.{◌≡◌, ◌∙◌, Some, ap, arith, length, rules, subst, sym, masked, FitsRows, rows_by, with_bits, length-masked}
 use Rattle.std.specs.Prelude.{option_copied}
-use Rattle.arrow_types.specs.Rows.{masked}
-use Rattle.arrow_flat.specs.Parts.{FitsRows, rows_by, with_bits}
-use Rattle.arrow_flat.proofs.PartsLemmas.{length-masked}
 use Rattle.arrow_flat_growable.proofs.MaskLemmas.{bits_under, rows_under}
 use Rattle.arrow_flat_growable.proofs.under.under.Goals as goal
 

@@ -1,5 +1,4 @@
-use Rattle.std.proofs.Common.{rules}
-use Rattle.std.specs.List.{zip}
+use Rattle.arrow_logic.proofs.Common.{rules, zip}
 use Rattle.arrow_logic.proofs.AnswerLemmas.{pair_at, pair_there, slice_get_is}
 use Rattle.arrow_logic.proofs.arity.answer_at_both.Goals as goal
 

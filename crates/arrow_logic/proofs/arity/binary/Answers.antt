@@ -1,7 +1,4 @@
-use Rattle.std.proofs.Common.{◌≡◌, ◌∙◌, ap, length, rules, subst, sym}
-use Rattle.std.specs.List.{AllZip, zip}
-use Rattle.std.proofs.lemmas.Result.{IfOk-weaker}
-use Rattle.arrow_logic.specs.Answers.{to_pair}
+use Rattle.arrow_logic.proofs.Common.{◌≡◌, ◌∙◌, ap, length, rules, subst, sym, AllZip, zip, IfOk-weaker, to_pair}
 use Rattle.arrow_logic.proofs.AnswerLemmas.{answers_each, pairs_long}
 use Rattle.arrow_logic.proofs.arity.binary.Goals as goal
 

@@ -1,6 +1,4 @@
-use Rattle.std.proofs.Common.{◌≡◌, ◌∙◌, ap, length, rules, subst, sym}
-use Rattle.std.specs.List.{AllZip, zip}
-use Rattle.arrow_logic.specs.Answers.{to_pair}
+use Rattle.arrow_logic.proofs.Common.{◌≡◌, ◌∙◌, ap, length, rules, subst, sym, AllZip, zip, to_pair}
 use Rattle.arrow_logic.proofs.AnswerLemmas.{answers_each, pairs_long, zipped_long}
 use Rattle.arrow_logic.proofs.arity.binary_with_bitmap.Goals as goal
 

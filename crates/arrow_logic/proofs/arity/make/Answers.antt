@@ -1,7 +1,4 @@
-use Rattle.std.proofs.Common.{ap, length, subst, sym}
-use Rattle.arrow_types.specs.TypeOf.{type_of}
-use Rattle.arrow_types.proofs.TypeLemmas.{carried_as_element}
-use Rattle.arrow_flat.specs.Parts.{FitsRows}
+use Rattle.arrow_logic.proofs.Common.{ap, length, subst, sym, type_of, carried_as_element, FitsRows}
 use Rattle.arrow_logic.proofs.arity.make.Goals as goal
 
 pub new-requires-clause-kind : goal.new-requires-clause-kind

@@ -1,8 +1,4 @@
-use Rattle.std.proofs.Common.{◌∙◌, ap, length, map, refl, sym}
-use Rattle.std.proofs.lemmas.Result.{IfOk-weaker}
-use Rattle.arrow_flat.specs.Laws.{all_values}
-use Rattle.arrow_flat.specs.Parts.{rows_by}
-use Rattle.arrow_logic.specs.Answers.{nulls}
+use Rattle.arrow_logic.proofs.Common.{◌∙◌, ap, length, map, refl, sym, IfOk-weaker, all_values, rows_by, nulls}
 use Rattle.arrow_logic.proofs.NullRowLemmas.{combined_none, fits_values, nulls_stored}
 use Rattle.arrow_logic.proofs.arity.make_of_one.Goals as goal
 

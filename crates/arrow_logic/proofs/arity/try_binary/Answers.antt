@@ -1,10 +1,4 @@
-use Rattle.std.proofs.Common.{◌≡◌, ◌∙◌, arith, ap, length, refl, rules, subst, sym}
-use Rattle.std.specs.Prelude.{◌⊎◌}
-use Rattle.std.specs.List.{AllZip, zip}
-use Rattle.std.proofs.lemmas.List.{length-map}
-use Rattle.std.proofs.lemmas.Result.{IfOk-weaker}
-use Rattle.arrow_types.specs.declared.error.Error.{Error}
-use Rattle.arrow_logic.specs.Answers.{RefusesFirst, answers_ok, to_pair}
+use Rattle.arrow_logic.proofs.Common.{◌≡◌, ◌∙◌, arith, ap, length, refl, rules, subst, sym, ◌⊎◌, AllZip, zip, length-map, IfOk-weaker, Error, RefusesFirst, answers_ok, to_pair}
 use Rattle.arrow_logic.proofs.AnswerLemmas.{answers_each, failed_first, pairs_long, passed}
 use Rattle.arrow_logic.proofs.arity.try_binary.Goals as goal
 

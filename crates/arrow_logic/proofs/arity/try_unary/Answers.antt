@@ -1,9 +1,4 @@
-use Rattle.std.proofs.Common.{◌≡◌, ◌∙◌, length, refl, rules, subst, sym}
-use Rattle.std.specs.Prelude.{◌⊎◌}
-use Rattle.std.specs.List.{AllZip}
-use Rattle.arrow_types.specs.declared.error.Error.{Error}
-use Rattle.std.proofs.lemmas.Result.{IfOk-weaker}
-use Rattle.arrow_logic.specs.Answers.{RefusesFirst, answers_ok}
+use Rattle.arrow_logic.proofs.Common.{◌≡◌, ◌∙◌, length, refl, rules, subst, sym, ◌⊎◌, AllZip, Error, IfOk-weaker, RefusesFirst, answers_ok}
 use Rattle.arrow_logic.proofs.AnswerLemmas.{answers_each, failed_first, passed}
 use Rattle.arrow_logic.proofs.arity.try_unary.Goals as goal
 

@@ -1,6 +1,4 @@
-use Rattle.std.proofs.Common.{◌≡◌, ◌∙◌, rules, subst, sym}
-use Rattle.std.specs.List.{AllZip}
-use Rattle.std.proofs.lemmas.Result.{IfOk-weaker}
+use Rattle.arrow_logic.proofs.Common.{◌≡◌, ◌∙◌, rules, subst, sym, AllZip, IfOk-weaker}
 use Rattle.arrow_logic.proofs.AnswerLemmas.{answers_each}
 use Rattle.arrow_logic.proofs.arity.unary.Goals as goal
 

@@ -1,10 +1,5 @@
-use Rattle.std.proofs.Common.{◌≡◌, ◌∙◌, ap, length, map, rules, subst}
+use Rattle.arrow_logic.proofs.Common.{◌≡◌, ◌∙◌, ap, length, map, rules, subst, AllZip, zip, either_bits, rows_by, nulls, answers_parts}
 use Rattle.std.specs.Prelude.{not}
-use Rattle.std.specs.List.{AllZip, zip}
-use Rattle.arrow_memory.specs.Bits.{either_bits}
-use Rattle.arrow_flat.specs.Parts.{rows_by}
-use Rattle.arrow_logic.specs.Answers.{nulls}
-use Rattle.arrow_logic.specs.Gathered.{answers_parts}
 use Rattle.arrow_logic.proofs.AnswerLemmas.{answers_each, answers_some, by_both, zipped_long}
 use Rattle.arrow_logic.proofs.arity.unary_checked.Goals as goal
 

@@ -1,5 +1,4 @@
-use Rattle.std.proofs.Common.{◌≡◌, ◌∙◌, length, rules, subst, sym}
-use Rattle.std.specs.List.{AllZip, zip}
+use Rattle.arrow_logic.proofs.Common.{◌≡◌, ◌∙◌, length, rules, subst, sym, AllZip, zip}
 use Rattle.arrow_logic.proofs.AnswerLemmas.{answers_each, zipped_long}
 use Rattle.arrow_logic.proofs.arity.unary_with_bitmap.Goals as goal
 

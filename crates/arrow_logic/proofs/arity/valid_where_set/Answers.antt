@@ -1,9 +1,4 @@
-use Rattle.std.proofs.Common.{◌∙◌, Some, ap, length, map, refl, subst, sym}
-use Rattle.std.proofs.lemmas.List.{length-map}
-use Rattle.arrow_flat.specs.Laws.{all_values}
-use Rattle.arrow_flat.specs.Parts.{FitsRows, rows_by}
-use Rattle.arrow_logic.specs.Answers.{nulls}
-use Rattle.arrow_logic.specs.Validities.{combined}
+use Rattle.arrow_logic.proofs.Common.{◌∙◌, Some, ap, length, map, refl, subst, sym, length-map, all_values, FitsRows, rows_by, nulls, combined}
 use Rattle.arrow_logic.proofs.NullRowLemmas.{fits_combined, fits_values, nulls_under}
 use Rattle.arrow_logic.proofs.arity.valid_where_set.Goals as goal
 

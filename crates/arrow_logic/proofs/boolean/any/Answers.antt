@@ -1,5 +1,4 @@
-use Rattle.std.proofs.Common.{arith, ◌*◌, ◌≤◌, length, refl}
-use Rattle.arrow_flat.specs.Parts.{boolean_rows}
+use Rattle.arrow_logic.proofs.Common.{arith, ◌*◌, ◌≤◌, length, refl, boolean_rows}
 use Rattle.arrow_logic.proofs.WordLemmas.{found, none_contained, none_more}
 use Rattle.arrow_logic.proofs.boolean.any.Goals as goal
 

@@ -1,5 +1,4 @@
-use Rattle.std.proofs.Common.{◌*◌}
-use Rattle.arrow_flat.specs.Parts.{boolean_rows}
+use Rattle.arrow_logic.proofs.Common.{◌*◌, boolean_rows}
 use Rattle.arrow_logic.proofs.WordLemmas.{NoneTrueUpTo}
 use Rattle.arrow_logic.proofs.boolean.any.Given as goal
 

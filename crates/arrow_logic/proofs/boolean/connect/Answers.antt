@@ -1,9 +1,4 @@
-use Rattle.std.proofs.Common.{◌≡◌, ◌∙◌, ap, map}
-use Rattle.arrow_types.specs.Rows.{masked}
-use Rattle.arrow_types.specs.Slot.{Boolean}
-use Rattle.arrow_flat.specs.Parts.{boolean_rows}
-use Rattle.arrow_logic.specs.Connective.{bits_by}
-use Rattle.arrow_logic.specs.Validities.{combined}
+use Rattle.arrow_logic.proofs.Common.{◌≡◌, ◌∙◌, ap, map, masked, Boolean, boolean_rows, bits_by, combined}
 use Rattle.arrow_logic.proofs.ConnectiveLemmas.{as_many_values, connected_rows, fits_both}
 use Rattle.arrow_logic.proofs.boolean.connect.Goals as goal
 

@@ -1,10 +1,5 @@
-use Rattle.std.proofs.Common.{◌≡◌, ◌∙◌, ap, map, replicate, rules, sym}
-use Rattle.std.proofs.lemmas.List.{length-map}
-use Rattle.arrow_types.specs.Rows.{mask, masked}
-use Rattle.arrow_types.specs.Slot.{Boolean}
-use Rattle.arrow_flat.specs.Parts.{boolean_rows}
+use Rattle.arrow_logic.proofs.Common.{◌≡◌, ◌∙◌, ap, map, replicate, rules, sym, length-map, mask, masked, Boolean, boolean_rows, decider, slot_by}
 use Rattle.arrow_flat.specs.Scalars.{slot_by as scalar_slot}
-use Rattle.arrow_logic.specs.Connective.{decider, slot_by}
 use Rattle.arrow_logic.proofs.ScalarLemmas.{decided_rows, kept_rows, null_rows}
 use Rattle.arrow_logic.proofs.boolean.connect_scalar.Goals as goal
 

@@ -1,10 +1,5 @@
-use Rattle.std.proofs.Common.{◌≡◌, ◌∙◌, ap, map, not, replicate, subst, sym}
+use Rattle.arrow_logic.proofs.Common.{◌≡◌, ◌∙◌, ap, map, not, replicate, subst, sym, map-map, is_null, Boolean, boolean_rows, MarksArray, any_array_rows}
 use Rattle.std.specs.Prelude.{option_copied}
-use Rattle.std.proofs.lemmas.Simd.{map-map}
-use Rattle.arrow_types.specs.Relation.{is_null}
-use Rattle.arrow_types.specs.Slot.{Boolean}
-use Rattle.arrow_flat.specs.Parts.{boolean_rows}
-use Rattle.arrow_arrays.specs.Any.{MarksArray, any_array_rows}
 use Rattle.arrow_logic.proofs.NullLemmas.{marked_rows, turned_marks, unmarked_rows}
 use Rattle.arrow_logic.proofs.boolean.is_null.Goals as goal
 use Rattle.arrow_logic.proofs.boolean.is_null.Goals.{in-None+in_ok-nulls-in-None, in-Some+in_ok-nulls-in-Some}

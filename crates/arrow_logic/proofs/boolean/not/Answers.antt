@@ -1,7 +1,4 @@
-use Rattle.std.proofs.Common.{◌∙◌, ap, map, not}
-use Rattle.arrow_types.specs.Rows.{masked}
-use Rattle.arrow_types.specs.Slot.{Boolean}
-use Rattle.arrow_flat.specs.Parts.{boolean_rows}
+use Rattle.arrow_logic.proofs.Common.{◌∙◌, ap, map, not, masked, Boolean, boolean_rows}
 use Rattle.arrow_logic.proofs.ScalarLemmas.{turned_rows}
 use Rattle.arrow_logic.proofs.boolean.not.Goals as goal
 

@@ -1,8 +1,5 @@
-use Rattle.std.proofs.Common.{◌≡◌, ◌∙◌, ◌+◌, ◌*◌, Some, ap, false, get_or, map, sym}
+use Rattle.arrow_logic.proofs.Common.{◌≡◌, ◌∙◌, ◌+◌, ◌*◌, Some, ap, false, get_or, map, sym, masked, selects, Boolean, Null, and_each}
 use Rattle.std.specs.Prelude.{◌&&◌, option_copied}
-use Rattle.arrow_types.specs.Rows.{masked, selects}
-use Rattle.arrow_types.specs.Slot.{Boolean, Null}
-use Rattle.arrow_memory.proofs.LogicLemmas.{and_each}
 use Rattle.arrow_logic.proofs.WordLemmas.{valid_selects}
 use Rattle.arrow_logic.proofs.boolean.true_word.Goals as goal
 

@@ -1,8 +1,4 @@
-use Rattle.std.proofs.Common.{◌≡◌, ◌∙◌, ap, length, map, sym}
-use Rattle.arrow_types.specs.Rows.{masked}
-use Rattle.arrow_types.specs.Slot.{Boolean}
-use Rattle.arrow_flat.specs.Parts.{boolean_rows}
-use Rattle.arrow_logic.specs.Connective.{bits_by}
+use Rattle.arrow_logic.proofs.Common.{◌≡◌, ◌∙◌, ap, length, map, sym, masked, Boolean, boolean_rows, bits_by}
 use Rattle.arrow_logic.proofs.ConnectiveLemmas.{as_many_values, fits_known, kleene_connected_rows}
 use Rattle.arrow_logic.proofs.boolean_kleene.connect.Goals as goal
 

@@ -1,10 +1,5 @@
-use Rattle.std.proofs.Common.{◌≡◌, ◌∙◌, arith, ap, length, map, rules, sym}
-use Rattle.std.proofs.lemmas.List.{length-map}
-use Rattle.arrow_types.specs.Rows.{mask, masked}
-use Rattle.arrow_types.specs.Slot.{Boolean}
-use Rattle.arrow_flat.specs.Parts.{boolean_rows}
+use Rattle.arrow_logic.proofs.Common.{◌≡◌, ◌∙◌, arith, ap, length, map, rules, sym, length-map, mask, masked, Boolean, boolean_rows, decider, decides, kleene_by}
 use Rattle.arrow_flat.specs.Scalars.{slot_by as scalar_slot}
-use Rattle.arrow_logic.specs.Connective.{decider, decides, kleene_by}
 use Rattle.arrow_logic.proofs.ScalarLemmas.{kleene_decided_rows, kleene_kept_rows, kleene_null_rows}
 use Rattle.arrow_logic.proofs.boolean_kleene.connect_scalar.Goals as goal
 

@@ -1,5 +1,4 @@
-use Rattle.arrow_types.specs.Logic.{both}
-use Rattle.arrow_flat.specs.Parts.{boolean_rows}
+use Rattle.arrow_logic.proofs.Common.{both, boolean_rows}
 use Rattle.arrow_logic.proofs.LawLemmas.{both_group, regrouped}
 use Rattle.arrow_logic.proofs.laws.both_is_associative.Goals as goal
 

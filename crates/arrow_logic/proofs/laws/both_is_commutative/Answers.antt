@@ -1,5 +1,4 @@
-use Rattle.arrow_types.specs.Logic.{both}
-use Rattle.arrow_flat.specs.Parts.{boolean_rows}
+use Rattle.arrow_logic.proofs.Common.{both, boolean_rows}
 use Rattle.arrow_logic.proofs.LawLemmas.{both_swap, swapped}
 use Rattle.arrow_logic.proofs.laws.both_is_commutative.Goals as goal
 

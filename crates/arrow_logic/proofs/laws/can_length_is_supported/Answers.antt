@@ -1,4 +1,4 @@
-use Rattle.arrow_types.specs.TypeOf.{type_of}
+use Rattle.arrow_logic.proofs.Common.{type_of}
 use Rattle.arrow_logic.proofs.LayoutLemmas.{lengths_supported}
 use Rattle.arrow_logic.proofs.laws.can_length_is_supported.Goals as goal
 

@@ -1,6 +1,4 @@
-use Rattle.std.proofs.Common.{refl}
-use Rattle.arrow_types.specs.Physical.{physical_type_of}
-use Rattle.arrow_types.specs.TypeOf.{type_of}
+use Rattle.arrow_logic.proofs.Common.{refl, physical_type_of, type_of}
 use Rattle.arrow_logic.proofs.LayoutLemmas.{carried_layout}
 use Rattle.arrow_logic.proofs.laws.can_nullif_is_supported.Goals as goal
 

@@ -1,4 +1,4 @@
-use Rattle.std.proofs.Common.{map}
+use Rattle.arrow_logic.proofs.Common.{map}
 use Rattle.arrow_logic.proofs.BatchLemmas.{each_by_batch}
 use Rattle.arrow_logic.proofs.laws.each_row_goes_by_batches.Goals as goal
 

@@ -1,5 +1,4 @@
-use Rattle.arrow_types.specs.Logic.{either}
-use Rattle.arrow_flat.specs.Parts.{boolean_rows}
+use Rattle.arrow_logic.proofs.Common.{either, boolean_rows}
 use Rattle.arrow_logic.proofs.LawLemmas.{either_group, regrouped}
 use Rattle.arrow_logic.proofs.laws.either_is_associative.Goals as goal
 

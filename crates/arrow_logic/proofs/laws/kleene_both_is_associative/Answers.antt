@@ -1,5 +1,4 @@
-use Rattle.arrow_types.specs.Logic.{kleene_both}
-use Rattle.arrow_flat.specs.Parts.{boolean_rows}
+use Rattle.arrow_logic.proofs.Common.{kleene_both, boolean_rows}
 use Rattle.arrow_logic.proofs.LawLemmas.{kleene_both_group, regrouped}
 use Rattle.arrow_logic.proofs.laws.kleene_both_is_associative.Goals as goal
 

@@ -1,5 +1,4 @@
-use Rattle.arrow_types.specs.Logic.{kleene_either}
-use Rattle.arrow_flat.specs.Parts.{boolean_rows}
+use Rattle.arrow_logic.proofs.Common.{kleene_either, boolean_rows}
 use Rattle.arrow_logic.proofs.LawLemmas.{kleene_either_swap, swapped}
 use Rattle.arrow_logic.proofs.laws.kleene_either_is_commutative.Goals as goal
 

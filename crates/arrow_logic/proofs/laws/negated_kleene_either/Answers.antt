@@ -1,5 +1,4 @@
-use Rattle.arrow_types.specs.Logic.{kleene_both, kleene_either}
-use Rattle.arrow_flat.specs.Parts.{boolean_rows}
+use Rattle.arrow_logic.proofs.Common.{kleene_both, kleene_either, boolean_rows}
 use Rattle.arrow_logic.proofs.LawLemmas.{kleene_either_turned, turned_pairs}
 use Rattle.arrow_logic.proofs.laws.negated_kleene_either.Goals as goal
 

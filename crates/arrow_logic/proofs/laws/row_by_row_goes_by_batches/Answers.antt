@@ -1,4 +1,4 @@
-use Rattle.std.proofs.Common.{map}
+use Rattle.arrow_logic.proofs.Common.{map}
 use Rattle.arrow_logic.proofs.BatchLemmas.{pairs_by_batch}
 use Rattle.arrow_logic.proofs.laws.row_by_row_goes_by_batches.Goals as goal
 

@@ -1,9 +1,4 @@
-use Rattle.std.proofs.Common.{sym}
-use Rattle.std.proofs.lemmas.Simd.{map-map}
-use Rattle.arrow_types.specs.Logic.{negated}
-use Rattle.arrow_types.specs.Relation.{is_null}
-use Rattle.arrow_types.specs.Slot.{Boolean}
-use Rattle.arrow_arrays.specs.Any.{any_array_rows}
+use Rattle.arrow_logic.proofs.Common.{sym, map-map, negated, is_null, Boolean, any_array_rows}
 use Rattle.arrow_logic.proofs.laws.valid_is_negated_null.Goals as goal
 
 pub returns : goal.returns

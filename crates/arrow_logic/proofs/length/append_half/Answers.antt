@@ -1,6 +1,4 @@
-use Rattle.std.proofs.Common.{◌+◌, arith}
-use Rattle.std.proofs.lemmas.Int.{ints}
-use Rattle.arrow_memory.proofs.OffsetLemmas.{number_at, offsets_rise}
+use Rattle.arrow_logic.proofs.Common.{◌+◌, arith, ints, number_at, offsets_rise}
 use Rattle.arrow_logic.proofs.LengthLemmas.{length_next}
 use Rattle.arrow_logic.proofs.length.append_half.Goals as goal
 

@@ -1,7 +1,4 @@
-use Rattle.std.proofs.Common.{◌≡◌, ◌+◌, ◌++◌, pos, map}
-use Rattle.std.specs.List.{range_with_len}
-use Rattle.std.specs.Vec.{vec_len, vec_capacity}
-use Rattle.arrow_memory.specs.Ends.{word_length}
+use Rattle.arrow_logic.proofs.Common.{◌≡◌, ◌+◌, ◌++◌, pos, map, range_with_len, vec_len, vec_capacity, word_length}
 use Rattle.arrow_logic.proofs.length.append_half.Given as goal
 
 -- the lengths of the rows so far

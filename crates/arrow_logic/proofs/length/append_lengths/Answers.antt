@@ -1,6 +1,4 @@
-use Rattle.std.proofs.Common.{◌≡◌, ◌+◌, ◌-◌, ◌++◌, ap, map, pos, ◌∙◌, append_assoc, arith}
-use Rattle.std.specs.List.{range_with_len}
-use Rattle.arrow_memory.specs.Ends.{word_length}
+use Rattle.arrow_logic.proofs.Common.{◌≡◌, ◌+◌, ◌-◌, ◌++◌, ap, map, pos, ◌∙◌, append_assoc, arith, range_with_len, word_length}
 use Rattle.arrow_logic.proofs.LengthLemmas.{halves_of_lengths}
 use Rattle.arrow_logic.proofs.length.append_lengths.Goals as goal
 

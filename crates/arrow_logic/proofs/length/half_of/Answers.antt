@@ -1,4 +1,4 @@
-use Rattle.arrow_memory.proofs.LengthLemmas.{part_bit}
+use Rattle.arrow_logic.proofs.Common.{part_bit}
 use Rattle.arrow_logic.proofs.length.half_of.Goals as goal
 
 pub returns : goal.returns

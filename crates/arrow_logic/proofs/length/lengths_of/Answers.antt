@@ -1,12 +1,4 @@
-use Rattle.std.proofs.Common.{◌≡◌, ◌∙◌, ap, arith, length, map, pos, refl, subst, sym}
-use Rattle.std.proofs.lemmas.List.{length-map}
-use Rattle.arrow_types.specs.Part.{bytes_of}
-use Rattle.arrow_types.specs.Rows.{masked}
-use Rattle.arrow_types.specs.Slot.{Number, Text}
-use Rattle.arrow_flat.specs.ByteRows.{row_bytes}
-use Rattle.arrow_flat.specs.Parts.{FitsRows, rows_by}
-use Rattle.arrow_logic.specs.Kept.{kept}
-use Rattle.arrow_logic.specs.Length.{stored_length}
+use Rattle.arrow_logic.proofs.Common.{◌≡◌, ◌∙◌, ap, arith, length, map, pos, refl, subst, sym, length-map, bytes_of, masked, Number, Text, row_bytes, FitsRows, rows_by, kept, stored_length}
 use Rattle.arrow_logic.proofs.KeptLemmas.{length-kept, rows-kept, stored-kept}
 use Rattle.arrow_logic.proofs.LengthLemmas.{slots_of_numbers}
 use Rattle.arrow_logic.proofs.length.lengths_of.Goals as goal

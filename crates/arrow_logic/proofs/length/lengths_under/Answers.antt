@@ -1,13 +1,4 @@
-use Rattle.std.proofs.Common.{◌≡◌, ◌*◌, ◌/◌, ◌++◌, ap, length, map, option_copied, pos, subst, ◌∙◌, arith}
-use Rattle.std.specs.List.{range_with_len}
-use Rattle.std.proofs.lemmas.List.{take_all}
-use Rattle.arrow_types.specs.Slot.{Text}
-use Rattle.arrow_memory.specs.Offsets.{IsOffsets}
-use Rattle.arrow_flat.specs.ByteRows.{row_bytes}
-use Rattle.arrow_flat.specs.Parts.{FitsRows}
-use Rattle.arrow_flat.proofs.PieceLemmas.{length-byte_slots}
-use Rattle.arrow_logic.specs.Kept.{kept}
-use Rattle.arrow_memory.specs.Ends.{word_length}
+use Rattle.arrow_logic.proofs.Common.{◌≡◌, ◌*◌, ◌/◌, ◌++◌, ap, length, map, option_copied, pos, subst, ◌∙◌, arith, range_with_len, take_all, Text, IsOffsets, row_bytes, FitsRows, length-byte_slots, kept, word_length}
 use Rattle.arrow_logic.proofs.LengthLemmas.{length-lengths, lengths_next}
 use Rattle.arrow_logic.proofs.length.lengths_under.Goals as goal
 

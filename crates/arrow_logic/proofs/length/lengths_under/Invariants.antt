@@ -1,7 +1,4 @@
-use Rattle.std.proofs.Common.{◌≡◌, ◌-◌, ◌%◌, ◌<◌, ◌≤◌, pos, length, map, take}
-use Rattle.std.specs.Vec.{vec_len, vec_capacity}
-use Rattle.arrow_flat.specs.ByteRows.{row_bytes}
-use Rattle.arrow_logic.specs.Kept.{kept}
+use Rattle.arrow_logic.proofs.Common.{◌≡◌, ◌-◌, ◌%◌, ◌<◌, ◌≤◌, pos, length, map, take, vec_len, vec_capacity, row_bytes, kept}
 use Rattle.arrow_logic.proofs.length.lengths_under.Given as goal
 
 -- the lengths of the rows so far, which are whole words of rows where some are left

@@ -1,7 +1,4 @@
-use Rattle.std.proofs.Common.{◌≡◌, ◌+◌, ◌*◌, ◌==◌, ap, option_copied, subst, sym}
-use Rattle.std.specs.Int.{bit_at}
-use Rattle.std.proofs.lemmas.Nat.Bits.{bit_at_ones}
-use Rattle.arrow_types.specs.Rows.{valid_at}
+use Rattle.arrow_logic.proofs.Common.{◌≡◌, ◌+◌, ◌*◌, ◌==◌, ap, option_copied, subst, sym, bit_at, bit_at_ones, valid_at}
 use Rattle.arrow_logic.proofs.length.word_of_rows.Goals as goal
 
 pub returns-in-None : goal.returns-in-None

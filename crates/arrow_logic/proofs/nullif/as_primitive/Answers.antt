@@ -1,5 +1,4 @@
-use Rattle.arrow_types.specs.Physical.{physical_type_of}
-use Rattle.arrow_arrays.specs.Any.{any_array_type}
+use Rattle.arrow_logic.proofs.Common.{physical_type_of, any_array_type}
 use Rattle.arrow_logic.proofs.LayoutLemmas.{is_primitive}
 use Rattle.arrow_logic.proofs.nullif.as_primitive.Goals as goal
 

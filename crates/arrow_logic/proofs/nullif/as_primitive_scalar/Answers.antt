@@ -1,7 +1,4 @@
-use Rattle.std.proofs.Common.{subst}
-use Rattle.arrow_types.specs.Physical.{physical_type_of}
-use Rattle.arrow_flat.specs.AnyScalar.{meaning_of}
-use Rattle.arrow_logic.specs.Nullif.{IsPrimitive}
+use Rattle.arrow_logic.proofs.Common.{subst, physical_type_of, meaning_of, IsPrimitive}
 use Rattle.arrow_logic.proofs.LayoutLemmas.{no_keys}
 use Rattle.arrow_logic.proofs.nullif.as_primitive_scalar.Goals as goal
 

@@ -1,6 +1,4 @@
-use Rattle.std.proofs.Common.{refl}
-use Rattle.arrow_types.specs.TypeOf.{type_of}
-use Rattle.arrow_flat.proofs.PartsLemmas.{types_decide}
+use Rattle.arrow_logic.proofs.Common.{refl, type_of, types_decide}
 use Rattle.arrow_logic.proofs.nullif.can_nullif.Goals as goal
 
 pub returns-then-eq : goal.returns-then-eq

@@ -1,7 +1,5 @@
-use Rattle.std.proofs.Common.{◌∙◌, ap, length, sym}
+use Rattle.arrow_logic.proofs.Common.{◌∙◌, ap, length, sym, IfOk-weaker, length-paired}
 use Rattle.std.specs.Prelude.{option_copied}
-use Rattle.std.proofs.lemmas.Result.{IfOk-weaker}
-use Rattle.arrow_memory.proofs.LogicLemmas.{length-paired}
 use Rattle.arrow_logic.proofs.NullifLemmas.{lent_bits}
 use Rattle.arrow_logic.proofs.nullif.equal_rows.Goals as goal
 

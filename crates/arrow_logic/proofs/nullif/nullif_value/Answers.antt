@@ -1,7 +1,4 @@
-use Rattle.std.proofs.Common.{◌≡◌, ◌∙◌, Some, ap, map, sym}
-use Rattle.std.proofs.lemmas.Result.{IfOk-weaker}
-use Rattle.arrow_types.specs.Relation.{nulled}
-use Rattle.arrow_flat.specs.Parts.{rows_by}
+use Rattle.arrow_logic.proofs.Common.{◌≡◌, ◌∙◌, Some, ap, map, sym, IfOk-weaker, nulled, rows_by}
 use Rattle.arrow_flat.specs.Scalars.{slot_by}
 use Rattle.arrow_logic.proofs.nullif.nullif_value.Goals as goal
 

@@ -1,9 +1,4 @@
-use Rattle.std.proofs.Common.{◌∙◌, ap, map}
-use Rattle.std.proofs.lemmas.Result.{IfOk-weaker}
-use Rattle.arrow_types.specs.Rows.{mask}
-use Rattle.arrow_flat.specs.Parts.{rows_by}
-use Rattle.arrow_logic.specs.Nullif.{valid_but, within_valid}
-use Rattle.arrow_flat.specs.RowByRow.{row_by_row}
+use Rattle.arrow_logic.proofs.Common.{◌∙◌, ap, map, IfOk-weaker, mask, rows_by, valid_but, within_valid, row_by_row}
 use Rattle.arrow_logic.proofs.NullifLemmas.{nulled_rows, nulls_equal}
 use Rattle.arrow_logic.proofs.nullif.primitive_nullif.Goals as goal
 

@@ -1,8 +1,4 @@
-use Rattle.std.proofs.Common.{◌∙◌, ap, map}
-use Rattle.std.proofs.lemmas.Result.{IfOk-weaker}
-use Rattle.arrow_types.specs.Rows.{mask}
-use Rattle.arrow_flat.specs.Parts.{rows_by}
-use Rattle.arrow_logic.specs.Nullif.{valid_but}
+use Rattle.arrow_logic.proofs.Common.{◌∙◌, ap, map, IfOk-weaker, mask, rows_by, valid_but}
 use Rattle.arrow_logic.proofs.NullifLemmas.{nulled_by_value, nulls_equal}
 use Rattle.arrow_logic.proofs.nullif.primitive_nullif_scalar.Goals as goal
 

@@ -1,8 +1,5 @@
-use Rattle.std.proofs.Common.{◌≡◌, ◌∙◌, ap, length, subst}
+use Rattle.arrow_logic.proofs.Common.{◌≡◌, ◌∙◌, ap, length, subst, IfOk-weaker, FitsRows, length-paired}
 use Rattle.std.specs.Prelude.{option_copied}
-use Rattle.std.proofs.lemmas.Result.{IfOk-weaker}
-use Rattle.arrow_flat.specs.Parts.{FitsRows}
-use Rattle.arrow_memory.proofs.LogicLemmas.{length-paired}
 use Rattle.arrow_logic.proofs.nullif.valid_unless.Goals as goal
 
 pub returns-in-Some-clause-count : goal.returns-in-Some-clause-count

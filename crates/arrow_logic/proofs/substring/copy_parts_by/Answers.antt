@@ -1,15 +1,5 @@
-use Rattle.std.proofs.Common.{◌≡◌, ◌+◌, ◌-◌, ◌<◌, ◌≤◌, ◌∙◌, [], ◌∷◌, ap, arith, length, rules, slice_index, subst, sym, SFits, w64, to_z, of_z, Err}
-use Rattle.std.proofs.lemmas.Int.{to_z-of_z}
-use Rattle.std.proofs.lemmas.List.{length-append, take_all}
-use Rattle.arrow_memory.specs.Offsets.{IsOffsets, last_of}
-use Rattle.arrow_memory.specs.Sliced.{sliced}
-use Rattle.arrow_memory.proofs.OffsetLemmas.{offsets_rise}
-use Rattle.arrow_memory.proofs.SlicedLemmas.{length-sliced}
-use Rattle.arrow_flat.specs.ByteRows.{row_bytes}
-use Rattle.arrow_flat.specs.Parts.{FitsRows}
-use Rattle.arrow_flat.specs.Pieces.{pieces}
-use Rattle.arrow_flat.proofs.PieceLemmas.{length-byte_slots, length-pieces}
-use Rattle.arrow_logic.specs.Kept.{kept}
+use Rattle.arrow_logic.proofs.Common.{◌≡◌, ◌+◌, ◌-◌, ◌<◌, ◌≤◌, ◌∙◌, [], ◌∷◌, ap, arith, length, rules, slice_index, subst, sym, SFits, w64, to_z, of_z, Err, to_z-of_z, take_all, IsOffsets, last_of, sliced, offsets_rise, length-sliced, row_bytes, FitsRows, pieces, length-byte_slots, length-pieces, kept}
+use Rattle.std.proofs.lemmas.List.{length-append}
 use Rattle.arrow_logic.proofs.KeptLemmas.{length-kept}
 use Rattle.arrow_logic.proofs.PartLemmas.{grown_memory, holds_more, memory_alone}
 use Rattle.arrow_logic.proofs.substring.copy_parts_by.Goals as goal

@@ -1,6 +1,4 @@
-use Rattle.std.proofs.Common.{◌≡◌, ◌+◌, ◌≤◌, [], length, take, slice_index}
-use Rattle.arrow_flat.specs.ByteRows.{row_bytes}
-use Rattle.arrow_logic.specs.Kept.{kept}
+use Rattle.arrow_logic.proofs.Common.{◌≡◌, ◌+◌, ◌≤◌, [], length, take, slice_index, row_bytes, kept}
 use Rattle.arrow_logic.proofs.PartLemmas.{Holds}
 use Rattle.arrow_logic.proofs.substring.copy_parts_by.Given as goal
 

@@ -1,7 +1,4 @@
-use Rattle.std.proofs.Common.{◌≡◌, ◌∙◌, ◌+◌, ◌-◌, ap, arith, length, slice_index, subst}
-use Rattle.arrow_memory.specs.Offsets.{IsOffsets}
-use Rattle.arrow_memory.specs.Sliced.{sliced}
-use Rattle.arrow_logic.specs.Substring.{IsCutByBytes}
+use Rattle.arrow_logic.proofs.Common.{◌≡◌, ◌∙◌, ◌+◌, ◌-◌, ap, arith, length, slice_index, subst, IsOffsets, sliced, IsCutByBytes}
 use Rattle.arrow_logic.proofs.PartLemmas.{of_each_row}
 use Rattle.arrow_logic.proofs.substring.have_bytes_as_units.Goals as goal
 

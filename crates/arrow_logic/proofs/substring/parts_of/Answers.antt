@@ -1,12 +1,4 @@
-use Rattle.std.proofs.Common.{◌≡◌, ◌∙◌, ◌-◌, [], ap, length, map, refl, rules, subst, sym, SFits, w64, to_z, of_z}
-use Rattle.std.specs.List.{All}
-use Rattle.std.proofs.lemmas.Int.{to_z-of_z}
-use Rattle.arrow_types.specs.Part.{part}
-use Rattle.arrow_types.specs.Rows.{masked}
-use Rattle.arrow_flat.specs.ByteRows.{byte_slots, row_bytes}
-use Rattle.arrow_flat.specs.Parts.{FitsRows, rows_by}
-use Rattle.arrow_flat.specs.Pieces.{pieces}
-use Rattle.arrow_flat.proofs.PieceLemmas.{length-byte_slots}
+use Rattle.arrow_logic.proofs.Common.{◌≡◌, ◌∙◌, ◌-◌, [], ap, length, map, refl, rules, subst, sym, SFits, w64, to_z, of_z, All, to_z-of_z, part, masked, byte_slots, row_bytes, FitsRows, rows_by, pieces, length-byte_slots}
 use Rattle.arrow_logic.proofs.KeptLemmas.{all-kept, rows-kept}
 use Rattle.arrow_logic.proofs.substring.parts_of.Goals as goal
 

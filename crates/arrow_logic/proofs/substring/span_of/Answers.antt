@@ -1,12 +1,4 @@
-use Rattle.std.proofs.Common.{◌≡◌, ◌-◌, ◌∙◌, [], ap, arith, subst, sym, take, rules, SFits, w64, to_z, of_z}
-use Rattle.std.proofs.lemmas.Int.{to_z-of_z}
-use Rattle.std.proofs.lemmas.List.{take_rest}
-use Rattle.arrow_memory.specs.Sliced.{sliced}
-use Rattle.arrow_flat.specs.ByteRows.{byte_slots}
-use Rattle.arrow_flat.specs.Parts.{FitsRows}
-use Rattle.arrow_flat.proofs.PartsLemmas.{length-masked}
-use Rattle.arrow_flat.proofs.PieceLemmas.{length-byte_slots, length-pieces}
-use Rattle.arrow_logic.specs.Substring.{IsCutByBytes}
+use Rattle.arrow_logic.proofs.Common.{◌≡◌, ◌-◌, ◌∙◌, [], ap, arith, subst, sym, take, rules, SFits, w64, to_z, of_z, to_z-of_z, take_rest, sliced, byte_slots, FitsRows, length-masked, length-byte_slots, length-pieces, IsCutByBytes}
 use Rattle.arrow_logic.proofs.PartLemmas.{part_moved, part_of_null, part_of_row, row_read}
 use Rattle.arrow_logic.proofs.substring.span_of.Goals as goal
 

@@ -1,7 +1,5 @@
-use Rattle.std.proofs.Common.{arith, ◌∙◌, ◌+◌, ◌-◌, ◌++◌, slice_index, ap}
+use Rattle.arrow_flat_growable.proofs.Common.{arith, ◌∙◌, ◌+◌, ◌-◌, ◌++◌, slice_index, ap, sliced, valid_values}
 use Rattle.std.proofs.lemmas.List.{append_assoc}
-use Rattle.arrow_memory.specs.Sliced.{sliced}
-use Rattle.arrow_flat_growable.specs.GrownRows.{valid_values}
 use Rattle.arrow_flat_growable.proofs.ValidRowLemmas.{run_copied, run_long}
 use Rattle.arrow_flat_growable.proofs.growable.byte_rows.append_valid_bytes.Goals as goal
 

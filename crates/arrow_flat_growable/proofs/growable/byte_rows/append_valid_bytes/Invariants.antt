@@ -1,7 +1,4 @@
-use Rattle.std.proofs.Common.{◌≡◌, ◌+◌, ◌-◌, ◌++◌, length}
-use Rattle.arrow_memory.specs.Sliced.{sliced}
-use Rattle.arrow_flat_growable.specs.Bytes.{BeginsWith}
-use Rattle.arrow_flat_growable.specs.GrownRows.{valid_values}
+use Rattle.arrow_flat_growable.proofs.Common.{◌≡◌, ◌+◌, ◌-◌, ◌++◌, length, sliced, BeginsWith, valid_values}
 use Rattle.arrow_flat_growable.proofs.growable.byte_rows.append_valid_bytes.Given as goal
 
 abbrev pub invariant-loop-row : goal.invariant-loop-row

@@ -1,4 +1,4 @@
-use Rattle.std.proofs.Common.{◌≡◌, map, take}
+use Rattle.arrow_flat_growable.proofs.Common.{◌≡◌, map, take}
 use Rattle.arrow_flat_growable.proofs.growable.byte_rows.bytes_of.Given as goal
 
 -- the bytes of the arrays so far

@@ -1,8 +1,4 @@
-use Rattle.std.proofs.Common.{◌∙◌, ◌++◌, ap}
-use Rattle.std.proofs.lemmas.List.{append-nil}
-use Rattle.arrow_memory.specs.Sliced.{sliced}
-use Rattle.arrow_flat_growable.specs.GrownParts.{with_parts}
-use Rattle.arrow_flat_growable.specs.GrownRows.{valid_values}
+use Rattle.arrow_flat_growable.proofs.Common.{◌∙◌, ◌++◌, ap, append-nil, sliced, with_parts, valid_values}
 use Rattle.arrow_flat_growable.proofs.ResultLemmas.{on_ok}
 use Rattle.arrow_flat_growable.proofs.growable.byte_rows.copy_set_rows.Goals as goal
 

@@ -1,5 +1,4 @@
-use Rattle.std.proofs.Common.{arith, rules, ◌∙◌, ◌+◌, ◌++◌, ap}
-use Rattle.arrow_flat_growable.specs.GrownRows.{AreEmptyNulls}
+use Rattle.arrow_flat_growable.proofs.Common.{arith, rules, ◌∙◌, ◌+◌, ◌++◌, ap, AreEmptyNulls}
 use Rattle.arrow_flat_growable.proofs.EmptyNullLemmas.{same_count, same_offsets, same_values}
 use Rattle.arrow_flat_growable.proofs.ResultLemmas.{on_ok}
 use Rattle.arrow_flat_growable.proofs.growable.byte_rows.copy_valid_rows.Goals as goal

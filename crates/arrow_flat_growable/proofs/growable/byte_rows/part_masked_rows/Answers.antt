@@ -1,9 +1,4 @@
-use Rattle.std.proofs.Common.{◌≡◌, ◌++◌, ◌<◌, ◌≤◌, [], length, ap, subst, sym, ◌∙◌, append_assoc, get_or}
-use Rattle.std.specs.List.{flat_map}
-use Rattle.arrow_memory.specs.Offsets.{last_of, with_valid_rows}
-use Rattle.arrow_memory.specs.Words.{low_bits}
-use Rattle.arrow_flat_growable.specs.GrownParts.{part_values, with_parts}
-use Rattle.arrow_flat_growable.specs.GrownRows.{valid_values}
+use Rattle.arrow_flat_growable.proofs.Common.{◌≡◌, ◌++◌, ◌<◌, ◌≤◌, [], length, ap, subst, sym, ◌∙◌, append_assoc, get_or, flat_map, last_of, with_valid_rows, low_bits, part_values, with_parts, valid_values}
 use Rattle.arrow_flat_growable.proofs.growable.byte_rows.part_masked_rows.Goals as goal
 
 pub returns-clause-ok : goal.returns-clause-ok

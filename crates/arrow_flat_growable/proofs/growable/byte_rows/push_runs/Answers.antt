@@ -1,5 +1,4 @@
-use Rattle.std.proofs.Common.{arith, [], get_or}
-use Rattle.arrow_flat_growable.specs.GrownRows.{valid_values}
+use Rattle.arrow_flat_growable.proofs.Common.{arith, [], get_or, valid_values}
 use Rattle.arrow_flat_growable.proofs.PartLemmas.{run_more}
 use Rattle.arrow_flat_growable.proofs.ValidRowLemmas.{run_long}
 use Rattle.arrow_flat_growable.proofs.growable.byte_rows.push_runs.Goals as goal

@@ -1,7 +1,4 @@
-use Rattle.std.proofs.Common.{◌≡◌, ◌+◌, ◌-◌, ◌<◌, ◌≤◌, ℕ, List, [], length, get_or}
-use Rattle.std.specs.Vec.{vec_capacity, vec_len}
-use Rattle.arrow_memory.specs.Offsets.{last_of}
-use Rattle.arrow_flat_growable.specs.GrownRows.{valid_values}
+use Rattle.arrow_flat_growable.proofs.Common.{◌≡◌, ◌+◌, ◌-◌, ◌<◌, ◌≤◌, ℕ, List, [], length, get_or, vec_capacity, vec_len, last_of, valid_values}
 use Rattle.arrow_flat_growable.proofs.PartLemmas.{PartsSoFar}
 use Rattle.arrow_flat_growable.proofs.growable.byte_rows.push_runs.Given as goal
 

@@ -1,5 +1,4 @@
-use Rattle.std.proofs.Common.{arith, ◌≡◌, ◌+◌, ◌<◌, slice_index, w64}
-use Rattle.std.specs.Int.{trailing_zeros}
+use Rattle.arrow_flat_growable.proofs.Common.{arith, ◌≡◌, ◌+◌, ◌<◌, slice_index, w64, trailing_zeros}
 use Rattle.arrow_flat_growable.proofs.EmptyNullLemmas.{lowest_set, one_done, others_left, others_less}
 use Rattle.arrow_flat_growable.proofs.growable.empty_nulls.are_empty.Goals as goal
 

@@ -1,5 +1,4 @@
-use Rattle.std.proofs.Common.{◌≡◌, ◌+◌, ℕ, slice_index}
-use Rattle.std.specs.Int.{bit_at}
+use Rattle.arrow_flat_growable.proofs.Common.{◌≡◌, ◌+◌, ℕ, slice_index, bit_at}
 use Rattle.arrow_flat_growable.proofs.growable.empty_nulls.are_empty.Given as goal
 
 -- the bits that are left are among those of the word, and the rows of the others are empty

@@ -1,5 +1,4 @@
-use Rattle.std.proofs.Common.{arith, rules, ◌≡◌, ◌+◌, ℕ, slice_index}
-use Rattle.std.specs.Int.{bit_at}
+use Rattle.arrow_flat_growable.proofs.Common.{arith, rules, ◌≡◌, ◌+◌, ℕ, slice_index, bit_at}
 use Rattle.arrow_flat_growable.proofs.EmptyNullLemmas.{more_empty}
 use Rattle.arrow_flat_growable.proofs.growable.empty_nulls.are_nulls_empty.Goals as goal
 

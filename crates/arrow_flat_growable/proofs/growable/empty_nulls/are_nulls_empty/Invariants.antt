@@ -1,5 +1,4 @@
-use Rattle.std.proofs.Common.{◌-◌, ◌≤◌}
-use Rattle.arrow_flat_growable.specs.GrownRows.{AreEmptyNulls}
+use Rattle.arrow_flat_growable.proofs.Common.{◌-◌, ◌≤◌, AreEmptyNulls}
 use Rattle.arrow_flat_growable.proofs.growable.empty_nulls.are_nulls_empty.Given as goal
 
 abbrev pub invariant-loop-next : goal.invariant-loop-next

@@ -1,7 +1,5 @@
-use Rattle.std.proofs.Common.{arith, ◌≡◌, ◌∙◌, ◌+◌, ◌*◌, ◌/◌, ◌%◌, ap, false}
+use Rattle.arrow_flat_growable.proofs.Common.{arith, ◌≡◌, ◌∙◌, ◌+◌, ◌*◌, ◌/◌, ◌%◌, ap, false, bit_at, bit_at-lt}
 use Rattle.std.specs.Prelude.{slice_index_or}
-use Rattle.std.specs.Int.{bit_at}
-use Rattle.std.proofs.lemmas.Nat.Bits.{bit_at-lt}
 use Rattle.arrow_flat_growable.proofs.EmptyNullLemmas.{digit_unset, unset_set, unset_within}
 use Rattle.arrow_flat_growable.proofs.growable.empty_nulls.unset_from.Goals as goal
 

@@ -1,9 +1,6 @@
-use Rattle.std.proofs.Common.{arith, ◌≡◌, ◌+◌, ◌≤◌, ◌++◌, length, ap, ◌∙◌}
+use Rattle.arrow_flat_growable.proofs.Common.{arith, ◌≡◌, ◌+◌, ◌≤◌, ◌++◌, length, ap, ◌∙◌, length-masked, bits_of_slice, length-bits_of_slice, mask-part}
 use Rattle.std.proofs.lemmas.List.{length-append}
-use Rattle.arrow_flat.proofs.PartsLemmas.{length-masked}
-use Rattle.arrow_flat.specs.Parts.{bits_of_slice}
 use Rattle.arrow_flat_growable.proofs.FlatLemmas.{appended_rows, appended_lengths}
-use Rattle.arrow_flat_growable.specs.MaskLaws.{length-bits_of_slice, mask-part}
 use Rattle.arrow_flat_growable.proofs.MaskLemmas.{lent_within}
 use Rattle.arrow_flat_growable.proofs.ResultLemmas.{on_ok}
 use Rattle.arrow_flat_growable.proofs.growable.flat.append.Goals as goal

@@ -1,7 +1,4 @@
-use Rattle.std.proofs.Common.{arith, ◌≡◌, ◌+◌, ◌++◌, ◌∙◌, Some, length, ap, sym, subst}
-use Rattle.arrow_types.specs.Fits.{Fits}
-use Rattle.arrow_types.specs.Rows.{mask}
-use Rattle.arrow_flat.proofs.PartsLemmas.{length-masked}
+use Rattle.arrow_flat_growable.proofs.Common.{arith, ◌≡◌, ◌+◌, ◌++◌, ◌∙◌, Some, length, ap, sym, subst, Fits, mask, length-masked}
 use Rattle.arrow_flat_growable.proofs.MaskLemmas.{lent_within, part_in_both}
 use Rattle.arrow_flat_growable.proofs.MaskedLemmas.{as_many, same_rows, stored_within}
 use Rattle.arrow_flat_growable.proofs.ResultLemmas.{on_ok}

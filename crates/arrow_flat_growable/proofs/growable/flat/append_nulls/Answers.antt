@@ -1,7 +1,5 @@
-use Rattle.std.proofs.Common.{◌++◌, false, replicate}
-use Rattle.std.proofs.lemmas.List.{length-replicate}
+use Rattle.arrow_flat_growable.proofs.Common.{◌++◌, false, replicate, length-replicate, mask-unset}
 use Rattle.arrow_flat_growable.proofs.FlatLemmas.{appended_rows, appended_lengths}
-use Rattle.arrow_flat_growable.specs.MaskLaws.{mask-unset}
 use Rattle.arrow_flat_growable.proofs.ResultLemmas.{on_ok}
 use Rattle.arrow_flat_growable.proofs.growable.flat.append_nulls.Goals as goal
 

@@ -1,4 +1,4 @@
-use Rattle.std.proofs.Common.{◌≡◌, ◌++◌, length, refl}
+use Rattle.arrow_flat_growable.proofs.Common.{◌≡◌, ◌++◌, length, refl}
 use Rattle.std.proofs.lemmas.List.{length-append}
 use Rattle.arrow_flat_growable.proofs.FlatLemmas.{appended_rows, appended_lengths}
 use Rattle.arrow_flat_growable.proofs.ResultLemmas.{on_ok}

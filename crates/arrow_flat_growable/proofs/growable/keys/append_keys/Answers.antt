@@ -1,5 +1,4 @@
-use Rattle.std.proofs.Common.{arith, ◌+◌, ◌-◌, ◌<◌, length, map, rules, subst}
-use Rattle.arrow_flat.specs.Parts.{rows_by}
+use Rattle.arrow_flat_growable.proofs.Common.{arith, ◌+◌, ◌-◌, ◌<◌, length, map, rules, subst, rows_by}
 use Rattle.arrow_flat_growable.proofs.GrownKeyLemmas.{GrowsUpTo, grows_more}
 use Rattle.arrow_flat_growable.proofs.growable.keys.append_keys.Goals as goal
 

@@ -1,5 +1,4 @@
-use Rattle.std.proofs.Common.{◌-◌, ◌≤◌, map}
-use Rattle.arrow_flat.specs.Parts.{rows_by}
+use Rattle.arrow_flat_growable.proofs.Common.{◌-◌, ◌≤◌, map, rows_by}
 use Rattle.arrow_flat_growable.proofs.GrownKeyLemmas.{GrowsUpTo}
 use Rattle.arrow_flat_growable.proofs.growable.keys.append_keys.Given as goal
 

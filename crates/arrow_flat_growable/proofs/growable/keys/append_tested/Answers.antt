@@ -1,8 +1,4 @@
-use Rattle.std.proofs.Common.{◌++◌, ◌∙◌, map, ap}
-use Rattle.arrow_memory.specs.Sliced.{sliced}
-use Rattle.arrow_flat.specs.Parts.{rows_by}
-use Rattle.arrow_flat_growable.specs.GrownParts.{with_parts}
-use Rattle.arrow_flat_growable.specs.Keys.{grown_key}
+use Rattle.arrow_flat_growable.proofs.Common.{◌++◌, ◌∙◌, map, ap, sliced, rows_by, with_parts, grown_key}
 use Rattle.arrow_flat_growable.proofs.ResultLemmas.{on_ok}
 use Rattle.arrow_flat_growable.proofs.StoreLemmas.{copied_view}
 use Rattle.arrow_flat_growable.proofs.growable.keys.append_tested.Goals as goal

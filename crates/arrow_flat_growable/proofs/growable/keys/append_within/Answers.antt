@@ -1,7 +1,4 @@
-use Rattle.std.proofs.Common.{arith, ◌≡◌, ◌+◌, ◌≤◌, ◌∙◌, true, false, [], get_or, length, map, replicate, ap, sym}
-use Rattle.std.proofs.lemmas.List.{length-map}
-use Rattle.arrow_flat.specs.Parts.{bits_of_slice, rows_by}
-use Rattle.arrow_flat.proofs.PartsLemmas.{length-masked}
+use Rattle.arrow_flat_growable.proofs.Common.{arith, ◌≡◌, ◌+◌, ◌≤◌, ◌∙◌, true, false, [], get_or, length, map, replicate, ap, sym, length-map, bits_of_slice, rows_by, length-masked}
 use Rattle.arrow_flat_growable.proofs.ResultLemmas.{on_ok}
 use Rattle.arrow_flat_growable.proofs.StoredKeyLemmas.{appends_nulls, appends_stored, source_long, source_stores}
 use Rattle.arrow_flat_growable.proofs.growable.keys.append_within.Goals as goal

@@ -1,5 +1,4 @@
-use Rattle.std.proofs.Common.{◌++◌, ◌∙◌, map, replicate, refl, ap}
-use Rattle.arrow_types.specs.Slot.{Number}
+use Rattle.arrow_flat_growable.proofs.Common.{◌++◌, ◌∙◌, map, replicate, refl, ap, Number}
 use Rattle.arrow_flat_growable.proofs.ResultLemmas.{on_ok}
 use Rattle.arrow_flat_growable.proofs.StoreLemmas.{slots_constant}
 use Rattle.arrow_flat_growable.proofs.growable.keys.append_zeros.Goals as goal

@@ -1,9 +1,4 @@
-use Rattle.std.proofs.Common.{arith, ◌≡◌, ◌+◌, ◌∙◌, ◌++◌, [], ◌∷◌, length, map, take, ap, sym, subst}
-use Rattle.std.proofs.lemmas.List.{map-append, take_all, take_more}
-use Rattle.arrow_flat.specs.Parts.{FitsRows, rows_by}
-use Rattle.arrow_arrays.specs.KeyedParts.{keys_in}
-use Rattle.arrow_flat_growable.specs.Flat.{BindsAll}
-use Rattle.arrow_flat_growable.specs.Keys.{BindsKeys, StoresKeys}
+use Rattle.arrow_flat_growable.proofs.Common.{arith, ◌≡◌, ◌+◌, ◌∙◌, ◌++◌, [], ◌∷◌, length, map, take, ap, sym, subst, map-append, take_all, take_more, FitsRows, rows_by, keys_in, BindsAll, BindsKeys, StoresKeys}
 use Rattle.arrow_flat_growable.proofs.ResultLemmas.{if_ok}
 use Rattle.arrow_flat_growable.proofs.StoredKeyLemmas.{AreStored, stored_at, stored_more, stores_rows}
 use Rattle.arrow_flat_growable.proofs.growable.keys.bound.Goals as goal

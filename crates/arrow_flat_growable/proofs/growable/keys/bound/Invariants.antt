@@ -1,4 +1,4 @@
-use Rattle.std.proofs.Common.{map, take}
+use Rattle.arrow_flat_growable.proofs.Common.{map, take}
 use Rattle.arrow_flat_growable.proofs.StoredKeyLemmas.{AreStored}
 use Rattle.arrow_flat_growable.proofs.growable.keys.bound.Given as goal
 

@@ -1,8 +1,4 @@
-use Rattle.std.proofs.Common.{arith, ◌≡◌, ◌+◌, pos, ap, refl, sym, subst, ◌∙◌}
-use Rattle.std.proofs.Math.Nat.{lt_of_not-le}
-use Rattle.arrow_types.specs.Slot.{Number}
-use Rattle.arrow_arrays.proofs.KeyLemmas.{not_negative, number_row}
-use Rattle.arrow_flat_growable.specs.Keys.{KeyFits, grown_key}
+use Rattle.arrow_flat_growable.proofs.Common.{arith, ◌≡◌, ◌+◌, pos, ap, refl, sym, subst, ◌∙◌, lt_of_not-le, Number, not_negative, number_row, KeyFits, grown_key}
 use Rattle.arrow_flat_growable.proofs.GrownKeyLemmas.{greatest_small, passes}
 use Rattle.arrow_flat_growable.proofs.growable.keys.grown.Goals as goal
 

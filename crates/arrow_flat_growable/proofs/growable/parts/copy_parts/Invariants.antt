@@ -1,5 +1,4 @@
-use Rattle.std.proofs.Common.{◌≡◌, take}
-use Rattle.arrow_flat_growable.specs.GrownParts.{with_parts}
+use Rattle.arrow_flat_growable.proofs.Common.{◌≡◌, take, with_parts}
 use Rattle.arrow_flat_growable.proofs.growable.parts.copy_parts.Given as goal
 
 -- the parts so far are copied

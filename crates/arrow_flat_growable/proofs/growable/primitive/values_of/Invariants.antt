@@ -1,4 +1,4 @@
-use Rattle.std.proofs.Common.{◌≡◌, map, take}
+use Rattle.arrow_flat_growable.proofs.Common.{◌≡◌, map, take}
 use Rattle.arrow_flat_growable.proofs.growable.primitive.values_of.Given as goal
 
 -- the values of the arrays so far

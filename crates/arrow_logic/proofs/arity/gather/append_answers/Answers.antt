@@ -1,5 +1,4 @@
-use Rattle.std.proofs.Common.{◌∙◌, [], arith, sym, refl}
-use Rattle.std.proofs.lemmas.List.{append-nil}
+use Rattle.arrow_logic.proofs.Common.{◌∙◌, [], arith, sym, refl, append-nil}
 use Rattle.arrow_logic.proofs.AnswerLemmas.{appends_more}
 use Rattle.arrow_logic.proofs.arity.gather.append_answers.Goals as goal
 

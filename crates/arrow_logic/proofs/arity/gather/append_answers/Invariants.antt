@@ -1,7 +1,4 @@
-use Rattle.std.proofs.Common.{◌≡◌, ◌≤◌}
-use Rattle.std.specs.Vec.{vec_capacity, vec_len}
-use Rattle.std.proofs.Common.{◌+◌}
-use Rattle.arrow_logic.specs.Gathered.{AppendsAnswers}
+use Rattle.arrow_logic.proofs.Common.{◌≡◌, ◌≤◌, vec_capacity, vec_len, ◌+◌, AppendsAnswers}
 use Rattle.arrow_logic.proofs.arity.gather.append_answers.Given as goal
 
 -- the values and the bits so far

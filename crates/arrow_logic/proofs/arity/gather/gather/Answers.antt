@@ -1,5 +1,4 @@
-use Rattle.std.proofs.Common.{arith}
-use Rattle.std.proofs.lemmas.Grind.{common_steps}
+use Rattle.arrow_logic.proofs.Common.{arith, common_steps}
 use Rattle.arrow_logic.proofs.AnswerLemmas.{answers_more}
 use Rattle.arrow_logic.proofs.arity.gather.gather.Goals as goal
 

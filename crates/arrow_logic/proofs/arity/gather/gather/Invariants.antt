@@ -1,6 +1,4 @@
-use Rattle.std.proofs.Common.{◌≡◌, ◌≤◌, length}
-use Rattle.std.specs.Vec.{vec_capacity}
-use Rattle.arrow_logic.specs.Gathered.{AnswersFrom}
+use Rattle.arrow_logic.proofs.Common.{◌≡◌, ◌≤◌, length, vec_capacity, AnswersFrom}
 use Rattle.arrow_logic.proofs.arity.gather.gather.Given as goal
 
 -- the answers so far, and room for all

@@ -1,4 +1,4 @@
-use Rattle.std.proofs.Common.{◌∙◌, arith, ap, length}
+use Rattle.arrow_logic.proofs.Common.{◌∙◌, arith, ap, length}
 use Rattle.arrow_logic.proofs.AnswerLemmas.{answers_append, bits_appended, values_appended}
 use Rattle.arrow_logic.proofs.arity.gather.gather_with_bits.Goals as goal
 

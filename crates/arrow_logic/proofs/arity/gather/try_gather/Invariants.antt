@@ -1,7 +1,4 @@
-use Rattle.std.proofs.Common.{◌≡◌, ◌≤◌, length}
-use Rattle.std.specs.Vec.{vec_capacity}
-use Rattle.arrow_logic.specs.Answers.{answers_ok}
-use Rattle.arrow_logic.specs.Gathered.{AnswersFrom}
+use Rattle.arrow_logic.proofs.Common.{◌≡◌, ◌≤◌, length, vec_capacity, answers_ok, AnswersFrom}
 use Rattle.arrow_logic.proofs.arity.gather.try_gather.Given as goal
 
 -- what was answered so far, without an error, and room for all

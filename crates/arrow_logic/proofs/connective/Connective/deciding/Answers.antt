@@ -1,7 +1,5 @@
-use Rattle.std.proofs.Common.{◌≡◌, ◌∙◌, ap, map, not, sym}
+use Rattle.arrow_logic.proofs.Common.{◌≡◌, ◌∙◌, ap, map, not, sym, IfOk-weaker, both_bits, first_bits}
 use Rattle.std.specs.Prelude.{option_copied}
-use Rattle.std.proofs.lemmas.Result.{IfOk-weaker}
-use Rattle.arrow_memory.specs.Bits.{both_bits, first_bits}
 use Rattle.arrow_logic.proofs.ConnectiveLemmas.{deciding_bits, deciding_is}
 use Rattle.arrow_logic.proofs.connective.Connective.deciding.Goals as goal
 

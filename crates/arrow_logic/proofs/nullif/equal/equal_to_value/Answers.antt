@@ -1,6 +1,4 @@
-use Rattle.std.proofs.Common.{rules, map}
-use Rattle.std.proofs.lemmas.List.{get_or-map, length-map}
-use Rattle.std.proofs.lemmas.Result.{IfOk-weaker}
+use Rattle.arrow_logic.proofs.Common.{rules, map, get_or-map, length-map, IfOk-weaker}
 use Rattle.arrow_logic.proofs.PairLemmas.{answered_bits}
 use Rattle.arrow_logic.proofs.nullif.equal.equal_to_value.Goals as goal
 

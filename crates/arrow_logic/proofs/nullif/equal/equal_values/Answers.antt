@@ -1,6 +1,4 @@
-use Rattle.std.proofs.Common.{rules}
-use Rattle.std.proofs.lemmas.Result.{IfOk-weaker}
-use Rattle.arrow_flat.specs.RowByRow.{row_by_row}
+use Rattle.arrow_logic.proofs.Common.{rules, IfOk-weaker, row_by_row}
 use Rattle.arrow_logic.proofs.PairLemmas.{answered_bits, get_or-row_by_row, length-row_by_row}
 use Rattle.arrow_logic.proofs.nullif.equal.equal_values.Goals as goal
 

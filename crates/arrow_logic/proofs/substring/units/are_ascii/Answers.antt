@@ -1,5 +1,4 @@
-use Rattle.std.proofs.Common.{◌≡◌, ◌∙◌, ◌<◌, arith, lt-ltb, ltb-true, subst, sym}
-use Rattle.std.proofs.lemmas.List.{at_drop_all}
+use Rattle.arrow_logic.proofs.Common.{◌≡◌, ◌∙◌, ◌<◌, arith, lt-ltb, ltb-true, subst, sym, at_drop_all}
 use Rattle.arrow_logic.proofs.TextLemmas.{each_low, low_together, together}
 use Rattle.arrow_logic.proofs.substring.units.are_ascii.Goals as goal
 

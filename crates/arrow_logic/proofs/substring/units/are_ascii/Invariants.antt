@@ -1,4 +1,4 @@
-use Rattle.std.proofs.Common.{◌≡◌, drop}
+use Rattle.arrow_logic.proofs.Common.{◌≡◌, drop}
 use Rattle.arrow_logic.proofs.TextLemmas.{together}
 use Rattle.arrow_logic.proofs.substring.units.are_ascii.Given as goal
 

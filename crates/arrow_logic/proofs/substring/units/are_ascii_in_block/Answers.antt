@@ -1,4 +1,4 @@
-use Rattle.std.proofs.lemmas.Bool.{leb-true}
+use Rattle.arrow_logic.proofs.Common.{leb-true}
 use Rattle.arrow_logic.proofs.AsciiLemmas.{low_take}
 use Rattle.arrow_logic.proofs.substring.units.are_ascii_in_block.Goals as goal
 

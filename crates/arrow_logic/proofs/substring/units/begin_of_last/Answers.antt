@@ -1,5 +1,4 @@
-use Rattle.std.proofs.Common.{◌≡◌, ◌+◌, count_by, drop, subst, sym, ◌∙◌, arith}
-use Rattle.arrow_logic.specs.Substring.{begins}
+use Rattle.arrow_logic.proofs.Common.{◌≡◌, ◌+◌, count_by, drop, subst, sym, ◌∙◌, arith, begins}
 use Rattle.arrow_logic.proofs.TextLemmas.{last_begin, none_before}
 use Rattle.arrow_logic.proofs.substring.units.begin_of_last.Goals as goal
 

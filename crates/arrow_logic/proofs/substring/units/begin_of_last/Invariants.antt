@@ -1,5 +1,4 @@
-use Rattle.std.proofs.Common.{◌≡◌, ◌+◌, ◌<◌, count_by, drop}
-use Rattle.arrow_logic.specs.Substring.{begins}
+use Rattle.arrow_logic.proofs.Common.{◌≡◌, ◌+◌, ◌<◌, count_by, drop, begins}
 use Rattle.arrow_logic.proofs.substring.units.begin_of_last.Given as goal
 
 -- the characters that begin from here on, and those that are left

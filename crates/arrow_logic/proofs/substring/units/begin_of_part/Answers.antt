@@ -1,5 +1,4 @@
-use Rattle.std.proofs.Common.{◌≡◌, ◌∙◌, ap, pos, ◌≤ℤ◌, ◌<ℤ◌, unsigned_abs, rules, SFits, w64, to_z, of_z}
-use Rattle.std.proofs.lemmas.Int.{to_z-of_z}
+use Rattle.arrow_logic.proofs.Common.{◌≡◌, ◌∙◌, ap, pos, ◌≤ℤ◌, ◌<ℤ◌, unsigned_abs, rules, SFits, w64, to_z, of_z, to_z-of_z}
 use Rattle.arrow_logic.proofs.TextLemmas.{rest_back, rest_front}
 use Rattle.arrow_logic.proofs.substring.units.begin_of_part.Goals as goal
 

@@ -1,5 +1,4 @@
-use Rattle.std.proofs.Common.{◌≡◌, ◌+◌, drop}
-use Rattle.arrow_logic.specs.Substring.{skipped}
+use Rattle.arrow_logic.proofs.Common.{◌≡◌, ◌+◌, drop, skipped}
 use Rattle.arrow_logic.proofs.substring.units.end_of_first.Given as goal
 
 -- with the bytes before the characters that are left, those so far are all

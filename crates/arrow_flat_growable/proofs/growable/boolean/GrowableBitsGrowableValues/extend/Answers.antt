@@ -1,8 +1,4 @@
-use Rattle.std.proofs.Common.{◌+◌, ◌≤◌, length, ap, arith}
-use Rattle.std.proofs.lemmas.List.{length-map}
-use Rattle.arrow_types.specs.Slot.{Boolean}
-use Rattle.arrow_memory.specs.Sliced.{sliced}
-use Rattle.arrow_memory.proofs.SlicedLemmas.{length-sliced}
+use Rattle.arrow_flat_growable.proofs.Common.{◌+◌, ◌≤◌, length, ap, arith, length-map, Boolean, sliced, length-sliced}
 use Rattle.arrow_flat_growable.proofs.FitsLemmas.{is_only_counted}
 use Rattle.arrow_flat_growable.proofs.ResultLemmas.{on_ok}
 use Rattle.arrow_flat_growable.proofs.StoreLemmas.{slots_part, slots_fit, part_too_many, counted_on_ok}

@@ -1,6 +1,4 @@
-use Rattle.std.proofs.Common.{false, replicate, ap, refl}
-use Rattle.std.proofs.lemmas.List.{length-replicate}
-use Rattle.arrow_types.specs.Slot.{Boolean}
+use Rattle.arrow_flat_growable.proofs.Common.{false, replicate, ap, refl, length-replicate, Boolean}
 use Rattle.arrow_flat_growable.proofs.FitsLemmas.{is_only_counted}
 use Rattle.arrow_flat_growable.proofs.ResultLemmas.{on_ok}
 use Rattle.arrow_flat_growable.proofs.StoreLemmas.{slots_constant, slots_fit, constant_too_many, counted_on_ok}

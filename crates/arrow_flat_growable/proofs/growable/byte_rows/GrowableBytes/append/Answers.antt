@@ -1,9 +1,5 @@
-use Rattle.std.proofs.Common.{◌≡◌, ◌∙◌, ◌++◌, ◌<◌, None, ap, sym, subst}
+use Rattle.arrow_flat_growable.proofs.Common.{◌≡◌, ◌∙◌, ◌++◌, ◌<◌, None, ap, sym, subst, sliced, row_bytes, stored_rows, total}
 use Rattle.std.specs.Prelude.{option_copied}
-use Rattle.arrow_memory.specs.Sliced.{sliced}
-use Rattle.arrow_flat.specs.ByteRows.{row_bytes}
-use Rattle.arrow_flat_growable.specs.Bytes.{stored_rows}
-use Rattle.arrow_flat_growable.specs.GrownRows.{total}
 use Rattle.arrow_flat_growable.proofs.GrownRowLemmas.{all_set}
 use Rattle.arrow_flat_growable.proofs.ResultLemmas.{on_ok}
 use Rattle.arrow_flat_growable.proofs.growable.byte_rows.GrowableBytes.append.Goals as goal

@@ -1,6 +1,4 @@
-use Rattle.std.proofs.Common.{◌∙◌, ◌++◌, [], replicate, refl, ap}
-use Rattle.arrow_flat.specs.ByteRows.{row_bytes}
-use Rattle.arrow_flat.specs.Pieces.{pieces}
+use Rattle.arrow_flat_growable.proofs.Common.{◌∙◌, ◌++◌, [], replicate, refl, ap, row_bytes, pieces}
 use Rattle.arrow_flat_growable.proofs.GrownRowLemmas.{empty_grown, empty_rows, same_grown, on_either}
 use Rattle.arrow_flat_growable.proofs.ResultLemmas.{on_ok}
 use Rattle.arrow_flat_growable.proofs.growable.byte_rows.GrowableBytes.append_empty.Goals as goal

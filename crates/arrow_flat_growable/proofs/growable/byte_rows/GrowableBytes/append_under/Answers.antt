@@ -1,11 +1,4 @@
-use Rattle.std.proofs.Common.{arith, ◌≡◌, ◌∙◌, ◌++◌, ◌+◌, ◌<◌, [], ap, get_or, subst, sym, length, OnOk}
-use Rattle.arrow_memory.specs.Offsets.{with_valid_rows}
-use Rattle.arrow_memory.specs.Sliced.{sliced}
-use Rattle.arrow_memory.proofs.SlicedLemmas.{length-sliced}
-use Rattle.arrow_flat.specs.ByteRows.{row_bytes}
-use Rattle.arrow_flat.specs.Pieces.{pieces}
-use Rattle.arrow_flat.proofs.PieceLemmas.{last_of_part, length-pieces}
-use Rattle.arrow_flat_growable.specs.GrownRows.{filled, total, valid_values}
+use Rattle.arrow_flat_growable.proofs.Common.{arith, ◌≡◌, ◌∙◌, ◌++◌, ◌+◌, ◌<◌, [], ap, get_or, subst, sym, length, OnOk, with_valid_rows, sliced, length-sliced, row_bytes, pieces, last_of_part, length-pieces, filled, total, valid_values}
 use Rattle.arrow_flat_growable.proofs.PartRowLemmas.{all_of_part, part_filled, part_rows}
 use Rattle.arrow_flat_growable.proofs.GrownRowLemmas.{same_grown, on_either}
 use Rattle.arrow_flat_growable.proofs.ResultLemmas.{on_ok}

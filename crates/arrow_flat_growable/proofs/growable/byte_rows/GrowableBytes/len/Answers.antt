@@ -1,9 +1,4 @@
-use Rattle.std.proofs.Common.{arith, ◌≡◌, ◌-◌, ◌≤◌, length, subst}
-use Rattle.std.proofs.lemmas.Int.{ints}
-use Rattle.arrow_flat.specs.ByteRows.{row_bytes}
-use Rattle.arrow_flat.proofs.PieceLemmas.{length-pieces}
-use Rattle.arrow_memory.specs.Offsets.{last_of}
-use Rattle.arrow_flat_growable.specs.GrownRows.{total}
+use Rattle.arrow_flat_growable.proofs.Common.{arith, ◌≡◌, ◌-◌, ◌≤◌, length, subst, ints, row_bytes, length-pieces, last_of, total}
 use Rattle.arrow_flat_growable.proofs.GrownRowLemmas.{total_grown}
 use Rattle.arrow_flat_growable.proofs.growable.byte_rows.GrowableBytes.len.Goals as goal
 

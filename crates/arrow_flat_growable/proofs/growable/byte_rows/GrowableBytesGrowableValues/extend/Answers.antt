@@ -1,9 +1,4 @@
-use Rattle.std.proofs.Common.{◌++◌, sym, subst}
-use Rattle.std.proofs.lemmas.List.{map-append}
-use Rattle.arrow_types.specs.Fits.{Fits}
-use Rattle.arrow_flat.specs.ByteRows.{row_bytes}
-use Rattle.arrow_flat_growable.specs.Bytes.{stored_rows}
-use Rattle.arrow_flat_growable.specs.ByteLaws.{slots_fit, slots_pass}
+use Rattle.arrow_flat_growable.proofs.Common.{◌++◌, sym, subst, map-append, Fits, row_bytes, stored_rows, slots_fit, slots_pass}
 use Rattle.arrow_flat_growable.proofs.growable.byte_rows.GrowableBytesGrowableValues.extend.Goals as goal
 
 pub returns-in_err-append-clause-overflow : goal.returns-in_err-append-clause-overflow

@@ -1,8 +1,4 @@
-use Rattle.std.proofs.Common.{◌∙◌, ◌++◌, [], map, replicate, ap}
-use Rattle.std.proofs.lemmas.List.{map-append}
-use Rattle.arrow_arrays.proofs.NullLemmas.{map_constant}
-use Rattle.arrow_flat.specs.ByteRows.{row_bytes}
-use Rattle.arrow_flat_growable.specs.ByteLaws.{slots_fit}
+use Rattle.arrow_flat_growable.proofs.Common.{◌∙◌, ◌++◌, [], map, replicate, ap, map-append, map_constant, row_bytes, slots_fit}
 use Rattle.arrow_flat_growable.proofs.growable.byte_rows.GrowableBytesGrowableValues.extend_nulls.Goals as goal
 
 pub returns-clause-ok : goal.returns-clause-ok

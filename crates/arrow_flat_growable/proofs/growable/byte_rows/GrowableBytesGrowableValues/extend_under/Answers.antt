@@ -1,10 +1,4 @@
-use Rattle.std.proofs.Common.{◌++◌, length, sym, subst}
-use Rattle.std.proofs.lemmas.List.{map-append}
-use Rattle.arrow_types.specs.Fits.{Fits}
-use Rattle.arrow_flat.specs.ByteRows.{row_bytes}
-use Rattle.arrow_memory.specs.Sliced.{sliced}
-use Rattle.arrow_flat_growable.specs.GrownRows.{filled}
-use Rattle.arrow_flat_growable.specs.ByteLaws.{slots_fit, slots_pass}
+use Rattle.arrow_flat_growable.proofs.Common.{◌++◌, length, sym, subst, map-append, Fits, row_bytes, sliced, filled, slots_fit, slots_pass}
 use Rattle.arrow_flat_growable.proofs.growable.byte_rows.GrowableBytesGrowableValues.extend_under.Goals as goal
 
 pub returns-in_err-append_under-clause-overflow : goal.returns-in_err-append_under-clause-overflow

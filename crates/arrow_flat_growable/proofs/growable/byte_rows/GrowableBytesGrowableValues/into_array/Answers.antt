@@ -1,10 +1,4 @@
-use Rattle.std.proofs.Common.{◌≡◌, ◌∙◌, ◌-◌, arith, ap, sym, subst, length}
-use Rattle.std.specs.List.{All}
-use Rattle.arrow_memory.specs.Offsets.{last_of}
-use Rattle.arrow_flat.specs.ByteRows.{byte_slots}
-use Rattle.arrow_flat.specs.Parts.{FitsRows}
-use Rattle.arrow_flat.specs.Pieces.{pieces}
-use Rattle.arrow_flat.proofs.PieceLemmas.{length-byte_slots}
+use Rattle.arrow_flat_growable.proofs.Common.{◌≡◌, ◌∙◌, ◌-◌, arith, ap, sym, subst, length, All, last_of, byte_slots, FitsRows, pieces, length-byte_slots}
 use Rattle.arrow_flat_growable.proofs.growable.byte_rows.GrowableBytesGrowableValues.into_array.Goals as goal
 
 pub new-requires-clause-length : goal.new-requires-clause-length

@@ -1,6 +1,4 @@
-use Rattle.std.proofs.Common.{◌≡◌, ◌∙◌, ◌+◌, ◌*◌, ◌≤◌, length, sym, arith}
-use Rattle.arrow_memory.proofs.SlicedLemmas.{length-sliced}
-use Rattle.arrow_flat.specs.FixedRows.{AreFixedRows, fixed_slots}
+use Rattle.arrow_flat_growable.proofs.Common.{◌≡◌, ◌∙◌, ◌+◌, ◌*◌, ◌≤◌, length, sym, arith, length-sliced, AreFixedRows, fixed_slots}
 use Rattle.arrow_flat_growable.proofs.FixedRowsLemmas.{bytes_within, part_behind, part_counts, fixed_rows_fit, both_counted}
 use Rattle.arrow_flat_growable.proofs.growable.fixed_binary.GrowableFixedRowsGrowableValues.extend.Goals as goal
 

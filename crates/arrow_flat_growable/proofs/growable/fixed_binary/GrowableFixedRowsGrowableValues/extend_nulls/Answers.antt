@@ -1,7 +1,4 @@
-use Rattle.std.proofs.Common.{◌≡◌, ◌∙◌, ◌*◌, ◌++◌, length, replicate, arith, rules}
-use Rattle.std.specs.Vec.{vec_len}
-use Rattle.std.proofs.lemmas.List.{length-replicate}
-use Rattle.arrow_types.specs.Slot.{Bytes}
+use Rattle.arrow_flat_growable.proofs.Common.{◌≡◌, ◌∙◌, ◌*◌, ◌++◌, length, replicate, arith, rules, vec_len, length-replicate, Bytes}
 use Rattle.arrow_flat_growable.proofs.FixedRowsLemmas.{zeros_behind, zeros_count, fixed_rows_fit, both_counted}
 use Rattle.arrow_flat_growable.proofs.StoreLemmas.{grown_to}
 use Rattle.arrow_flat_growable.proofs.growable.fixed_binary.GrowableFixedRowsGrowableValues.extend_nulls.Goals as goal

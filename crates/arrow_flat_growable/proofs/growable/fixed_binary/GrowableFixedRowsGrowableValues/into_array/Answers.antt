@@ -1,7 +1,4 @@
-use Rattle.std.proofs.Common.{ap}
-use Rattle.arrow_types.specs.Rows.{masked}
-use Rattle.arrow_types.specs.TypeOf.{type_of}
-use Rattle.arrow_flat.specs.FixedRows.{fixed_slots, fixed_size_in}
+use Rattle.arrow_flat_growable.proofs.Common.{ap, masked, type_of, fixed_slots, fixed_size_in}
 use Rattle.arrow_flat_growable.proofs.FixedRowsLemmas.{stored_fit, stored_parts}
 use Rattle.arrow_flat_growable.proofs.growable.fixed_binary.GrowableFixedRowsGrowableValues.into_array.Goals as goal
 

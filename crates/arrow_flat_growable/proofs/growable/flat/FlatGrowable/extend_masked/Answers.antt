@@ -1,12 +1,4 @@
-use Rattle.std.proofs.Common.{arith, ◌≡◌, ◌+◌, ◌++◌, length, map, Some, Err, Bor, false, ap, sym, subst, ◌∙◌}
-use Rattle.std.proofs.lemmas.List.{length-map}
-use Rattle.arrow_types.specs.Fits.{Fits}
-use Rattle.arrow_types.specs.Rows.{mask}
-use Rattle.arrow_types.specs.TypeOf.{type_of}
-use Rattle.arrow_memory.specs.Sliced.{sliced}
-use Rattle.arrow_arrays.specs.Layout.{rows}
-use Rattle.arrow_flat_growable.specs.Flat.{flat_layout}
-use Rattle.arrow_flat_growable.specs.Grown.{FitsWith, NamesRows, named_rows, source_at}
+use Rattle.arrow_flat_growable.proofs.Common.{arith, ◌≡◌, ◌+◌, ◌++◌, length, map, Some, Err, Bor, false, ap, sym, subst, ◌∙◌, length-map, Fits, mask, type_of, sliced, rows, flat_layout, FitsWith, NamesRows, named_rows, source_at}
 use Rattle.arrow_flat_growable.proofs.FlatLemmas.{counts_rows, length-under, source_is, stay_bound, too_many}
 use Rattle.arrow_flat_growable.proofs.ResultLemmas.{passed_on}
 use Rattle.arrow_flat_growable.proofs.growable.flat.FlatGrowable.extend_masked.Goals as goal

@@ -1,9 +1,4 @@
-use Rattle.std.proofs.Common.{◌≡◌, Bor, map, sym, subst, ◌∙◌}
-use Rattle.std.specs.List.{All}
-use Rattle.arrow_types.specs.Carried.{IsCarried}
-use Rattle.arrow_types.specs.TypeOf.{type_of}
-use Rattle.arrow_arrays.specs.Layout.{type_of_layout}
-use Rattle.arrow_flat_growable.specs.Flat.{BindsAll, flat_layout}
+use Rattle.arrow_flat_growable.proofs.Common.{◌≡◌, Bor, map, sym, subst, ◌∙◌, All, IsCarried, type_of, type_of_layout, BindsAll, flat_layout}
 use Rattle.arrow_flat_growable.proofs.FlatLemmas.{first_is, sound_empty}
 use Rattle.arrow_flat_growable.proofs.growable.flat.FlatGrowable.new.Goals as goal
 

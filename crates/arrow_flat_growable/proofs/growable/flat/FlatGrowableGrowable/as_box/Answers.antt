@@ -1,4 +1,4 @@
-use Rattle.arrow_types.specs.TypeOf.{type_of}
+use Rattle.arrow_flat_growable.proofs.Common.{type_of}
 use Rattle.arrow_flat_growable.proofs.FlatLemmas.{sound_empty, stay_bound}
 use Rattle.arrow_flat_growable.proofs.growable.flat.FlatGrowableGrowable.as_box.Goals as goal
 

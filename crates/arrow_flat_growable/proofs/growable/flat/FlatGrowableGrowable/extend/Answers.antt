@@ -1,13 +1,4 @@
-use Rattle.std.proofs.Common.{arith, ◌≡◌, ◌+◌, ◌++◌, length, map, Some, Err, Bor, false, ap, sym, subst, ◌∙◌, inl}
-use Rattle.std.proofs.lemmas.List.{length-map}
-use Rattle.arrow_types.specs.Fits.{Fits}
-use Rattle.arrow_types.specs.Rows.{mask}
-use Rattle.arrow_types.specs.TypeOf.{type_of}
-use Rattle.arrow_memory.specs.Sliced.{sliced}
-use Rattle.arrow_memory.proofs.SlicedLemmas.{length-sliced}
-use Rattle.arrow_arrays.specs.Layout.{rows}
-use Rattle.arrow_flat_growable.specs.Flat.{flat_layout}
-use Rattle.arrow_flat_growable.specs.Grown.{CannotHold, NamesRows, source_at}
+use Rattle.arrow_flat_growable.proofs.Common.{arith, ◌≡◌, ◌+◌, ◌++◌, length, map, Some, Err, Bor, false, ap, sym, subst, ◌∙◌, inl, length-map, Fits, mask, type_of, sliced, length-sliced, rows, flat_layout, CannotHold, NamesRows, source_at}
 use Rattle.arrow_flat_growable.proofs.FlatLemmas.{counts_rows, source_is, stay_bound, too_many}
 use Rattle.arrow_flat_growable.proofs.ResultLemmas.{passed_on}
 use Rattle.arrow_flat_growable.proofs.growable.flat.FlatGrowableGrowable.extend.Goals as goal

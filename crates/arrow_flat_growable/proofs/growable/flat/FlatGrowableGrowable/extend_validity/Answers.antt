@@ -1,9 +1,4 @@
-use Rattle.std.proofs.Common.{arith, replicate, subst, sym}
-use Rattle.std.proofs.lemmas.List.{length-replicate}
-use Rattle.arrow_types.specs.Rows.{mask}
-use Rattle.arrow_types.specs.Slot.{null_slot}
-use Rattle.arrow_types.specs.TypeOf.{type_of}
-use Rattle.arrow_flat_growable.specs.Grown.{FitsWith, null_rows_of}
+use Rattle.arrow_flat_growable.proofs.Common.{arith, replicate, subst, sym, length-replicate, mask, null_slot, type_of, FitsWith, null_rows_of}
 use Rattle.arrow_flat_growable.proofs.FlatLemmas.{counts_rows, too_many}
 use Rattle.arrow_flat_growable.proofs.growable.flat.FlatGrowableGrowable.extend_validity.Goals as goal
 

@@ -1,11 +1,5 @@
-use Rattle.std.proofs.Common.{◌≡◌, ◌+◌, ◌-◌, ◌%◌, ◌≤◌, ◌∙◌, ◌++◌, arith, ap, drop, length, map, subst, sym, take, unsigned_abs}
+use Rattle.arrow_flat_growable.proofs.Common.{◌≡◌, ◌+◌, ◌-◌, ◌%◌, ◌≤◌, ◌∙◌, ◌++◌, arith, ap, drop, length, map, subst, sym, take, unsigned_abs, All-drop, All-take, masked, sliced, length-sliced, AreKeys, IsKey, fitting_keys, grown_key}
 use Rattle.std.specs.Prelude.{option_copied}
-use Rattle.std.proofs.lemmas.List.Elements.{All-drop, All-take}
-use Rattle.arrow_types.specs.Rows.{masked}
-use Rattle.arrow_memory.specs.Sliced.{sliced}
-use Rattle.arrow_memory.proofs.SlicedLemmas.{length-sliced}
-use Rattle.arrow_arrays.specs.KeyedParts.{AreKeys, IsKey}
-use Rattle.arrow_flat_growable.specs.Keys.{fitting_keys, grown_key}
 use Rattle.arrow_flat_growable.proofs.MovedLemmas.{half_rows, moved_more}
 use Rattle.arrow_flat_growable.proofs.growable.keys.moved.append_moved.Goals as goal
 

@@ -1,9 +1,5 @@
-use Rattle.std.proofs.Common.{◌≡◌, ◌+◌, ◌-◌, ◌≤◌, ◌++◌, map, unsigned_abs}
+use Rattle.arrow_flat_growable.proofs.Common.{◌≡◌, ◌+◌, ◌-◌, ◌≤◌, ◌++◌, map, unsigned_abs, vec_len, vec_capacity, masked, sliced, grown_key}
 use Rattle.std.specs.Prelude.{option_copied}
-use Rattle.std.specs.Vec.{vec_len, vec_capacity}
-use Rattle.arrow_types.specs.Rows.{masked}
-use Rattle.arrow_memory.specs.Sliced.{sliced}
-use Rattle.arrow_flat_growable.specs.Keys.{grown_key}
 use Rattle.arrow_flat_growable.proofs.growable.keys.moved.append_moved.Given as goal
 
 -- the keys of the rows so far

@@ -1,11 +1,4 @@
-use Rattle.std.proofs.Common.{◌≡◌, ◌<◌, ◌≤◌, ◌∙◌, arith, ap, length, map, subst, sym, unsigned_abs}
-use Rattle.std.proofs.lemmas.List.{length-map, length-set, take_all}
-use Rattle.arrow_types.specs.Rows.{mask}
-use Rattle.arrow_types.specs.Slot.{Null}
-use Rattle.arrow_memory.specs.Words.{low_bits}
-use Rattle.arrow_memory.proofs.OffsetLemmas.{left_next, same_at}
-use Rattle.arrow_arrays.specs.KeyedParts.{IsKey}
-use Rattle.arrow_flat_growable.specs.Keys.{fitting_keys, grown_key}
+use Rattle.arrow_flat_growable.proofs.Common.{◌≡◌, ◌<◌, ◌≤◌, ◌∙◌, arith, ap, length, map, subst, sym, unsigned_abs, length-map, length-set, take_all, mask, Null, low_bits, left_next, same_at, IsKey, fitting_keys, grown_key}
 use Rattle.arrow_flat_growable.proofs.MovedLemmas.{bit_row, length-bit_rows, moved_next}
 use Rattle.arrow_flat_growable.proofs.growable.keys.moved.move_each.Goals as goal
 

@@ -1,7 +1,4 @@
-use Rattle.std.proofs.Common.{◌≡◌, length, map, take, drop, unsigned_abs}
-use Rattle.arrow_types.specs.Rows.{mask}
-use Rattle.arrow_memory.specs.Words.{low_bits}
-use Rattle.arrow_flat_growable.specs.Keys.{grown_key}
+use Rattle.arrow_flat_growable.proofs.Common.{◌≡◌, length, map, take, drop, unsigned_abs, mask, low_bits, grown_key}
 use Rattle.arrow_flat_growable.proofs.growable.keys.moved.move_each.Given as goal
 
 -- the keys so far are moved, and the others as they were

@@ -1,7 +1,5 @@
-use Rattle.std.proofs.Common.{◌∙◌, ◌+◌, ◌<◌, ap, arith, length, option_copied, subst, sym}
-use Rattle.std.specs.Prelude.{◌==◌, IfSome}
-use Rattle.std.proofs.lemmas.Nat.Bits.{bit_at_ones}
-use Rattle.arrow_types.specs.Rows.{valid_at}
+use Rattle.arrow_flat_growable.proofs.Common.{◌∙◌, ◌+◌, ◌<◌, ap, arith, length, option_copied, subst, sym, IfSome, bit_at_ones, valid_at}
+use Rattle.std.specs.Prelude.{◌==◌}
 use Rattle.arrow_flat_growable.proofs.MovedLemmas.{half_marks}
 use Rattle.arrow_flat_growable.proofs.growable.keys.moved.valid_half.Goals as goal
 

@@ -1,8 +1,4 @@
-use Rattle.std.proofs.Common.{◌∙◌, Some, map, ap, length, subst, sym, inl}
-use Rattle.std.proofs.lemmas.List.{length-replicate}
-use Rattle.arrow_types.specs.Slot.{Null}
-use Rattle.arrow_flat_growable.specs.Grown.{CannotHold, NamesRows, appended}
-use Rattle.arrow_flat_growable.specs.Nulls.{null_layout, with_sources}
+use Rattle.arrow_flat_growable.proofs.Common.{◌∙◌, Some, map, ap, length, subst, sym, inl, length-replicate, Null, CannotHold, NamesRows, appended, null_layout, with_sources}
 use Rattle.arrow_flat_growable.proofs.NullLemmas.{nulls_among, nulls_over, nulls_within}
 use Rattle.arrow_flat_growable.proofs.ResultLemmas.{on_ok}
 use Rattle.arrow_flat_growable.proofs.growable.null.BoundNullsGrowable.extend.Goals as goal

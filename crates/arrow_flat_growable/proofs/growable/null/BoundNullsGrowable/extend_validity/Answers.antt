@@ -1,8 +1,4 @@
-use Rattle.std.proofs.Common.{◌∙◌, Some, map, ap, length, subst, sym}
-use Rattle.std.proofs.lemmas.List.{length-replicate}
-use Rattle.arrow_types.specs.Slot.{Null}
-use Rattle.arrow_flat_growable.specs.Grown.{FitsWith, appended, null_rows_of}
-use Rattle.arrow_flat_growable.specs.Nulls.{null_layout, with_sources}
+use Rattle.arrow_flat_growable.proofs.Common.{◌∙◌, Some, map, ap, length, subst, sym, length-replicate, Null, FitsWith, appended, null_rows_of, null_layout, with_sources}
 use Rattle.arrow_flat_growable.proofs.NullLemmas.{null_rows, nulls_over, nulls_within}
 use Rattle.arrow_flat_growable.proofs.ResultLemmas.{on_ok}
 use Rattle.arrow_flat_growable.proofs.growable.null.BoundNullsGrowable.extend_validity.Goals as goal

@@ -1,5 +1,4 @@
-use Rattle.std.proofs.Common.{arith}
-use Rattle.arrow_types.specs.TypeOf.{type_of}
+use Rattle.arrow_flat_growable.proofs.Common.{arith, type_of}
 use Rattle.arrow_flat_growable.proofs.NullLemmas.{more_nulls}
 use Rattle.arrow_flat_growable.proofs.growable.null.GrowableNull.extend_nulls.Goals as goal
 

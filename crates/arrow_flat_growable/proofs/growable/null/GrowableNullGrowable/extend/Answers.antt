@@ -1,7 +1,4 @@
-use Rattle.std.proofs.Common.{◌∙◌, ap, length, subst, sym}
-use Rattle.std.proofs.lemmas.List.{length-replicate}
-use Rattle.arrow_types.specs.Slot.{Null}
-use Rattle.arrow_flat_growable.specs.Grown.{FitsWith, RefusedBy, named_rows}
+use Rattle.arrow_flat_growable.proofs.Common.{◌∙◌, ap, length, subst, sym, length-replicate, Null, FitsWith, RefusedBy, named_rows}
 use Rattle.arrow_flat_growable.proofs.NullLemmas.{named_nulls, nulls_over, nulls_within}
 use Rattle.arrow_flat_growable.proofs.ResultLemmas.{on_ok}
 use Rattle.arrow_flat_growable.proofs.growable.null.GrowableNullGrowable.extend.Goals as goal

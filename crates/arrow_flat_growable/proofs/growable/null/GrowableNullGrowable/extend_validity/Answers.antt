@@ -1,6 +1,4 @@
-use Rattle.std.proofs.Common.{◌∙◌, ap, length}
-use Rattle.std.proofs.lemmas.List.{length-replicate}
-use Rattle.arrow_types.specs.Slot.{Null}
+use Rattle.arrow_flat_growable.proofs.Common.{◌∙◌, ap, length, length-replicate, Null}
 use Rattle.arrow_flat_growable.proofs.NullLemmas.{null_rows, nulls_over, nulls_within}
 use Rattle.arrow_flat_growable.proofs.ResultLemmas.{on_ok}
 use Rattle.arrow_flat_growable.proofs.growable.null.GrowableNullGrowable.extend_validity.Goals as goal

@@ -1,7 +1,4 @@
-use Rattle.std.proofs.Common.{[], arith, length, map, slice_index_or, refl, ap}
-use Rattle.std.proofs.lemmas.List.{length-map}
-use Rattle.arrow_memory.specs.Sliced.{sliced}
-use Rattle.arrow_memory.proofs.SlicedLemmas.{length-sliced}
+use Rattle.arrow_flat_growable.proofs.Common.{[], arith, length, map, slice_index_or, refl, ap, length-map, sliced, length-sliced}
 use Rattle.arrow_flat_growable.proofs.FitsLemmas.{is_only_counted}
 use Rattle.arrow_flat_growable.proofs.ResultLemmas.{on_ok}
 use Rattle.arrow_flat_growable.proofs.StoreLemmas.{part_fits, slots_part}

@@ -1,5 +1,4 @@
-use Rattle.std.proofs.Common.{map, refl, replicate, ap}
-use Rattle.std.proofs.lemmas.List.{length-replicate}
+use Rattle.arrow_flat_growable.proofs.Common.{map, refl, replicate, ap, length-replicate}
 use Rattle.arrow_flat_growable.proofs.FitsLemmas.{is_only_counted}
 use Rattle.arrow_flat_growable.proofs.ResultLemmas.{on_ok}
 use Rattle.arrow_flat_growable.proofs.StoreLemmas.{part_fits, slots_constant}

@@ -1,8 +1,4 @@
-use Rattle.std.proofs.Common.{◌≡◌, ◌∙◌, length, replicate, true, sym, ap}
-use Rattle.std.proofs.lemmas.List.{length-replicate}
-use Rattle.arrow_types.specs.Rows.{mask}
-use Rattle.arrow_flat_growable.specs.Validity.{bits_by}
-use Rattle.arrow_flat_growable.specs.MaskLaws.{mask-set}
+use Rattle.arrow_flat_growable.proofs.Common.{◌≡◌, ◌∙◌, length, replicate, true, sym, ap, length-replicate, mask, bits_by, mask-set}
 use Rattle.arrow_flat_growable.proofs.MaskLemmas.{mask-all}
 use Rattle.arrow_flat_growable.proofs.growable.validity.GrowableValidity.into_validity.Goals as goal
 

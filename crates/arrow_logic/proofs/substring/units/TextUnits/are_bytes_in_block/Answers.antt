@@ -1,4 +1,4 @@
-use Rattle.std.proofs.Common.{take}
+use Rattle.arrow_logic.proofs.Common.{take}
 use Rattle.arrow_logic.proofs.TextLemmas.{ascii_cut}
 use Rattle.arrow_logic.proofs.substring.units.TextUnits.are_bytes_in_block.Goals as goal
 

@@ -1,9 +1,5 @@
-use Rattle.std.proofs.Common.{◌≡◌, ◌∙◌, ◌-◌, ap, arith, drop, encode_utf8_all, length, rules, subst, sym, SFits, w64, to_z, of_z}
+use Rattle.arrow_logic.proofs.Common.{◌≡◌, ◌∙◌, ◌-◌, ap, arith, drop, encode_utf8_all, length, rules, subst, sym, SFits, w64, to_z, of_z, to_z-of_z, length-drop, take_all, part_begin, skipped, text_cut}
 use Rattle.std.specs.Str.{chars}
-use Rattle.std.proofs.lemmas.Int.{to_z-of_z}
-use Rattle.std.proofs.lemmas.List.{length-drop, take_all}
-use Rattle.arrow_types.specs.Part.{part_begin}
-use Rattle.arrow_logic.specs.Substring.{skipped, text_cut}
 use Rattle.arrow_logic.proofs.TextLemmas.{rest_some}
 use Rattle.arrow_logic.proofs.substring.units.TextUnits.span.Goals as goal
 
