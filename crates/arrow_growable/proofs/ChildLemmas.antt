@@ -1,18 +1,8 @@
 -- A child that grows by rows that are named, one call behind the other.
-use Rattle.std.proofs.Common.{arith, ◌≡◌, ◌+◌, ◌*◌, ◌-◌, ◌<◌, ◌≤◌, ◌⊎◌, inl, inr, ℕ, zero, suc, Bool, true, false, List, [], ◌∷◌, ◌++◌, Option, Some, None, length, replicate, refl, ap, sym, subst, ◌∙◌}
-use Rattle.std.specs.Prelude.{Result, Ok, Err, OnOk, IsOkUnless, ◌↔◌}
+use Rattle.arrow_growable.proofs.Common.{arith, ◌≡◌, ◌+◌, ◌*◌, ◌-◌, ◌<◌, ◌≤◌, ◌⊎◌, inl, inr, ℕ, zero, suc, Bool, true, false, List, [], ◌∷◌, ◌++◌, Option, Some, None, length, replicate, refl, ap, sym, subst, ◌∙◌, OnOk, IsOkUnless, ◌↔◌, append-nil, Error, OutOfMemory, Failed, Fits, ArrowType, Slot, null_slot, Fits-beginning, sliced, Layout, Grown, AreThere, CannotHold, FitsItself, FitsWith, IsFailedOrMemory, NamesRows, RefusedBy, appended, named_rows, null_rows_of, rows_among, BindsRows, CannotGrow, CrowdsIn, GrownBy, IsWell, LiesIn, NoneBeneath, Rises, SameBound, bound_rows, source_rows, spread}
+use Rattle.std.specs.Prelude.{Result, Ok, Err}
 use Rattle.std.specs.Result.{IsErrAnd}
-use Rattle.std.proofs.lemmas.List.{append_assoc, append-nil, length-append}
-use Rattle.arrow_types.specs.declared.error.Error.{Error}
-use Rattle.arrow_types.specs.declared.error.Error.TheVariants.{OutOfMemory, Failed}
-use Rattle.arrow_types.specs.Fits.{Fits}
-use Rattle.arrow_types.specs.ArrowType.{ArrowType}
-use Rattle.arrow_types.specs.Slot.{Slot, null_slot}
-use Rattle.arrow_types.proofs.FitsLemmas.{Fits-beginning}
-use Rattle.arrow_memory.specs.Sliced.{sliced}
-use Rattle.arrow_arrays.specs.Layout.{Layout}
-use Rattle.arrow_flat_growable.specs.Grown.{Grown, AreThere, CannotHold, FitsItself, FitsWith, IsFailedOrMemory, NamesRows, RefusedBy, appended, named_rows, null_rows_of, rows_among}
-use Rattle.arrow_growable.specs.Child.{BindsRows, CannotGrow, CrowdsIn, GrownBy, IsWell, LiesIn, NoneBeneath, Rises, SameBound, bound_rows, source_rows, spread}
+use Rattle.std.proofs.lemmas.List.{append_assoc, length-append}
 use Rattle.arrow_growable.proofs.SpreadLemmas.{spread_run}
 
 -- rows behind rows

@@ -1,16 +1,7 @@
 -- What children hold of rows, and when rows fit by them.
-use Rattle.std.proofs.Common.{◌≡◌, ◌+◌, ◌*◌, ◌<◌, ◌^◌, ℕ, zero, suc, List, [], ◌∷◌, ◌++◌, length, map, refl, subst, arith}
-use Rattle.std.specs.Prelude.{flat_map, slice_index_or}
-use Rattle.std.proofs.lemmas.List.{map-append}
+use Rattle.arrow_growable.proofs.Common.{◌≡◌, ◌+◌, ◌*◌, ◌<◌, ◌^◌, ℕ, zero, suc, List, [], ◌∷◌, ◌++◌, length, map, refl, subst, arith, slice_index_or, map-append, ArrowType, ArrowFields, ListForm, plain, list, struct, union, dictionary, extension, null, small, large, fixed_size, mapped, field, no_fields, more_fields, type_in, from_fields, Fits, FitsParts, child_rows, fixed_items_in, part_in, physical_type_of, Slot, child_rows-append, field_types, item_type, list_size, list_shape, list_shaped, plain_shape, shape_in, struct_shape, child_type, child_types, column_in}
+use Rattle.std.specs.Prelude.{flat_map}
 use Rattle.arrow_types.specs.declared.datatypes.physical_type.PhysicalType.TheVariants as physical
-use Rattle.arrow_types.specs.ArrowType.{ArrowType, ArrowFields, ListForm, plain, list, struct, union, dictionary, extension, null, small, large, fixed_size, mapped, field, no_fields, more_fields, type_in, from_fields}
-use Rattle.arrow_types.specs.Fits.{Fits, FitsParts, child_rows, fixed_items_in, part_in}
-use Rattle.arrow_types.specs.Physical.{physical_type_of}
-use Rattle.arrow_types.specs.Slot.{Slot}
-use Rattle.arrow_types.proofs.FitsLemmas.{child_rows-append}
-use Rattle.arrow_arrays.specs.TypeParts.{field_types, item_type, list_size}
-use Rattle.arrow_arrays.proofs.ShapeLemmas.{list_shape, list_shaped, plain_shape, shape_in, struct_shape}
-use Rattle.arrow_growable.specs.Form.{child_type, child_types, column_in}
 
 -- rows behind rows, and none
 

@@ -1,9 +1,6 @@
 -- Offsets of rows that are all valid.
-use Rattle.std.proofs.Common.{arith, ◌≡◌, ◌+◌, ◌-◌, ◌<◌, ◌≤◌, ℕ, zero, suc, true, List, ◌∷◌, ◌++◌, length, map, replicate, slice_index, refl, ap, ◌∙◌}
-use Rattle.arrow_memory.specs.Offsets.{IsOffsets, last_of, valid_ends, valid_items, with_rows, with_valid_rows}
-use Rattle.arrow_memory.specs.Sliced.{sliced}
-use Rattle.arrow_memory.proofs.OffsetLemmas.{offsets_rise}
-use Rattle.arrow_flat_growable.proofs.GrownRowLemmas.{part_cut}
+use Rattle.arrow_growable.proofs.Common.{arith, ◌≡◌, ◌+◌, ◌-◌, ◌<◌, ◌≤◌, ℕ, zero, suc, true, List, ◌∷◌, ◌++◌, length, map, replicate, slice_index, refl, ap, ◌∙◌, IsOffsets, last_of, valid_ends, valid_items, with_valid_rows, sliced, offsets_rise, part_cut}
+use Rattle.arrow_memory.specs.Offsets.{with_rows}
 
 -- how many items they have
 pub all_items_of : (n : ℕ) (os : List ℕ) (i : ℕ) → IsOffsets os → i + n < length os → valid_items (replicate n true) os i ≡ slice_index os (i + n) - slice_index os i

@@ -1,17 +1,6 @@
 -- A row of a child that is crowded makes its row so.
-use Rattle.std.proofs.Common.{arith, ◌≡◌, ◌+◌, ◌<◌, ◌≤◌, inl, inr, ℕ, zero, suc, Bool, true, List, [], ◌∷◌, Option, Some, None, length, map, take, drop, refl, ap, sym, subst, ◌∙◌}
-use Rattle.std.specs.Prelude.{slice_index_or}
-use Rattle.std.specs.List.{All, take-map}
-use Rattle.std.proofs.lemmas.List.{get_or-map, get_or-take, get_or-drop}
-use Rattle.std.proofs.lemmas.List.Elements.{All-take}
-use Rattle.arrow_types.specs.Rows.{valid_at}
-use Rattle.arrow_flat.specs.Parts.{bits_of_slice}
-use Rattle.arrow_arrays.specs.Crowded.{CrowdedPart, CrowdedRow, child_at, child_of, nth_layout}
-use Rattle.arrow_arrays.specs.Layout.{Layout, Layouts, listed, fixed, fielded, no_layouts, more_layouts, from_layouts}
-use Rattle.arrow_flat_growable.specs.Grown.{AreCrowded, source_at}
-use Rattle.arrow_growable.specs.Child.{CrowdsIn, LiesIn}
-use Rattle.arrow_growable.specs.Form.{Form, by_offsets, by_size, by_fields}
-use Rattle.arrow_growable.specs.Source.{IsOfForm, children_in, no_child, nth_child, place_in, validity_in}
+use Rattle.arrow_growable.proofs.Common.{arith, ◌≡◌, ◌+◌, ◌<◌, ◌≤◌, inl, inr, ℕ, zero, suc, Bool, true, List, [], ◌∷◌, Option, Some, None, length, map, take, drop, refl, ap, sym, subst, ◌∙◌, slice_index_or, take-map, get_or-map, get_or-take, get_or-drop, All-take, valid_at, bits_of_slice, CrowdedPart, CrowdedRow, child_at, child_of, nth_layout, Layout, Layouts, listed, fixed, fielded, no_layouts, more_layouts, from_layouts, AreCrowded, source_at, CrowdsIn, LiesIn, Form, by_offsets, by_size, by_fields, IsOfForm, children_in, no_child, nth_child, place_in, validity_in}
+use Rattle.std.specs.List.{All}
 
 -- a row of the child that lies in rows of an array lies in one that is valid
 

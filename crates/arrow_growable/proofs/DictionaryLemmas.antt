@@ -1,36 +1,10 @@
 -- Rows of dictionaries behind others: keys that grow by the values before their own name the same values.
-use Rattle.std.proofs.Common.{arith, Bor, ◌≡◌, ◌+◌, ◌-◌, ◌<◌, ◌≤◌, ◌^◌, ◌⊎◌, inl, inr, ℕ, zero, suc, pos, negsuc, Bool, true, false, not, List, [], ◌∷◌, ◌++◌, Option, Some, None, length, map, take, drop, get_or, replicate, refl, ap, sym, subst, ◌∙◌, length-append}
-use Rattle.std.specs.Prelude.{IfSome, option_copied, slice_get, if◌then◌else◌}
+use Rattle.arrow_growable.proofs.Common.{arith, Bor, ◌≡◌, ◌+◌, ◌-◌, ◌<◌, ◌≤◌, ◌^◌, ◌⊎◌, inl, inr, ℕ, zero, suc, pos, negsuc, Bool, true, false, not, List, [], ◌∷◌, ◌++◌, Option, Some, None, length, map, take, drop, get_or, replicate, refl, ap, sym, subst, ◌∙◌, length-append, IfSome, option_copied, slice_get, eq-or-lt_of_le, lt_of_not-le, get_or-append_seam, take-suc, drop-replicate, get_or_append_left, get_or-append-add, get_or-drop, get_or-take, length-map, length-replicate, map-append, take-replicate, get_or_default_zero, All-append, All-drop, All-take, sum_by-append, sum_by-cons, IntegerType, ArrowType, plain, list, struct, union, dictionary, extension, null, Fits, greatest_number, physical_type_of, is_null, mask, Slot, Null, Boolean, Number, DayTime, MonthDayNano, Bytes, Text, Items, Dict, Variant, length-mask, sliced, map_sliced, length-sliced, IsValue, MarksNulls, bits_of_slice, CrowdedRow, child_of, greatest_key, values_before, AreKeys, IsKey, IsKeyIn, KeyedParts, key_in, keyed_layout, keyed_rows, keys_in, key_read, dictionary_shape, list_shaped, plain_shape, shape_in, Layout, flat, keyed_item, rows, type_of_layout, AreCrowded, source_at, KeyFits, SomePasses, grown_key, zero_key, appended_rows, source_is, AreUncrowded, HoldsKeys, IsGrownDictionary, dictionary_rows, joined_values}
+use Rattle.std.specs.Prelude.{if◌then◌else◌}
 use Rattle.std.specs.List.{All}
-use Rattle.std.proofs.Math.Nat.{eq-or-lt_of_le, lt_of_not-le}
-use Rattle.std.proofs.Math.Seq.{get_or-append_seam, take-suc}
-use Rattle.std.proofs.lemmas.List.{drop-replicate, get_or_append_left, get_or-append-add, get_or-drop, get_or-take, length-map, length-replicate, map-append, take-replicate}
-use Rattle.std.proofs.lemmas.Grind.{get_or_default_zero}
-use Rattle.std.proofs.lemmas.List.Elements.{All-append, All-drop, All-take}
-use Rattle.std.proofs.lemmas.List.Sums.{sum_by-append, sum_by-cons}
-use Rattle.arrow_types.specs.declared.datatypes.IntegerType.{IntegerType}
 use Rattle.arrow_types.specs.declared.datatypes.physical_type.PhysicalType.TheVariants as physical
-use Rattle.arrow_types.specs.ArrowType.{ArrowType, plain, list, struct, union, dictionary, extension, null}
-use Rattle.arrow_types.specs.Fits.{Fits}
-use Rattle.arrow_types.specs.Greatest.{greatest_number}
-use Rattle.arrow_types.specs.Physical.{physical_type_of}
-use Rattle.arrow_types.specs.Relation.{is_null}
-use Rattle.arrow_types.specs.Rows.{mask}
-use Rattle.arrow_types.specs.Slot.{Slot, Null, Boolean, Number, DayTime, MonthDayNano, Bytes, Text, Items, Parts as fields, Dict, Variant}
-use Rattle.arrow_types.proofs.RowsLemmas.{length-mask}
-use Rattle.arrow_memory.specs.Sliced.{sliced}
-use Rattle.arrow_memory.proofs.OffsetLemmas.{map_sliced}
-use Rattle.arrow_memory.proofs.SlicedLemmas.{length-sliced}
-use Rattle.arrow_flat.specs.Parts.{IsValue, MarksNulls, bits_of_slice}
-use Rattle.arrow_arrays.specs.Crowded.{CrowdedRow, child_of, greatest_key, values_before}
-use Rattle.arrow_arrays.specs.KeyedParts.{AreKeys, IsKey, IsKeyIn, KeyedParts, key_in, keyed_layout, keyed_rows, keys_in}
-use Rattle.arrow_arrays.proofs.KeyLemmas.{key_read}
-use Rattle.arrow_arrays.proofs.ShapeLemmas.{dictionary_shape, list_shaped, plain_shape, shape_in}
-use Rattle.arrow_arrays.specs.Layout.{Layout, flat, keyed_item, rows, type_of_layout}
-use Rattle.arrow_flat_growable.specs.Grown.{AreCrowded, source_at}
-use Rattle.arrow_flat_growable.specs.Keys.{KeyFits, PassesGreatest, SomePasses, grown_key, zero_key}
-use Rattle.arrow_flat_growable.proofs.FlatLemmas.{appended_rows, source_is}
-use Rattle.arrow_growable.specs.Dictionary.{AreUncrowded, HoldsKeys, IsGrownDictionary, dictionary_rows, joined_values}
+use Rattle.arrow_types.specs.Slot.{Parts as fields}
+use Rattle.arrow_flat_growable.specs.Keys.{PassesGreatest}
 
 abbrev is_valid : Slot → Bool
 is_valid s = not (is_null s)

@@ -1,24 +1,7 @@
 -- Fixed-size lists and structs that are bound to a growable: what their rows name of each child, and their rows behind others.
-use Rattle.std.proofs.Common.{arith, ◌≡◌, ◌+◌, ◌*◌, ◌/◌, ◌<◌, ◌≤◌, ℕ, Bool, List, [], ◌∷◌, ◌++◌, Option, None, length, drop, get_or, map, flat_map, refl, ap, sym, subst, ◌∙◌, le-div_iff_mul-le}
+use Rattle.arrow_growable.proofs.Common.{arith, ◌≡◌, ◌+◌, ◌*◌, ◌/◌, ◌<◌, ◌≤◌, ℕ, Bool, List, [], ◌∷◌, ◌++◌, Option, None, length, drop, get_or, map, flat_map, refl, ap, sym, subst, ◌∙◌, le-div_iff_mul-le, ext_get_or, get_or-map, length-map, All-map, ArrowType, plain, null, fixed_items_in, physical_type_of, mask, masked, Slot, Parts, null_slot, sliced, bits_of_slice, chunks, Layout, Layouts, no_layouts, more_layouts, fixed, fielded, across, columns_of, fixed_items, from_layouts, items_row, rows, struct_items, length-fixed_items, length-masked_le, Grown, empty_over, bound_rows, grown_by, spread, by_fields, by_size, child_type, column_in, nested_rows, rows_of_all, IsWhole, no_child, nth_child}
 use Rattle.std.specs.List.{All}
-use Rattle.std.proofs.lemmas.List.{ext_get_or, get_or-map, length-map}
-use Rattle.std.proofs.lemmas.List.Elements.{All-map}
 use Rattle.arrow_types.specs.declared.datatypes.physical_type.PhysicalType.TheVariants as physical
-use Rattle.arrow_types.specs.ArrowType.{ArrowType, plain, null}
-use Rattle.arrow_types.specs.Fits.{fixed_items_in}
-use Rattle.arrow_types.specs.Physical.{physical_type_of}
-use Rattle.arrow_types.specs.Rows.{mask, masked}
-use Rattle.arrow_types.specs.Slot.{Slot, Parts, null_slot}
-use Rattle.arrow_memory.specs.Sliced.{sliced}
-use Rattle.arrow_flat.specs.Parts.{bits_of_slice}
-use Rattle.arrow_flat.specs.Pieces.{chunks}
-use Rattle.arrow_arrays.specs.Layout.{Layout, Layouts, no_layouts, more_layouts, fixed, fielded, across, columns_of, fixed_items, from_layouts, items_row, rows, struct_items}
-use Rattle.arrow_arrays.proofs.PartLemmas.{length-fixed_items, length-masked_le}
-use Rattle.arrow_flat_growable.specs.Grown.{Grown, empty_over}
-use Rattle.arrow_growable.specs.Child.{bound_rows, grown_by, spread}
-use Rattle.arrow_growable.specs.Form.{by_fields, by_size, child_type, column_in, nested_rows}
-use Rattle.arrow_growable.specs.Nested.{rows_of_all}
-use Rattle.arrow_growable.specs.Source.{IsWhole, no_child, nth_child}
 use Rattle.arrow_growable.proofs.ColumnLemmas.{field_column, sized_column}
 use Rattle.arrow_growable.proofs.FieldLemmas.{Column, field_named, fields_appended, fields_part, grown_column}
 use Rattle.arrow_growable.proofs.FixedSizeLemmas.{fixed_appended, fixed_named, fixed_part}

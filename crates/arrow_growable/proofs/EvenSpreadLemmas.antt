@@ -1,18 +1,8 @@
 -- What fixed-size lists name of a child, as rows of it under their own validity, each bit for as many items.
-use Rattle.std.proofs.Common.{arith, ◌≡◌, ◌+◌, ◌-◌, ◌*◌, ◌≤◌, ℕ, zero, suc, Bool, true, false, List, [], ◌∷◌, ◌++◌, length, replicate, if◌then◌else◌, refl, ap, sym, ◌∙◌}
+use Rattle.arrow_growable.proofs.Common.{arith, ◌≡◌, ◌+◌, ◌-◌, ◌*◌, ◌≤◌, ℕ, zero, suc, Bool, true, false, List, [], ◌∷◌, ◌++◌, length, replicate, if◌then◌else◌, refl, ap, sym, ◌∙◌, flat_map-cons, add-mul, length-replicate, mask, Slot, Null, null_slot, sliced, length-sliced, sliced-cut, Grown, BindsRows, bound_rows, spread, AreEven, AreSpans, span_count, span_nulls, span_place, Spans, Small, Large, Map}
 use Rattle.std.specs.List.{flat_map}
-use Rattle.std.proofs.lemmas.List.Concat.{flat_map-cons}
-use Rattle.std.proofs.Math.Nat.{add-mul}
-use Rattle.std.proofs.lemmas.List.{length-append, length-replicate}
-use Rattle.arrow_types.specs.Rows.{mask}
-use Rattle.arrow_types.specs.Slot.{Slot, Null, null_slot}
-use Rattle.arrow_memory.specs.Sliced.{sliced}
-use Rattle.arrow_memory.proofs.SlicedLemmas.{length-sliced, sliced-cut}
-use Rattle.arrow_flat_growable.specs.Grown.{Grown}
-use Rattle.arrow_growable.specs.Child.{BindsRows, bound_rows, spread}
-use Rattle.arrow_growable.specs.Spans.{AreEven, AreSpans, span_count, span_nulls, span_place}
-use Rattle.arrow_growable.specs.declared.growable.spans.Spans.{Spans}
-use Rattle.arrow_growable.specs.declared.growable.spans.Spans.TheVariants.{Small, Large, Map, FixedSize, Fields}
+use Rattle.std.proofs.lemmas.List.{length-append}
+use Rattle.arrow_growable.specs.declared.growable.spans.Spans.TheVariants.{FixedSize, Fields}
 use Rattle.arrow_growable.proofs.StepLemmas.{rises_in}
 
 -- rows under equal bits, before others

@@ -1,20 +1,6 @@
 -- The columns of a struct: their types and lengths, and rows of it by what each has of them.
-use Rattle.std.proofs.Common.{arith, ◌≡◌, ◌+◌, ◌<◌, ◌^◌, ℕ, zero, suc, List, [], ◌∷◌, ◌++◌, length, map, take, get_or, refl, ap, sym, subst, ◌∙◌}
-use Rattle.std.specs.Prelude.{slice_index_or}
+use Rattle.arrow_growable.proofs.Common.{arith, ◌≡◌, ◌+◌, ◌<◌, ◌^◌, ℕ, zero, suc, List, [], ◌∷◌, ◌++◌, length, map, take, get_or, refl, ap, sym, subst, ◌∙◌, slice_index_or, get_or-map, length-map, map-append, slice_get_read, map-map, take_at_read, null, plain, Fits, part_in, slot_or, Slot, Null, to_slots, any_array_rows, any_array_type, layout_of, column_length, rows, type_of_layout, IsStruct, StructParts, row_count, AnyArray, shape_of, child_type, child_types}
 use Rattle.std.specs.List.{All}
-use Rattle.std.proofs.lemmas.List.{get_or-map, length-map, map-append}
-use Rattle.std.proofs.lemmas.Option.{slice_get_read}
-use Rattle.std.proofs.lemmas.Simd.{map-map}
-use Rattle.arrow_types.proofs.RowsLemmas.{take_at_read}
-use Rattle.arrow_types.specs.ArrowType.{null, plain}
-use Rattle.arrow_types.specs.Fits.{Fits, part_in, slot_or}
-use Rattle.arrow_types.specs.Slot.{Slot, Null, to_slots}
-use Rattle.arrow_arrays.specs.Any.{any_array_rows, any_array_type, layout_of}
-use Rattle.arrow_arrays.specs.Layout.{column_length, rows, type_of_layout}
-use Rattle.arrow_arrays.specs.StructParts.{IsStruct, StructParts, row_count}
-use Rattle.arrow_arrays.specs.declared.array.any.AnyArray.{AnyArray}
-use Rattle.arrow_arrays.proofs.ShapeLemmas.{shape_of}
-use Rattle.arrow_growable.specs.Form.{child_type, child_types}
 use Rattle.arrow_growable.proofs.ColumnLemmas.{column_fits, field_column, fits_fields, struct_child_types}
 
 -- what a row of a struct has in a column

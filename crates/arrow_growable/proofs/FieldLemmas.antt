@@ -1,22 +1,7 @@
 -- Rows of structs: behind one's own, and what they name of each child.
-use Rattle.std.proofs.Common.{arith, ◌≡◌, ◌+◌, ◌-◌, ◌*◌, ◌<◌, ◌≤◌, ℕ, zero, suc, Bool, true, false, List, [], ◌∷◌, ◌++◌, Option, length, map, replicate, take, get_or, if◌then◌else◌, refl, ap, sym, ◌∙◌}
-use Rattle.std.specs.Prelude.{slice_index_or}
+use Rattle.arrow_growable.proofs.Common.{arith, ◌≡◌, ◌+◌, ◌-◌, ◌*◌, ◌<◌, ◌≤◌, ℕ, zero, suc, Bool, true, false, List, [], ◌∷◌, ◌++◌, Option, length, map, replicate, take, get_or, if◌then◌else◌, refl, ap, sym, ◌∙◌, slice_index_or, length-map, length-replicate, map-append, drop_more, get_or-map, replicate-append-replicate, All-map, ArrowType, part_in, slot_or, mask, masked, Slot, Slots, Null, Parts, no_slots, more_slots, to_slots, null_slot, sliced, map_sliced, bits_of_slice, across, column_length, stacked, struct_items, map_constant, across-sliced, length-stacked, mask-append, mask-part, mask-unset, spread}
 use Rattle.std.specs.List.{All}
-use Rattle.std.proofs.lemmas.List.{length-append, length-map, length-replicate, map-append, drop_more, get_or-map, replicate-append-replicate}
-use Rattle.std.proofs.lemmas.List.Elements.{All-map}
-use Rattle.arrow_types.specs.ArrowType.{ArrowType}
-use Rattle.arrow_types.specs.Fits.{part_in, slot_or}
-use Rattle.arrow_types.specs.Rows.{mask, masked}
-use Rattle.arrow_types.specs.Slot.{Slot, Slots, Null, Parts, no_slots, more_slots, to_slots, null_slot}
-use Rattle.arrow_memory.specs.Sliced.{sliced}
-use Rattle.arrow_memory.proofs.OffsetLemmas.{map_sliced}
-use Rattle.arrow_flat.specs.Parts.{bits_of_slice}
-use Rattle.arrow_arrays.specs.Layout.{across, column_length, stacked, struct_items}
-use Rattle.arrow_arrays.proofs.NullLemmas.{map_constant}
-use Rattle.arrow_arrays.proofs.PartLemmas.{across-sliced}
-use Rattle.arrow_arrays.proofs.StructLemmas.{length-stacked}
-use Rattle.arrow_flat_growable.specs.MaskLaws.{mask-append, mask-part, mask-unset}
-use Rattle.arrow_growable.specs.Child.{spread}
+use Rattle.std.proofs.lemmas.List.{length-append}
 
 -- a child: the null slot of its type, its own rows, and those of the child of a source
 pub record Column : Type 0 where

@@ -1,30 +1,7 @@
 -- The parts of an array with children that is made of what was under construction, and its rows.
-use Rattle.std.proofs.Common.{arith, ◌≡◌, ◌*◌, ◌/◌, ◌%◌, ◌<◌, ℕ, Bool, List, [], ◌∷◌, Option, length, map, ap, subst, sym, ◌∙◌}
+use Rattle.arrow_growable.proofs.Common.{arith, ◌≡◌, ◌*◌, ◌/◌, ◌%◌, ◌<◌, ℕ, Bool, List, [], ◌∷◌, Option, length, map, ap, subst, sym, ◌∙◌, get_or-map, length-map, ArrowType, mask, masked, Slot, Parts, IsCarriedAs, FitsRows, chunks, AnyArray, any_array_rows, any_array_type, layout_of, FitsItems, Layout, across, column_length, fixed_items, items_row, list_items, rows, struct_items, FitsColumns, HaveRows, row_count, item_type, list_size, some_items, whole_product, count_children, rows_of_arrays, length-fixed_items, list_shape, shape_in, shape_of, struct_columns, struct_shape, length-across, GrowableSpans, FixedSize, Fields, Form, by_offsets, child_types, nested_rows, IsFormOf, form_of, grown_arrays, AreWhole}
 use Rattle.std.specs.List.{All}
-use Rattle.std.proofs.lemmas.List.{get_or-map, length-map}
 use Rattle.arrow_types.specs.declared.datatypes.physical_type.PhysicalType.TheVariants as physical
-use Rattle.arrow_types.specs.ArrowType.{ArrowType}
-use Rattle.arrow_types.specs.Rows.{mask, masked}
-use Rattle.arrow_types.specs.Slot.{Slot, Parts}
-use Rattle.arrow_flat.specs.Faults.{IsCarriedAs}
-use Rattle.arrow_flat.specs.Parts.{FitsRows}
-use Rattle.arrow_flat.specs.Pieces.{chunks}
-use Rattle.arrow_arrays.specs.declared.array.any.AnyArray.{AnyArray}
-use Rattle.arrow_arrays.specs.Any.{any_array_rows, any_array_type, layout_of}
-use Rattle.arrow_arrays.specs.FixedListParts.{FitsItems}
-use Rattle.arrow_arrays.specs.Layout.{Layout, across, column_length, fixed_items, items_row, list_items, rows, struct_items}
-use Rattle.arrow_arrays.specs.StructParts.{FitsColumns, HaveRows, row_count}
-use Rattle.arrow_arrays.specs.TypeParts.{item_type, list_size}
-use Rattle.arrow_arrays.proofs.FitNullLemmas.{some_items, whole_product}
-use Rattle.arrow_arrays.proofs.NullPartsLemmas.{count_children, rows_of_arrays}
-use Rattle.arrow_arrays.proofs.PartLemmas.{length-fixed_items}
-use Rattle.arrow_arrays.proofs.ShapeLemmas.{list_shape, shape_in, shape_of, struct_columns, struct_shape}
-use Rattle.arrow_arrays.proofs.StructLemmas.{length-across}
-use Rattle.arrow_growable.specs.declared.growable.grown_spans.GrowableSpans.{GrowableSpans}
-use Rattle.arrow_growable.specs.declared.growable.grown_spans.GrowableSpans.TheVariants.{FixedSize, Fields}
-use Rattle.arrow_growable.specs.Form.{Form, by_offsets, child_types, nested_rows}
-use Rattle.arrow_growable.specs.GrowableSpans.{IsFormOf, form_of, grown_arrays}
-use Rattle.arrow_growable.specs.Nested.{AreWhole}
 use Rattle.arrow_growable.proofs.ColumnLemmas.{list_child_types, struct_child_types}
 use Rattle.arrow_growable.proofs.ListLemmas.{rows_made}
 

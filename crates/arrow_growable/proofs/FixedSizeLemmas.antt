@@ -1,23 +1,7 @@
 -- Rows of so many items each: behind one's own, and what they name of the child.
-use Rattle.std.proofs.Common.{arith, ◌≡◌, ◌+◌, ◌-◌, ◌*◌, ◌/◌, ◌≤◌, ℕ, zero, suc, Bool, true, false, List, [], ◌∷◌, ◌++◌, Option, length, map, replicate, take, drop, if◌then◌else◌, refl, ap, sym, ◌∙◌}
+use Rattle.arrow_growable.proofs.Common.{arith, ◌≡◌, ◌+◌, ◌-◌, ◌*◌, ◌/◌, ◌≤◌, ℕ, zero, suc, Bool, true, false, List, [], ◌∷◌, ◌++◌, Option, length, map, replicate, take, drop, if◌then◌else◌, refl, ap, sym, ◌∙◌, length-map, length-replicate, map-append, take_all, take_at, drop-drop, drop_at, replicate-append-replicate, ArrowType, fixed_items_in, mask, masked, Slot, Null, null_slot, from_slots-to_slots, sliced, map_sliced, length-sliced, bits_of_slice, chunks-sliced, length-chunks, chunks, fixed_items, items_row, length-fixed_items, mask-append, mask-part, mask-unset, chunks-append, spread}
 use Rattle.std.specs.List.{flat_map}
-use Rattle.std.proofs.lemmas.List.{length-append, length-map, length-replicate, map-append, take_all, take_at, drop-drop, drop_at, replicate-append-replicate}
-use Rattle.arrow_types.specs.ArrowType.{ArrowType}
-use Rattle.arrow_types.specs.Fits.{fixed_items_in}
-use Rattle.arrow_types.specs.Rows.{mask, masked}
-use Rattle.arrow_types.specs.Slot.{Slot, Null, null_slot}
-use Rattle.arrow_types.proofs.SlotLemmas.{from_slots-to_slots}
-use Rattle.arrow_memory.specs.Sliced.{sliced}
-use Rattle.arrow_memory.proofs.OffsetLemmas.{map_sliced}
-use Rattle.arrow_memory.proofs.SlicedLemmas.{length-sliced}
-use Rattle.arrow_flat.specs.Parts.{bits_of_slice}
-use Rattle.arrow_flat.specs.PieceLaws.{chunks-sliced, length-chunks}
-use Rattle.arrow_flat.specs.Pieces.{chunks}
-use Rattle.arrow_arrays.specs.Layout.{fixed_items, items_row}
-use Rattle.arrow_arrays.proofs.PartLemmas.{length-fixed_items}
-use Rattle.arrow_flat_growable.specs.MaskLaws.{mask-append, mask-part, mask-unset}
-use Rattle.arrow_flat_growable.proofs.FixedRowsLemmas.{chunks-append}
-use Rattle.arrow_growable.specs.Child.{spread}
+use Rattle.std.proofs.lemmas.List.{length-append}
 
 -- rows of s items each, in the rows of a child, and s null slots where a row is null
 module _ (s : ℕ) (none : Slot) (xs : List Slot) where

@@ -1,17 +1,5 @@
 -- A growable over arrays that are bound to it, call by call.
-use Rattle.std.proofs.Common.{arith, ◌≡◌, ◌+◌, ℕ, ◌<◌, List, [], ◌++◌, length, map, replicate, false, Result, Ok, Err, Some, ap, sym, subst, ◌∙◌, length-append, inl, inr}
-use Rattle.std.specs.Prelude.{OnOk}
-use Rattle.std.proofs.lemmas.List.{append-nil, take_all}
-use Rattle.arrow_types.specs.declared.error.Error.{Error}
-use Rattle.arrow_types.specs.Fits.{Fits}
-use Rattle.arrow_types.specs.Rows.{joined}
-use Rattle.arrow_types.specs.Slot.{Slot, null_slot}
-use Rattle.arrow_types.proofs.FitsLemmas.{Fits-beginning, Fits-nil}
-use Rattle.arrow_memory.specs.Sliced.{sliced}
-use Rattle.arrow_arrays.specs.Layout.{Layout, rows}
-use Rattle.arrow_flat_growable.specs.Grown.{Grown, AreCrowded, CannotHold, FitsItself, FitsWith, appended, bound_to, first_type, named_rows, null_rows_of, source_at}
-use Rattle.arrow_growable.specs.Growing.{HasAppended}
-use Rattle.arrow_growable.specs.Join.{CannotAppendAll}
+use Rattle.arrow_growable.proofs.Common.{arith, ◌≡◌, ◌+◌, ℕ, ◌<◌, List, [], ◌++◌, length, map, replicate, false, Result, Ok, Err, Some, ap, sym, subst, ◌∙◌, length-append, inl, inr, OnOk, append-nil, take_all, Error, Fits, joined, Slot, null_slot, Fits-beginning, Fits-nil, sliced, Layout, rows, Grown, AreCrowded, CannotHold, FitsItself, FitsWith, appended, bound_to, first_type, named_rows, null_rows_of, source_at, HasAppended, CannotAppendAll}
 use Rattle.arrow_growable.proofs.UnjoinedLemmas.{crowded_among}
 
 -- no rows at first

@@ -1,37 +1,9 @@
 -- Rows behind those of a growable of arrays with children, by how its rows lie in these.
-use Rattle.std.proofs.Common.{arith, ◌≡◌, ◌+◌, ◌*◌, ◌<◌, ◌≤◌, ◌^◌, ℕ, zero, suc, Bool, false, List, [], ◌∷◌, ◌++◌, Option, length, map, flat_map, replicate, get_or, slice_index, refl, ap, sym, subst, ◌∙◌}
-use Rattle.std.proofs.Math.Nat.{mul-le-mul_left, mul-le-mul_right}
+use Rattle.arrow_growable.proofs.Common.{arith, ◌≡◌, ◌+◌, ◌*◌, ◌<◌, ◌≤◌, ◌^◌, ℕ, zero, suc, Bool, false, List, [], ◌∷◌, ◌++◌, Option, length, map, flat_map, replicate, get_or, slice_index, refl, ap, sym, subst, ◌∙◌, mul-le-mul_left, mul-le-mul_right, All-map, append-nil, length-map, length-replicate, PhysicalType, ArrowType, plain, null, Fits, fixed_items_in, physical_type_of, mask, Slot, Null, Parts, null_slot, Fits-nil, length-mask, null_slot-no_union, last_of, with_valid_rows, sliced, bits_of_slice, length-chunks, chunks, Layout, Layouts, across, fielded, fixed, from_layouts, items_row, listed, rows, type_of_layout, ListParts, list_size, list_shape, shape_in, shape_of, fits_count, Grown, FitsItself, FitsWith, appended, empty_over, null_rows_of, valid_values, GrownBy, IsWell, bound_rows, grown_by, grown_by_nulls, spread, Form, by_fields, by_offsets, by_size, child_type, child_types, column_in, first_column, items_by, nested_rows, null_slots_by, IsFormOf, IsSoundForm, PassesGreatest, emptied, form_with, form_with_nulls, HoldsLists, IsListType, lists_rows, HoldsEven, HoldsNested, rows_of_all, IsOfForm, IsWhole, children_in, no_child, nth_child, nulls_in, place_in, validity_in}
 use Rattle.std.specs.List.{All}
-use Rattle.std.proofs.lemmas.List.Elements.{All-map}
-use Rattle.std.proofs.lemmas.List.{append-nil, length-append, length-map, length-replicate}
-use Rattle.arrow_types.specs.declared.datatypes.physical_type.PhysicalType.{PhysicalType}
+use Rattle.std.proofs.lemmas.List.{length-append}
 use Rattle.arrow_types.specs.declared.datatypes.physical_type.PhysicalType.TheVariants as physical
-use Rattle.arrow_types.specs.ArrowType.{ArrowType, plain, null}
-use Rattle.arrow_types.specs.Fits.{Fits, fixed_items_in}
-use Rattle.arrow_types.specs.Physical.{physical_type_of}
-use Rattle.arrow_types.specs.Rows.{mask}
-use Rattle.arrow_types.specs.Slot.{Slot, Null, Parts, null_slot}
-use Rattle.arrow_types.proofs.FitsLemmas.{Fits-nil}
-use Rattle.arrow_types.proofs.RowsLemmas.{length-mask}
-use Rattle.arrow_types.proofs.SlotLemmas.{null_slot-no_union}
-use Rattle.arrow_memory.specs.Offsets.{last_of, with_valid_rows}
-use Rattle.arrow_memory.specs.Sliced.{sliced}
-use Rattle.arrow_flat.specs.Parts.{bits_of_slice}
-use Rattle.arrow_flat.specs.PieceLaws.{length-chunks}
-use Rattle.arrow_flat.specs.Pieces.{chunks}
-use Rattle.arrow_arrays.specs.Layout.{Layout, Layouts, across, fielded, fixed, from_layouts, items_row, listed, rows, type_of_layout}
-use Rattle.arrow_arrays.specs.ListParts.{ListParts}
-use Rattle.arrow_arrays.specs.TypeParts.{list_size}
-use Rattle.arrow_arrays.proofs.ShapeLemmas.{list_shape, shape_in, shape_of}
-use Rattle.arrow_flat_growable.specs.FlatLaws.{fits_count}
-use Rattle.arrow_flat_growable.specs.Grown.{Grown, FitsItself, FitsWith, appended, empty_over, null_rows_of}
-use Rattle.arrow_flat_growable.specs.GrownRows.{valid_values}
-use Rattle.arrow_growable.specs.Child.{GrownBy, IsWell, bound_rows, grown_by, grown_by_nulls, spread}
-use Rattle.arrow_growable.specs.Form.{Form, by_fields, by_offsets, by_size, child_type, child_types, column_in, first_column, items_by, nested_rows, null_slots_by}
-use Rattle.arrow_growable.specs.GrowableSpans.{IsFormOf, IsSoundForm, PassesGreatest, emptied, form_with, form_with_nulls}
-use Rattle.arrow_growable.specs.Lists.{HoldsLists, IsListType, lists_rows}
-use Rattle.arrow_growable.specs.Nested.{HoldsEven, HoldsNested, rows_of_all}
-use Rattle.arrow_growable.specs.Source.{IsOfForm, IsWhole, children_in, no_child, nth_child, nulls_in, offsets_in, place_in, validity_in}
+use Rattle.arrow_growable.specs.Source.{offsets_in}
 use Rattle.arrow_growable.proofs.ChildLemmas.{appended_none}
 use Rattle.arrow_growable.proofs.ColumnLemmas.{column-nil, field_column, fits_fields, fits_sized, list_child_types, size_fits, sized_column}
 use Rattle.arrow_growable.proofs.EvenLemmas.{column_of, fields_behind, fields_named, no_grown, owns_long, sized_behind, sized_named}

@@ -1,14 +1,5 @@
 -- All rows of several arrays, one array behind the other.
-use Rattle.std.proofs.Common.{arith, ◌≡◌, ℕ, zero, suc, ◌+◌, ◌<◌, List, [], ◌∷◌, ◌++◌, Some, length, get_or, map, take, drop, refl, ap, sym, ◌∙◌, append_assoc}
-use Rattle.std.specs.Prelude.{slice_get, option_map}
-use Rattle.std.proofs.lemmas.List.{append-nil, take-append-drop}
-use Rattle.std.proofs.lemmas.Option.{slice_get_read, slice_get-map}
-use Rattle.arrow_types.specs.Rows.{joined}
-use Rattle.arrow_types.specs.Slot.{Slot}
-use Rattle.arrow_types.proofs.RowsLemmas.{drop_at_read, take_at_read}
-use Rattle.arrow_types.proofs.SelectLemmas.{joined-append}
-use Rattle.arrow_arrays.specs.Layout.{Layout, rows}
-use Rattle.arrow_flat_growable.specs.Grown.{source_at}
+use Rattle.arrow_growable.proofs.Common.{arith, ◌≡◌, ℕ, zero, suc, ◌+◌, ◌<◌, List, [], ◌∷◌, ◌++◌, Some, length, get_or, map, take, drop, refl, ap, sym, ◌∙◌, append_assoc, slice_get, option_map, append-nil, take-append-drop, slice_get_read, slice_get-map, joined, Slot, drop_at_read, take_at_read, joined-append, Layout, rows, source_at}
 
 pub slice_get-map_read : {A B : Type 0} (f : A → B) (xs : List A) (i : ℕ) (x : A) → i < length xs → x ≡ get_or xs i x → slice_get (map f xs) i ≡ Some (f x)
 slice_get-map_read f xs i x within read =

@@ -1,15 +1,6 @@
 -- Which arrays a physical type has: kinds, shapes, and those without children.
-use Rattle.std.proofs.Common.{◌≡◌, refl, sym, subst}
-use Rattle.arrow_types.specs.declared.datatypes.physical_type.PhysicalType.{PhysicalType}
+use Rattle.arrow_growable.proofs.Common.{◌≡◌, refl, sym, subst, PhysicalType, IntegerType, PlainType, null, plain_physical_type, Kind, dictionary_kind, fixed_size_list_kind, kind_in, list_kind, map_kind, struct_kind, dictionary_shape, list_shape, shape_of, IsFlatType, IsListType, IsNestedType}
 use Rattle.arrow_types.specs.declared.datatypes.physical_type.PhysicalType.TheVariants as physical
-use Rattle.arrow_types.specs.declared.datatypes.IntegerType.{IntegerType}
-use Rattle.arrow_types.specs.ArrowType.{PlainType, null}
-use Rattle.arrow_types.specs.Physical.{plain_physical_type}
-use Rattle.arrow_arrays.specs.Any.{Kind, dictionary_kind, fixed_size_list_kind, kind_in, list_kind, map_kind, struct_kind}
-use Rattle.arrow_arrays.proofs.ShapeLemmas.{dictionary_shape, list_shape, shape_of}
-use Rattle.arrow_arrays.specs.TypeParts.{IsFlatType}
-use Rattle.arrow_growable.specs.Lists.{IsListType}
-use Rattle.arrow_growable.specs.Nested.{IsNestedType}
 
 -- a type without children is none of lists
 pub no_plain : (p : PlainType) → IsListType (plain_physical_type p) → ⊥

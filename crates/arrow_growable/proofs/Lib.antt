@@ -1,3 +1,4 @@
+pub mod Common
 pub mod ChildLemmas
 pub mod ColumnLemmas
 pub mod CountLemmas

@@ -1,37 +1,8 @@
 -- A growable of lists: its rows, what fits, and why it refuses.
-use Rattle.std.proofs.Common.{arith, ◌≡◌, ◌+◌, ◌-◌, ◌<◌, ◌≤◌, ◌^◌, ℕ, zero, suc, pos, Bool, true, false, List, [], ◌∷◌, ◌++◌, Option, length, map, replicate, take, drop, slice_index, refl, ap, sym, subst, ◌∙◌}
-use Rattle.std.proofs.lemmas.Int.{ints}
-use Rattle.std.proofs.lemmas.List.{length-append, length-map, length-replicate, map-append, take_all}
-use Rattle.std.proofs.lemmas.List.Sums.{sum_by-cons}
-use Rattle.arrow_types.specs.declared.datatypes.physical_type.PhysicalType.{PhysicalType}
-use Rattle.arrow_types.specs.ArrowType.{ArrowType, plain, list, struct, union, dictionary, extension, field, small, large, fixed_size, mapped}
-use Rattle.arrow_types.specs.Fits.{Fits, all_items}
-use Rattle.arrow_types.specs.Physical.{physical_type_of}
-use Rattle.arrow_types.specs.Rows.{joined, mask, masked}
-use Rattle.arrow_types.specs.Slot.{Slot, Null}
-use Rattle.arrow_types.proofs.FitsLemmas.{Fits-nil, all_items-append}
-use Rattle.arrow_types.proofs.RowsLemmas.{length-mask}
-use Rattle.arrow_types.proofs.SelectLemmas.{joined-append}
-use Rattle.arrow_types.proofs.SlotLemmas.{from_slots-to_slots}
-use Rattle.arrow_memory.specs.Offsets.{IsOffsets, RisesFrom, last_of, valid_ends, valid_items, with_valid_rows}
-use Rattle.arrow_memory.specs.Sliced.{sliced}
-use Rattle.arrow_memory.proofs.OffsetLemmas.{at_most_last, map_sliced}
-use Rattle.arrow_memory.proofs.SlicedLemmas.{length-sliced}
-use Rattle.arrow_memory.proofs.ValidLemmas.{valid_sound}
-use Rattle.arrow_flat.specs.Parts.{FitsRows, bits_of_slice}
-use Rattle.arrow_flat.specs.Pieces.{pieces, pieces_from}
-use Rattle.arrow_flat.proofs.PieceLemmas.{length-pieces}
-use Rattle.arrow_arrays.specs.Layout.{Layout, items_row, list_items, rows}
-use Rattle.arrow_arrays.specs.ListParts.{ListParts, list_rows}
-use Rattle.arrow_arrays.specs.TypeParts.{item_type}
-use Rattle.arrow_flat_growable.specs.Grown.{Grown, empty_over}
-use Rattle.arrow_flat_growable.specs.GrownRows.{AreGrown, filled, total, valid_values}
-use Rattle.arrow_flat_growable.specs.MaskLaws.{mask-append, mask-filled, mask-part, mask-unset, length-bits_of_slice, length-filled}
-use Rattle.arrow_flat_growable.proofs.GrownRowLemmas.{empty_grown, empty_rows, last_behind, sliced-cut, total_pieces}
-use Rattle.arrow_flat_growable.proofs.ValidRowLemmas.{valid_grown, valid_last, valid_moved}
+use Rattle.arrow_growable.proofs.Common.{arith, ◌≡◌, ◌+◌, ◌-◌, ◌<◌, ◌≤◌, ◌^◌, ℕ, zero, suc, pos, Bool, true, false, List, [], ◌∷◌, ◌++◌, Option, length, map, replicate, take, drop, slice_index, refl, ap, sym, subst, ◌∙◌, ints, length-map, length-replicate, map-append, take_all, sum_by-cons, PhysicalType, ArrowType, plain, list, struct, union, dictionary, extension, field, small, large, fixed_size, mapped, Fits, all_items, physical_type_of, joined, mask, masked, Slot, Null, Fits-nil, all_items-append, length-mask, joined-append, from_slots-to_slots, IsOffsets, RisesFrom, last_of, valid_ends, valid_items, with_valid_rows, sliced, at_most_last, map_sliced, length-sliced, valid_sound, FitsRows, bits_of_slice, pieces, pieces_from, length-pieces, Layout, items_row, list_items, rows, ListParts, list_rows, item_type, Grown, empty_over, AreGrown, filled, total, valid_values, mask-append, mask-filled, mask-part, mask-unset, length-bits_of_slice, length-filled, empty_grown, empty_rows, last_behind, total_pieces, valid_grown, valid_last, valid_moved, GrownBy, AnyItems, FitsLists, HoldsLists, IsListType, SparesItems, greatest_in, lists_rows}
+use Rattle.std.proofs.lemmas.List.{length-append}
+use Rattle.arrow_flat_growable.proofs.GrownRowLemmas.{sliced-cut}
 use Rattle.arrow_growable.proofs.KindLemmas.{no_plain}
-use Rattle.arrow_growable.specs.Child.{GrownBy}
-use Rattle.arrow_growable.specs.Lists.{AnyItems, FitsLists, HoldsLists, IsListType, SparesItems, greatest_in, lists_rows}
 
 -- all items of lists
 

@@ -1,18 +1,7 @@
 -- Children that a loop lends one by one: what each is then, and that all are bound as before.
-use Rattle.std.proofs.Common.{arith, ◌≡◌, ◌+◌, ◌<◌, ◌≤◌, ◌⊎◌, inl, inr, ℕ, zero, suc, List, [], ◌∷◌, ◌++◌, length, map, take, get_or, refl, ap, sym, subst, ◌∙◌}
-use lib.ListN.{set}
-use Rattle.std.proofs.Math.Nat.{eq-or-lt_of_le}
-use Rattle.std.proofs.lemmas.List.{get_or-map, get_or-set_same, get_or-set_other, get_or_default, length-map, length-set, map-append}
-use Rattle.std.proofs.Math.Seq.{take-suc}
-use Rattle.arrow_arrays.specs.declared.array.any.AnyArray.{AnyArray}
-use Rattle.arrow_arrays.specs.TypeDepth.{deepest, type_depth}
-use Rattle.arrow_arrays.proofs.SliceLemmas.{ChangedUpTo}
-use Rattle.arrow_flat_growable.specs.Grown.{Grown}
-use Rattle.arrow_growable.specs.AnyGrowable.{grown_of}
-use Rattle.arrow_growable.specs.Child.{AreBoundAs, SameBound}
+use Rattle.arrow_growable.proofs.Common.{arith, ◌≡◌, ◌+◌, ◌<◌, ◌≤◌, ◌⊎◌, inl, inr, ℕ, zero, suc, List, [], ◌∷◌, ◌++◌, length, map, take, get_or, refl, ap, sym, subst, ◌∙◌, set, eq-or-lt_of_le, get_or-map, get_or-set_same, get_or-set_other, get_or_default, length-map, length-set, map-append, take-suc, AnyArray, deepest, type_depth, ChangedUpTo, Grown, grown_of, AreBoundAs, SameBound, AnyGrowable}
 use Rattle.arrow_growable.proofs.ChildLemmas.{before_or}
 use Rattle.arrow_growable.proofs.EvenLemmas.{no_grown}
-use Rattle.arrow_growable.specs.declared.growable.any.AnyGrowable.{AnyGrowable}
 
 -- each is less deep than the deepest
 pub deepest_at : (xs : List AnyGrowable) (k : ℕ) (d : AnyGrowable) → k < length xs → suc (type_depth ((grown_of (get_or xs k d)).arrow_type)) ≤ deepest (map (λ g. g.arrow_type) (map grown_of xs))

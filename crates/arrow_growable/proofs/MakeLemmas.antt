@@ -1,18 +1,6 @@
 -- Arrays of any type that are bound as arrays of one kind, and growables without rows over the children of those.
-use Rattle.std.proofs.Common.{arith, ◌≡◌, ◌+◌, ◌≤◌, ◌<◌, ℕ, suc, List, [], ◌∷◌, ◌++◌, length, map, take, get_or, refl, ap, sym, subst, ◌∙◌}
-use Rattle.std.proofs.Math.Seq.{take-suc}
-use Rattle.std.proofs.lemmas.List.{take_all, length-map, map-append}
-use Rattle.arrow_types.specs.ArrowType.{ArrowType, plain, null}
-use Rattle.arrow_arrays.specs.Layout.{Layout, flat, type_of_layout}
-use Rattle.arrow_flat_growable.specs.Grown.{Grown, AreOfOneType, bound_to, first_type}
-use Rattle.arrow_flat_growable.proofs.FlatLemmas.{source_is}
-use Rattle.std.specs.List.{All, range_with_len}
-use Rattle.std.proofs.lemmas.List.FromFn.{map-range_with_len_more}
-use Rattle.arrow_growable.specs.AnyGrowable.{grown_of}
-use Rattle.arrow_growable.specs.Form.{child_type, child_types}
-use Rattle.arrow_growable.specs.Nested.{fresh_children}
-use Rattle.arrow_growable.specs.Source.{nth_child}
-use Rattle.arrow_growable.specs.declared.growable.any.AnyGrowable.{AnyGrowable}
+use Rattle.arrow_growable.proofs.Common.{arith, ◌≡◌, ◌+◌, ◌≤◌, ◌<◌, ℕ, suc, List, [], ◌∷◌, ◌++◌, length, map, take, get_or, refl, ap, sym, subst, ◌∙◌, take-suc, take_all, length-map, map-append, ArrowType, plain, null, Layout, flat, type_of_layout, Grown, AreOfOneType, bound_to, first_type, source_is, range_with_len, map-range_with_len_more, grown_of, child_type, child_types, fresh_children, nth_child, AnyGrowable}
+use Rattle.std.specs.List.{All}
 
 abbrev none_bound : Layout
 none_bound = flat (plain null) []

@@ -1,37 +1,9 @@
 -- Arrays with children that are bound: where their rows lie, what they say of their parts, and that those of one kind lie alike.
-use Rattle.std.proofs.Common.{arith, ◌≡◌, ◌+◌, ◌*◌, ◌-◌, ◌/◌, ◌<◌, ◌≤◌, ℕ, List, [], ◌∷◌, length, map, get_or, slice_index, refl, ap, sym, subst, ◌∙◌, Bor, Result, Ok, Err, IfOk}
+use Rattle.arrow_growable.proofs.Common.{arith, ◌≡◌, ◌+◌, ◌*◌, ◌-◌, ◌/◌, ◌<◌, ◌≤◌, ℕ, List, [], ◌∷◌, length, map, get_or, slice_index, refl, ap, sym, subst, ◌∙◌, Bor, Result, Ok, Err, IfOk, mul-div_cancel, get_or-map, length-map, All-map, Error, ArrowType, plain, null, physical_type_of, IsOffsets, last_of, FitsRows, layout_of, FixedListParts, fixed_list_layout, fixed_list_rows, Layout, listed, fixed, from_layouts, to_layouts, rows, type_of_layout, ListParts, list_layout, list_rows, StructParts, HaveRows, row_count, struct_layout, struct_rows, field_types, item_type, list_size, AnyArray, list_shape, shape_in, shape_of, first_type, source_at, source_is, bound_layouts, Form, by_offsets, by_size, by_fields, child_type, child_types, null_slots_by, IsFormOf, IsFresh, emptied, form_of, grown_arrays, Lies, IsOfForm, IsSource, IsWhole, children_in, nth_child, no_child, nulls_in, span_arrays, span_form, BoundNested, Lists, FixedSizeLists, Maps, Structs, GrowableSpans, Spans, Small, Large, Map}
 use Rattle.std.specs.List.{All}
-use Rattle.std.proofs.Math.Nat.{mul-div_cancel}
-use Rattle.std.proofs.lemmas.List.{get_or-map, length-map}
-use Rattle.std.proofs.lemmas.List.Elements.{All-map}
 use Rattle.arrow_types.specs.declared.datatypes.physical_type.PhysicalType.TheVariants as physical
-use Rattle.arrow_types.specs.declared.error.Error.{Error}
-use Rattle.arrow_types.specs.ArrowType.{ArrowType, plain, null}
-use Rattle.arrow_types.specs.Physical.{physical_type_of}
-use Rattle.arrow_memory.specs.Offsets.{IsOffsets, last_of}
-use Rattle.arrow_flat.specs.Parts.{FitsRows}
-use Rattle.arrow_arrays.specs.Any.{layout_of}
-use Rattle.arrow_arrays.specs.FixedListParts.{FixedListParts, fixed_list_layout, fixed_list_rows}
-use Rattle.arrow_arrays.specs.Layout.{Layout, listed, fixed, from_layouts, to_layouts, rows, type_of_layout}
-use Rattle.arrow_arrays.specs.ListParts.{ListParts, list_layout, list_rows}
-use Rattle.arrow_arrays.specs.StructParts.{StructParts, HaveRows, row_count, struct_layout, struct_rows}
-use Rattle.arrow_arrays.specs.TypeParts.{field_types, item_type, list_size}
-use Rattle.arrow_arrays.specs.declared.array.any.AnyArray.{AnyArray}
-use Rattle.arrow_arrays.proofs.ShapeLemmas.{list_shape, shape_in, shape_of}
-use Rattle.arrow_flat_growable.specs.Grown.{first_type, source_at}
-use Rattle.arrow_flat_growable.proofs.FlatLemmas.{source_is}
 use Rattle.arrow_growable.proofs.ColumnLemmas.{list_child_types, struct_child_types}
-use Rattle.arrow_growable.specs.Bound.{bound_layouts}
-use Rattle.arrow_growable.specs.Form.{Form, by_offsets, by_size, by_fields, child_type, child_types, null_slots_by}
-use Rattle.arrow_growable.specs.GrowableSpans.{IsFormOf, IsFresh, emptied, form_of, grown_arrays}
-use Rattle.arrow_growable.specs.Lies.{Lies}
-use Rattle.arrow_growable.specs.Source.{IsOfForm, IsSource, IsWhole, children_in, nth_child, no_child, nulls_in}
-use Rattle.arrow_growable.specs.Spans.{span_arrays, span_form}
-use Rattle.arrow_growable.specs.declared.growable.bound.BoundNested.{BoundNested}
-use Rattle.arrow_growable.specs.declared.growable.bound.BoundNested.TheVariants.{Lists, FixedSizeLists, Maps, Structs}
-use Rattle.arrow_growable.specs.declared.growable.grown_spans.GrowableSpans.{GrowableSpans}
-use Rattle.arrow_growable.specs.declared.growable.spans.Spans.{Spans}
-use Rattle.arrow_growable.specs.declared.growable.spans.Spans.TheVariants.{Small, Large, Map, FixedSize, Fields}
+use Rattle.arrow_growable.specs.declared.growable.spans.Spans.TheVariants.{FixedSize, Fields}
 
 -- the one child of a list is of the type of its items
 pub list_types : (t u : ArrowType) → shape_in t ≡ list_shape → u ≡ item_type t → u ∷ [] ≡ child_types t

@@ -1,16 +1,7 @@
 -- What rows name of a child, a run at a time.
-use Rattle.std.proofs.Common.{arith, ◌≡◌, ◌+◌, ◌-◌, ◌*◌, ◌<◌, ◌≤◌, pos, ℕ, zero, suc, Bool, true, false, List, [], ◌∷◌, ◌++◌, length, replicate, slice_index, if◌then◌else◌, refl, ap, sym, subst, ◌∙◌}
-use Rattle.std.proofs.Math.Nat.{mul-le-mul_right}
-use Rattle.std.proofs.lemmas.List.{append_assoc, append-nil, length-append, length-map, length-replicate, replicate-append-replicate}
-use Rattle.arrow_types.specs.Slot.{Slot}
-use Rattle.arrow_memory.specs.Offsets.{IsOffsets, last_of}
-use Rattle.arrow_memory.specs.Sliced.{sliced}
-use Rattle.arrow_memory.proofs.OffsetLemmas.{offsets_rise}
-use Rattle.arrow_memory.proofs.SlicedLemmas.{length-sliced}
-use Rattle.arrow_flat_growable.specs.GrownRows.{valid_values}
+use Rattle.arrow_growable.proofs.Common.{arith, ◌≡◌, ◌+◌, ◌-◌, ◌*◌, ◌<◌, ◌≤◌, pos, ℕ, zero, suc, Bool, true, false, List, [], ◌∷◌, ◌++◌, length, replicate, slice_index, if◌then◌else◌, refl, ap, sym, subst, ◌∙◌, mul-le-mul_right, append-nil, length-map, length-replicate, replicate-append-replicate, Slot, IsOffsets, last_of, sliced, offsets_rise, length-sliced, valid_values, run_long, NoneBeneath, Rises, spread}
+use Rattle.std.proofs.lemmas.List.{append_assoc, length-append}
 use Rattle.arrow_flat_growable.proofs.GrownRowLemmas.{sliced-cut}
-use Rattle.arrow_flat_growable.proofs.ValidRowLemmas.{run_long}
-use Rattle.arrow_growable.specs.Child.{NoneBeneath, Rises, spread}
 
 module _ (w : ℕ) (none : Slot) (place : ℕ → ℕ) (xs : List Slot) where
   -- a run of rows that are null

@@ -1,33 +1,9 @@
 -- What a growable of arrays with children and the array that is named say together, and what it is after a call.
-use Rattle.std.proofs.Common.{arith, ◌≡◌, ◌+◌, ◌-◌, ◌*◌, ◌/◌, ◌<◌, ◌≤◌, ◌^◌, inl, inr, ℕ, zero, suc, Bool, true, false, List, [], ◌∷◌, ◌++◌, None, Some, length, map, replicate, get_or, refl, ap, sym, subst, ◌∙◌}
+use Rattle.arrow_growable.proofs.Common.{arith, ◌≡◌, ◌+◌, ◌-◌, ◌*◌, ◌/◌, ◌<◌, ◌≤◌, ◌^◌, inl, inr, ℕ, zero, suc, Bool, true, false, List, [], ◌∷◌, ◌++◌, None, Some, length, map, replicate, get_or, refl, ap, sym, subst, ◌∙◌, get_or-map, length-map, All-map, get_or-map-range_with_len, length-map-range_with_len, PhysicalType, ArrowType, IsCarried, Fits, physical_type_of, Slot, null_slot, sliced, length-sliced, IsCarriedAs, bits_of_slice, Layout, listed, rows, type_of_layout, Grown, AreOfOneType, AreThere, CannotHold, FitsItself, bound_to, empty_over, first_type, source_at, AreBoundAs, BindsRows, CrowdsIn, IsWell, LiesIn, NoneBeneath, Rises, SomeCannotGrow, bound_rows, emptied_of, grown_by, grown_by_nulls, spread, Form, by_fields, by_offsets, by_size, child_types, nested_rows, null_slots_by, IsFormOf, IsFresh, IsSoundForm, emptied, form_of, form_with, form_with_nulls, grown_arrays, Lies, HoldsLists, AreWhole, HoldsNested, IsGrownNested, fresh_children, rows_of_all, IsOfForm, children_in, nth_child, nulls_in, place_in, validity_in, AreSpans, span_count, span_nulls, span_place, GrowableSpans, FixedSize, Fields, Spans}
 use Rattle.std.specs.List.{All}
-use Rattle.std.proofs.lemmas.List.{get_or-map, length-map}
-use Rattle.std.proofs.lemmas.List.Elements.{All-map}
-use Rattle.std.proofs.lemmas.List.FromFn.{get_or-map-range_with_len, length-map-range_with_len}
-use Rattle.arrow_types.specs.declared.datatypes.physical_type.PhysicalType.{PhysicalType}
 use Rattle.arrow_types.specs.declared.datatypes.physical_type.PhysicalType.TheVariants as physical
-use Rattle.arrow_types.specs.ArrowType.{ArrowType}
-use Rattle.arrow_types.specs.Carried.{IsCarried}
-use Rattle.arrow_types.specs.Fits.{Fits}
-use Rattle.arrow_types.specs.Physical.{physical_type_of}
-use Rattle.arrow_types.specs.Slot.{Slot, null_slot}
-use Rattle.arrow_memory.specs.Sliced.{sliced}
-use Rattle.arrow_memory.proofs.SlicedLemmas.{length-sliced}
-use Rattle.arrow_flat.specs.Faults.{IsCarriedAs}
-use Rattle.arrow_flat.specs.Parts.{bits_of_slice}
-use Rattle.arrow_arrays.specs.Layout.{Layout, listed, rows, type_of_layout}
-use Rattle.arrow_flat_growable.specs.Grown.{Grown, AreOfOneType, AreThere, CannotHold, FitsItself, bound_to, empty_over, first_type, source_at}
-use Rattle.arrow_growable.specs.Child.{AreBoundAs, BindsRows, CrowdsIn, IsWell, LiesIn, NoneBeneath, Rises, SomeCannotGrow, bound_rows, emptied_of, grown_by, grown_by_nulls, spread}
-use Rattle.arrow_growable.specs.Form.{Form, by_fields, by_offsets, by_size, child_types, nested_rows, null_slots_by}
-use Rattle.arrow_growable.specs.GrowableSpans.{IsFormOf, IsFresh, IsSoundForm, emptied, form_of, form_with, form_with_nulls, grown_arrays}
-use Rattle.arrow_growable.specs.Lies.{Lies}
-use Rattle.arrow_growable.specs.Lists.{HoldsLists}
-use Rattle.arrow_growable.specs.Nested.{AreWhole, HoldsNested, IsGrownNested, fresh_children, rows_of_all}
-use Rattle.arrow_growable.specs.Source.{IsOfForm, children_in, nth_child, nulls_in, offsets_in, place_in, validity_in}
-use Rattle.arrow_growable.specs.Spans.{AreSpans, span_count, span_nulls, span_place}
-use Rattle.arrow_growable.specs.declared.growable.grown_spans.GrowableSpans.{GrowableSpans}
-use Rattle.arrow_growable.specs.declared.growable.grown_spans.GrowableSpans.TheVariants.{Small, Large, Map, FixedSize, Fields}
-use Rattle.arrow_growable.specs.declared.growable.spans.Spans.{Spans}
+use Rattle.arrow_growable.specs.Source.{offsets_in}
+use Rattle.arrow_growable.specs.declared.growable.grown_spans.GrowableSpans.TheVariants.{Small, Large, Map}
 use Rattle.arrow_growable.specs.declared.growable.spans.Spans.TheVariants as places
 use Rattle.arrow_growable.proofs.ChildLemmas.{rows_there}
 use Rattle.arrow_growable.proofs.CrowdLemmas.{crowded_named}

@@ -1,28 +1,6 @@
 -- Unions under construction and the arrays that are bound to them: rows that are named, a run at a time, and why they are refused.
-use Rattle.std.proofs.Common.{arith, ◌≡◌, ◌+◌, ◌-◌, ◌<◌, ◌≤◌, ◌^◌, ◌⊎◌, inl, inr, ℕ, zero, suc, ℤ, Option, Some, None, List, [], ◌∷◌, ◌++◌, length, map, replicate, take, get_or, refl, ap, sym, subst, ◌∙◌}
-use Rattle.std.specs.List.{take-map, zip}
-use Rattle.std.proofs.lemmas.Slice.Zip.{length-zip}
-use Rattle.std.proofs.lemmas.List.{append_assoc, append-nil, get_or-map, length-map, length-replicate}
-use Rattle.arrow_types.specs.declared.datatypes.UnionMode.{UnionMode}
-use Rattle.arrow_types.specs.declared.datatypes.UnionMode.TheVariants.{Dense, Sparse}
-use Rattle.arrow_types.specs.ArrowType.{ArrowType}
-use Rattle.arrow_types.specs.Fits.{Fits}
-use Rattle.arrow_types.specs.Slot.{Slot, Variant, id_at, null_slot}
-use Rattle.arrow_types.proofs.FitsLemmas.{Fits-beginning}
-use Rattle.arrow_memory.specs.Sliced.{sliced}
-use Rattle.arrow_memory.proofs.SlicedLemmas.{length-sliced, sliced-cut}
-use Rattle.arrow_arrays.specs.Crowded.{CrowdedRow, child_at}
-use Rattle.arrow_arrays.specs.Layout.{Layout, field_ids, rows, type_of_layout, variant_at}
-use Rattle.arrow_arrays.specs.TypeParts.{field_types, mode_in}
-use Rattle.arrow_arrays.specs.UnionParts.{SpansRows, UnionParts, child_rows_of, mode_by, rows_of_field, union_layout, union_rows}
-use Rattle.arrow_arrays.proofs.TypeLemmas.{union_has_field}
-use Rattle.arrow_flat_growable.specs.Grown.{Grown, AreCrowded, CannotHold, FitsWith, RefusedBy, named_rows, null_rows_of, rows_among, source_at}
-use Rattle.arrow_growable.specs.Child.{AreBoundAs, BindsRows, bound_rows, source_rows}
-use Rattle.arrow_growable.specs.Fields.{BindsFields}
-use Rattle.arrow_growable.specs.GrownUnion.{AreFew, GrowsVariants, HoldsVariants, IsBoundUnion, IsUnionOver, NullsRefused, RunRefused, absent, nth_grown, places_by, variant_rows}
-use Rattle.arrow_growable.specs.Nested.{rows_of_all}
-use Rattle.arrow_growable.specs.UnionRuns.{IsRun}
-use Rattle.arrow_growable.specs.Variants.{IsSparse, field_part, run_rows, variant_type}
+use Rattle.arrow_growable.proofs.Common.{arith, ◌≡◌, ◌+◌, ◌-◌, ◌<◌, ◌≤◌, ◌^◌, ◌⊎◌, inl, inr, ℕ, zero, suc, ℤ, Option, Some, None, List, [], ◌∷◌, ◌++◌, length, map, replicate, take, get_or, refl, ap, sym, subst, ◌∙◌, take-map, zip, length-zip, append-nil, get_or-map, length-map, length-replicate, UnionMode, Dense, Sparse, ArrowType, Fits, Slot, Variant, id_at, null_slot, Fits-beginning, sliced, length-sliced, sliced-cut, CrowdedRow, child_at, Layout, field_ids, rows, type_of_layout, variant_at, field_types, mode_in, SpansRows, UnionParts, child_rows_of, mode_by, rows_of_field, union_layout, union_rows, union_has_field, Grown, AreCrowded, CannotHold, FitsWith, RefusedBy, named_rows, null_rows_of, rows_among, source_at, AreBoundAs, BindsRows, bound_rows, source_rows, BindsFields, AreFew, GrowsVariants, HoldsVariants, IsBoundUnion, IsUnionOver, NullsRefused, RunRefused, absent, nth_grown, places_by, variant_rows, rows_of_all, IsRun, IsSparse, field_part, run_rows, variant_type}
+use Rattle.std.proofs.lemmas.List.{append_assoc}
 use Rattle.arrow_growable.proofs.UnionGrowLemmas.{as_many, chosen_refused, column_is, others_refused, places_refused, type_there}
 use Rattle.arrow_growable.proofs.UnionRunLemmas.{child_rows_are, none_there, run_crowded}
 use Rattle.arrow_growable.proofs.UnionTypeLemmas.{FitsPlaces, fits_variants, null_variant}

@@ -1,19 +1,7 @@
 -- The children of unions under construction: one that is changed, and what a call on it answers.
-use Rattle.std.proofs.Common.{arith, ◌≡◌, ◌+◌, ◌<◌, ℕ, zero, suc, List, [], ◌∷◌, None, length, map, get_or, refl, ap, sym, subst, ◌∙◌}
-use Rattle.std.specs.Prelude.{Result, Ok, Err, OnOk, OnErr}
-use lib.ListN.{set}
+use Rattle.arrow_growable.proofs.Common.{arith, ◌≡◌, ◌+◌, ◌<◌, ℕ, zero, suc, List, [], ◌∷◌, None, length, map, get_or, refl, ap, sym, subst, ◌∙◌, OnOk, OnErr, set, get_or-map, length-map, All-cons, Error, ArrowType, Slot, sliced, Grown, AreThere, CountsRows, FitsItself, HasFailed, NamesRows, appended, named_rows, null_rows_of, rows_among, grown_of, AreBoundAs, BindsRows, GrownBy, IsWell, SameBound, bound_rows, grown_by_nulls, source_rows, absent, nth_grown, with_rows, with_run, AnyGrowable}
+use Rattle.std.specs.Prelude.{Result, Ok, Err}
 use Rattle.std.specs.List.{All}
-use Rattle.std.proofs.lemmas.List.{get_or-map, length-map}
-use Rattle.std.proofs.lemmas.List.Elements.{All-cons}
-use Rattle.arrow_types.specs.declared.error.Error.{Error}
-use Rattle.arrow_types.specs.ArrowType.{ArrowType}
-use Rattle.arrow_types.specs.Slot.{Slot}
-use Rattle.arrow_memory.specs.Sliced.{sliced}
-use Rattle.arrow_flat_growable.specs.Grown.{Grown, AreThere, CountsRows, FitsItself, HasFailed, NamesRows, appended, named_rows, null_rows_of, rows_among}
-use Rattle.arrow_growable.specs.AnyGrowable.{grown_of}
-use Rattle.arrow_growable.specs.Child.{AreBoundAs, BindsRows, GrownBy, IsWell, SameBound, bound_rows, grown_by_nulls, source_rows}
-use Rattle.arrow_growable.specs.GrownUnion.{absent, nth_grown, with_rows, with_run}
-use Rattle.arrow_growable.specs.declared.growable.any.AnyGrowable.{AnyGrowable}
 
 -- what follows from two facts on success
 pub on_both : {T E P Q R : Type 0} (r : Result T E) → OnOk r P → OnOk r Q → (P → Q → R) → OnOk r R

@@ -1,38 +1,10 @@
 -- Rows of a sparse union behind others: what each child holds of them, field by field.
-use Rattle.std.proofs.Common.{arith, ◌≡◌, ◌+◌, ◌<◌, ◌≤◌, ℕ, zero, suc, ℤ, pos, Bool, true, false, Option, Some, None, List, [], ◌∷◌, ◌++◌, drop, length, map, replicate, get_or, inl, inr, if◌then◌else◌, refl, ap, sym, subst, ◌∙◌}
-use lib.ListN.{set}
-use Rattle.std.specs.List.{All, range_with_len, zip}
-use Rattle.std.specs.Ordering.{int_eq}
-use Rattle.std.proofs.lemmas.Bool.Decides.{Decides-int_eq}
-use Rattle.std.proofs.lemmas.List.{append_assoc, append-nil, get_or-map, get_or_default, length-append, length-map, same_lists}
-use Rattle.std.proofs.lemmas.List.Elements.{All-drop, All-take}
-use Rattle.std.proofs.lemmas.List.FromFn.{get_or-range_with_len, length-range_with_len}
-use Rattle.std.proofs.lemmas.Slice.Zip.{length-zip}
-use Rattle.std.specs.Prelude.{option_map}
-use Rattle.arrow_types.specs.declared.datatypes.UnionMode.{UnionMode}
-use Rattle.arrow_types.specs.declared.datatypes.UnionMode.TheVariants.{Sparse}
-use Rattle.arrow_types.specs.ArrowType.{ArrowType}
-use Rattle.arrow_types.specs.Fits.{Fits, sparse_part}
-use Rattle.arrow_types.specs.Rows.{mask}
-use Rattle.arrow_types.specs.Slot.{Slot, Null, Variant, id_at, null_slot}
-use Rattle.arrow_memory.specs.Gathered.{AnswersBits}
-use Rattle.arrow_memory.specs.Sliced.{sliced}
-use Rattle.arrow_memory.proofs.SlicedLemmas.{length-sliced, sliced-cut}
-use Rattle.arrow_arrays.specs.Layout.{column_of_id, field_ids, rows, type_of_layout, union_items, variant_at}
-use Rattle.arrow_arrays.specs.TypeParts.{field_types, mode_in}
-use Rattle.arrow_arrays.specs.UnionParts.{IsKnown, SpansRows, UnionParts, child_rows_by, child_rows_of, mode_by, rows_of_field, union_rows}
-use Rattle.arrow_flat_growable.specs.Grown.{Grown, appended}
-use Rattle.arrow_growable.specs.declared.growable.any.AnyGrowable.{AnyGrowable}
-use Rattle.arrow_growable.specs.AnyGrowable.{grown_of}
-use Rattle.arrow_growable.specs.Child.{GrownBy, SameBound, bound_rows}
-use Rattle.arrow_growable.specs.Fields.{BindsFields, GrownFields, SomeFieldRefused}
-use Rattle.arrow_growable.specs.GrownUnion.{GrowsVariants, HoldsVariants, IsUnionOver, nth_grown, variant_rows}
-use Rattle.arrow_growable.specs.Nested.{rows_of_all}
-use Rattle.arrow_growable.specs.Variants.{HoldsColumns, IsSparse, field_part, have_id, part_of_id, run_rows, variant_type}
+use Rattle.arrow_growable.proofs.Common.{arith, ◌≡◌, ◌+◌, ◌<◌, ◌≤◌, ℕ, zero, suc, ℤ, pos, Bool, true, false, Option, Some, None, List, [], ◌∷◌, ◌++◌, drop, length, map, replicate, get_or, inl, inr, if◌then◌else◌, refl, ap, sym, subst, ◌∙◌, set, range_with_len, zip, int_eq, Decides-int_eq, append-nil, get_or-map, get_or_default, length-map, same_lists, All-drop, All-take, get_or-range_with_len, length-range_with_len, length-zip, option_map, UnionMode, Sparse, ArrowType, Fits, sparse_part, mask, Slot, Null, Variant, id_at, null_slot, AnswersBits, sliced, length-sliced, sliced-cut, column_of_id, field_ids, rows, type_of_layout, union_items, variant_at, field_types, mode_in, IsKnown, SpansRows, UnionParts, child_rows_by, child_rows_of, mode_by, rows_of_field, union_rows, Grown, appended, AnyGrowable, grown_of, GrownBy, SameBound, bound_rows, BindsFields, GrownFields, SomeFieldRefused, GrowsVariants, HoldsVariants, IsUnionOver, nth_grown, variant_rows, rows_of_all, HoldsColumns, IsSparse, field_part, have_id, part_of_id, run_rows, variant_type, range-sliced, union_items-sliced}
+use Rattle.std.specs.List.{All}
+use Rattle.std.proofs.lemmas.List.{append_assoc, length-append}
 use Rattle.arrow_growable.proofs.UnionBoundLemmas.{part_of_child}
 use Rattle.arrow_growable.proofs.UnionChildLemmas.{grown_well, set_bound, set_rows, set_well}
 use Rattle.arrow_growable.proofs.UnionGrowLemmas.{as_many, column_is, columns_long, part_long, range-append, type_there, with_rows_here, with_rows_long, with_rows_there}
-use Rattle.arrow_arrays.proofs.PartLemmas.{range-sliced, union_items-sliced}
 use Rattle.arrow_growable.proofs.UnionRunLemmas.{none_there, one_is, rows_are}
 use Rattle.arrow_growable.proofs.UnionTypeLemmas.{before_or_same, ids_apart, variant_fits}
 use Rattle.arrow_growable.proofs.VariantColumns.{AreApart, holds_run, own_column, run_behind}

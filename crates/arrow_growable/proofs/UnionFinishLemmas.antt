@@ -1,29 +1,6 @@
 -- Unions without rows, and the array that is made of the parts of one.
-use Rattle.std.proofs.Common.{arith, ◌≡◌, ◌<◌, ℕ, ℤ, pos, false, Option, Some, None, List, [], length, map, get_or, refl, ap, sym, subst, ◌∙◌}
-use Rattle.std.specs.Prelude.{option_map}
-use Rattle.std.specs.List.{All, zip}
-use Rattle.std.proofs.lemmas.List.{get_or-map, length-map}
-use Rattle.std.proofs.lemmas.List.Elements.{All-nil}
-use Rattle.std.proofs.lemmas.Slice.Zip.{get_or-zip, length-zip}
-use Rattle.arrow_types.specs.declared.datatypes.UnionMode.{UnionMode}
-use Rattle.arrow_types.specs.declared.datatypes.UnionMode.TheVariants.{Dense, Sparse}
-use Rattle.arrow_types.specs.ArrowType.{ArrowType}
-use Rattle.arrow_types.specs.Fits.{Fits}
-use Rattle.arrow_types.specs.Slot.{Slot, id_at}
-use Rattle.arrow_types.proofs.FitsLemmas.{Fits-nil}
-use Rattle.arrow_arrays.specs.declared.array.any.AnyArray.{AnyArray}
-use Rattle.arrow_arrays.specs.Any.{any_array_rows, any_array_type, layout_of}
-use Rattle.arrow_arrays.specs.Layout.{Layout, column_of_id, field_ids, rows, union_items}
-use Rattle.arrow_arrays.specs.StructParts.{HaveRows}
-use Rattle.arrow_arrays.specs.TypeParts.{mode_in}
-use Rattle.arrow_arrays.specs.UnionParts.{FitsMode, FitsOffsets, HoldsUnion, IsInside, IsKnown, UnionParts, child_row_of, child_rows_of, mode_by, union_rows}
-use Rattle.arrow_arrays.proofs.NullPartsLemmas.{rows_of_arrays}
-use Rattle.arrow_arrays.proofs.TypeLemmas.{types_of_layouts}
-use Rattle.arrow_flat_growable.specs.Grown.{Grown}
-use Rattle.arrow_growable.specs.Child.{emptied_of}
-use Rattle.arrow_growable.specs.GrownUnion.{AreFew, HoldsVariants, IsUnionOver, absent, no_offsets, nth_grown, places_by, variant_rows}
-use Rattle.arrow_growable.specs.Nested.{rows_of_all}
-use Rattle.arrow_growable.specs.Variants.{part_of_id, variant_type}
+use Rattle.arrow_growable.proofs.Common.{arith, ◌≡◌, ◌<◌, ℕ, ℤ, pos, false, Option, Some, None, List, [], length, map, get_or, refl, ap, sym, subst, ◌∙◌, option_map, zip, get_or-map, length-map, All-nil, get_or-zip, length-zip, UnionMode, Dense, Sparse, ArrowType, Fits, Slot, id_at, Fits-nil, AnyArray, any_array_rows, any_array_type, layout_of, Layout, column_of_id, field_ids, rows, union_items, HaveRows, mode_in, FitsMode, FitsOffsets, HoldsUnion, IsInside, IsKnown, UnionParts, child_row_of, child_rows_of, mode_by, union_rows, rows_of_arrays, types_of_layouts, Grown, emptied_of, AreFew, HoldsVariants, IsUnionOver, absent, no_offsets, nth_grown, places_by, variant_rows, rows_of_all, part_of_id, variant_type}
+use Rattle.std.specs.List.{All}
 use Rattle.arrow_growable.proofs.UnionBoundLemmas.{length_held, part_of_child}
 use Rattle.arrow_growable.proofs.UnionGrowLemmas.{part_long}
 use Rattle.arrow_growable.proofs.UnionRunLemmas.{rows_are}

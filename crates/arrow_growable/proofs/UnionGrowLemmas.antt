@@ -1,22 +1,7 @@
 -- Unions under construction: what they hold behind a run of rows of one field, and why a run is refused.
-use Rattle.std.proofs.Common.{arith, ◌≡◌, ◌+◌, ◌<◌, ◌^◌, ◌⊎◌, inl, inr, ℕ, zero, suc, ℤ, pos, Option, Some, None, List, [], ◌∷◌, ◌++◌, length, map, replicate, get_or, refl, ap, sym, subst, ◌∙◌}
-use Rattle.std.specs.Prelude.{option_map}
-use Rattle.std.specs.List.{All, range_with_len, zip}
-use Rattle.std.proofs.lemmas.Slice.Zip.{length-zip}
-use Rattle.std.proofs.lemmas.List.{append-nil, get_or-map, length-append, length-map, length-replicate, map-append}
-use Rattle.arrow_types.specs.declared.datatypes.UnionMode.{UnionMode}
-use Rattle.arrow_types.specs.declared.datatypes.UnionMode.TheVariants.{Dense, Sparse}
-use Rattle.arrow_types.specs.ArrowType.{ArrowType, plain, null}
-use Rattle.arrow_types.specs.Fits.{Fits, sparse_part}
-use Rattle.arrow_types.specs.Slot.{Slot, id_at}
-use Rattle.arrow_arrays.specs.Layout.{field_ids, union_items, variant_at}
-use Rattle.arrow_arrays.specs.TypeParts.{field_types, mode_in}
-use Rattle.arrow_arrays.specs.UnionParts.{child_row_of, child_rows_of, mode_by}
-use Rattle.arrow_flat_growable.specs.Grown.{Grown, FitsWith, appended, null_rows_of}
-use Rattle.arrow_growable.specs.Child.{IsWell, grown_by_nulls}
-use Rattle.arrow_growable.specs.GrownUnion.{AreFew, GrowsVariants, HoldsVariants, IsUnionOver, OthersCannotHold, absent, nth_grown, placed_behind, places_by, variant_rows, with_others, with_rows, with_run}
-use Rattle.arrow_growable.specs.Nested.{rows_of_all}
-use Rattle.arrow_growable.specs.Variants.{HoldsColumns, field_part, part_of_id, run_rows, variant_type}
+use Rattle.arrow_growable.proofs.Common.{arith, ◌≡◌, ◌+◌, ◌<◌, ◌^◌, ◌⊎◌, inl, inr, ℕ, zero, suc, ℤ, pos, Option, Some, None, List, [], ◌∷◌, ◌++◌, length, map, replicate, get_or, refl, ap, sym, subst, ◌∙◌, option_map, range_with_len, zip, length-zip, append-nil, get_or-map, length-map, length-replicate, map-append, UnionMode, Dense, Sparse, ArrowType, plain, null, Fits, sparse_part, Slot, id_at, field_ids, union_items, variant_at, field_types, mode_in, child_row_of, child_rows_of, mode_by, Grown, FitsWith, appended, null_rows_of, IsWell, grown_by_nulls, AreFew, GrowsVariants, HoldsVariants, IsUnionOver, OthersCannotHold, absent, nth_grown, placed_behind, places_by, variant_rows, with_others, with_rows, with_run, rows_of_all, HoldsColumns, field_part, part_of_id, run_rows, variant_type}
+use Rattle.std.specs.List.{All}
+use Rattle.std.proofs.lemmas.List.{length-append}
 use Rattle.arrow_growable.proofs.UnionTypeLemmas.{FitsPlaces, before_or_same, ids_apart, variant_fits}
 use Rattle.arrow_growable.proofs.VariantColumns.{AreApart, holds_run, run_behind}
 use Rattle.arrow_growable.proofs.VariantLemmas.{naturals_back, others_part, part-append, part_other, part_same}

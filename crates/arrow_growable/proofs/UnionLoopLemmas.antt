@@ -1,18 +1,6 @@
 -- The loop over the runs of rows that are named: one run more, or why it is refused.
-use Rattle.std.proofs.Common.{arith, ◌≡◌, ◌+◌, ◌-◌, ◌<◌, ◌≤◌, ℕ, ℤ, Option, None, Some, List, ◌++◌, length, replicate, refl, ap, sym, subst, ◌∙◌}
+use Rattle.arrow_growable.proofs.Common.{arith, ◌≡◌, ◌+◌, ◌-◌, ◌<◌, ◌≤◌, ℕ, ℤ, Option, None, Some, List, ◌++◌, length, replicate, refl, ap, sym, subst, ◌∙◌, ArrowType, Slot, id_at, sliced, length-sliced, sliced-cut, Layout, field_ids, rows, type_of_layout, field_types, UnionParts, rows_of_field, union_layout, union_layout_by, union_rows, Grown, source_at, BindsRows, IsWell, bound_rows, AreFew, GrowsVariants, IsBoundUnion, RowsRefused, RunRefused, nth_grown, placed_behind, source_type, with_run, IsRun, run_rows}
 use Rattle.std.specs.List.{All}
-use Rattle.arrow_types.specs.ArrowType.{ArrowType}
-use Rattle.arrow_types.specs.Slot.{Slot, id_at}
-use Rattle.arrow_memory.specs.Sliced.{sliced}
-use Rattle.arrow_memory.proofs.SlicedLemmas.{length-sliced, sliced-cut}
-use Rattle.arrow_arrays.specs.Layout.{Layout, field_ids, rows, type_of_layout}
-use Rattle.arrow_arrays.specs.TypeParts.{field_types}
-use Rattle.arrow_arrays.specs.UnionParts.{UnionParts, rows_of_field, union_layout, union_layout_by, union_rows}
-use Rattle.arrow_flat_growable.specs.Grown.{Grown, source_at}
-use Rattle.arrow_growable.specs.Child.{BindsRows, IsWell, bound_rows}
-use Rattle.arrow_growable.specs.GrownUnion.{AreFew, GrowsVariants, IsBoundUnion, RowsRefused, RunRefused, nth_grown, placed_behind, source_type, with_run}
-use Rattle.arrow_growable.specs.UnionRuns.{IsRun}
-use Rattle.arrow_growable.specs.Variants.{run_rows}
 use Rattle.arrow_growable.proofs.UnionBoundLemmas.{child_binds, child_rows, grows_twice, rows_cannot, run_cannot}
 use Rattle.arrow_growable.proofs.UnionGrowLemmas.{as_many, grows_run}
 use Rattle.arrow_growable.proofs.UnionRunLemmas.{run_is}

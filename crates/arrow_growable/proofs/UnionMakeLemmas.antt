@@ -1,26 +1,7 @@
 -- The children of arrays of unions that are bound, those of each field beside one another.
-use Rattle.std.proofs.Common.{arith, ◌≡◌, ◌+◌, ◌<◌, ◌≤◌, ◌⊎◌, inl, inr, ℕ, ℤ, zero, suc, false, Option, List, [], ◌∷◌, ◌++◌, length, map, take, get_or, refl, ap, sym, subst, ◌∙◌}
-use Rattle.std.specs.List.{All, range_with_len}
-use Rattle.std.proofs.lemmas.List.{get_or-map, length-map, map-append}
-use Rattle.std.proofs.Math.Nat.{eq-or-lt_of_le}
-use Rattle.std.proofs.Math.Seq.{take-suc}
-use Rattle.std.proofs.lemmas.List.FromFn.{get_or-map-range_with_len, length-map-range_with_len, map-range_with_len_more}
-use Rattle.arrow_types.specs.declared.datatypes.physical_type.PhysicalType.{PhysicalType}
+use Rattle.arrow_growable.proofs.Common.{arith, ◌≡◌, ◌+◌, ◌<◌, ◌≤◌, ◌⊎◌, inl, inr, ℕ, ℤ, zero, suc, false, Option, List, [], ◌∷◌, ◌++◌, length, map, take, get_or, refl, ap, sym, subst, ◌∙◌, range_with_len, get_or-map, length-map, map-append, eq-or-lt_of_le, take-suc, get_or-map-range_with_len, length-map-range_with_len, map-range_with_len_more, PhysicalType, ArrowType, plain, null, IsCarriedAs, AnyArray, kind_in, layout_of, union_kind, child_at, Layout, type_of_layout, deepest, type_depth, field_types, mode_in, UnionParts, child_rows_of, mode_by, union_layout, Grown, AreOfOneType, bound_to, first_type, grown_of, AnyGrowable, CanBind, HaveFieldTypes, IsBoundUnion, IsGrownUnion, absent, no_offsets, nth_grown, union_children, variant_rows, variant_type}
+use Rattle.std.specs.List.{All}
 use Rattle.arrow_types.specs.declared.datatypes.physical_type.PhysicalType.TheVariants as physical
-use Rattle.arrow_types.specs.ArrowType.{ArrowType, plain, null}
-use Rattle.arrow_flat.specs.Faults.{IsCarriedAs}
-use Rattle.arrow_arrays.specs.declared.array.any.AnyArray.{AnyArray}
-use Rattle.arrow_arrays.specs.Any.{kind_in, layout_of, union_kind}
-use Rattle.arrow_arrays.specs.Crowded.{child_at}
-use Rattle.arrow_arrays.specs.Layout.{Layout, type_of_layout}
-use Rattle.arrow_arrays.specs.TypeDepth.{deepest, type_depth}
-use Rattle.arrow_arrays.specs.TypeParts.{field_types, mode_in}
-use Rattle.arrow_arrays.specs.UnionParts.{UnionParts, child_rows_of, mode_by, union_layout}
-use Rattle.arrow_flat_growable.specs.Grown.{Grown, AreOfOneType, bound_to, first_type}
-use Rattle.arrow_growable.specs.AnyGrowable.{grown_of}
-use Rattle.arrow_growable.specs.declared.growable.any.AnyGrowable.{AnyGrowable}
-use Rattle.arrow_growable.specs.GrownUnion.{CanBind, HaveFieldTypes, IsBoundUnion, IsGrownUnion, absent, no_offsets, nth_grown, union_children, variant_rows}
-use Rattle.arrow_growable.specs.Variants.{variant_type}
 use Rattle.arrow_growable.proofs.MakeLemmas.{first_type_of, one_type_of}
 use Rattle.arrow_growable.proofs.UnionLoopLemmas.{union_type}
 use Rattle.arrow_growable.proofs.UnionFinishLemmas.{IsBare, bare_mode}

@@ -1,15 +1,7 @@
 -- The children of a sparse union that a run does not go to: those before the field's child and those behind it.
-use Rattle.std.proofs.Common.{arith, ◌≡◌, ◌+◌, ◌-◌, ◌<◌, ℕ, suc, List, [], ◌∷◌, ◌++◌, length, map, take, drop, get_or, refl, ap, sym, subst, ◌∙◌}
-use Rattle.std.specs.List.{All, drop-map, take-map}
-use Rattle.std.proofs.Math.Seq.{drop-cons, take-append-add}
-use Rattle.std.proofs.lemmas.List.{append-nil, append_assoc, drop_all, get_or-drop, get_or-map, get_or-take, length-append, length-drop, length-map, length-take, map-append, take-append-drop, take_all}
-use Rattle.std.proofs.lemmas.List.Elements.{All-append, All-cons, All-drop, All-take}
-use Rattle.std.proofs.lemmas.Slice.{drop-append-drop}
-use Rattle.arrow_flat_growable.specs.Grown.{Grown, FitsItself, FitsWith, null_rows_of}
-use Rattle.arrow_growable.specs.AnyGrowable.{grown_of}
-use Rattle.arrow_growable.specs.Child.{AreBoundAs, IsWell, SomeCannotHoldNulls, grown_by_nulls}
-use Rattle.arrow_growable.specs.GrownUnion.{OthersCannotHold, absent, nth_grown, with_others}
-use Rattle.arrow_growable.specs.declared.growable.any.AnyGrowable.{AnyGrowable}
+use Rattle.arrow_growable.proofs.Common.{arith, ◌≡◌, ◌+◌, ◌-◌, ◌<◌, ℕ, suc, List, [], ◌∷◌, ◌++◌, length, map, take, drop, get_or, refl, ap, sym, subst, ◌∙◌, drop-map, take-map, drop-cons, take-append-add, append-nil, drop_all, get_or-drop, get_or-map, get_or-take, length-drop, length-map, length-take, map-append, take-append-drop, take_all, All-append, All-cons, All-drop, All-take, drop-append-drop, Grown, FitsItself, FitsWith, null_rows_of, grown_of, AreBoundAs, IsWell, SomeCannotHoldNulls, grown_by_nulls, OthersCannotHold, absent, nth_grown, with_others, AnyGrowable}
+use Rattle.std.specs.List.{All}
+use Rattle.std.proofs.lemmas.List.{append_assoc, length-append}
 use Rattle.arrow_growable.proofs.UnionChildLemmas.{nulls_well}
 
 -- a child, where there is one

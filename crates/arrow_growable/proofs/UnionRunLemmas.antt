@@ -1,24 +1,7 @@
 -- Runs of rows of one field in an array of unions: the rows, and which of them are crowded.
-use Rattle.std.proofs.Common.{arith, ◌≡◌, ◌+◌, ◌-◌, ◌<◌, ◌≤◌, ◌≤ℤ◌, inl, inr, ℕ, zero, suc, ℤ, pos, Option, Some, None, List, [], ◌∷◌, ◌++◌, length, map, replicate, take, drop, get_or, refl, ap, sym, subst, ◌∙◌}
-use Rattle.std.specs.Prelude.{option_map, slice_get, slice_index}
-use Rattle.std.specs.List.{All, range_with_len}
-use Rattle.std.proofs.lemmas.List.{get_or-drop, get_or-map, get_or-replicate, get_or-take, length-map, length-take, replicate-append-replicate, take-append-drop}
-use Rattle.std.proofs.lemmas.List.Elements.{All-map}
-use Rattle.std.proofs.lemmas.Int.{ints}
-use Rattle.std.proofs.lemmas.List.FromFn.{get_or-range_with_len}
-use Rattle.std.proofs.lemmas.Option.{get_or_from_slice_get, slice_get-get_or}
-use Rattle.arrow_types.specs.ArrowType.{ArrowType, plain, null}
-use Rattle.arrow_types.specs.Slot.{Slot, id_at}
-use Rattle.arrow_memory.specs.Sliced.{sliced}
-use Rattle.arrow_memory.proofs.SlicedLemmas.{length-sliced, sliced-cut}
-use Rattle.arrow_arrays.specs.Crowded.{CrowdedRow, CrowdedVariant, child_at, nth_layout}
-use Rattle.arrow_arrays.specs.Layout.{Layout, column_of_id, flat, field_ids, rows, to_layouts, type_of_layout, union_items}
-use Rattle.arrow_arrays.specs.TypeParts.{field_types}
-use Rattle.arrow_arrays.specs.UnionParts.{FindsField, SpansRows, UnionParts, child_row_of, child_rows_by, rows_of_field, union_layout, union_layout_by, union_rows}
-use Rattle.arrow_arrays.proofs.PartLemmas.{range-sliced, union_items-sliced}
-use Rattle.arrow_arrays.proofs.StructLemmas.{columns_of-to_layouts}
-use Rattle.arrow_growable.specs.UnionRuns.{IsRun}
-use Rattle.arrow_growable.specs.Variants.{run_rows}
+use Rattle.arrow_growable.proofs.Common.{arith, ◌≡◌, ◌+◌, ◌-◌, ◌<◌, ◌≤◌, ◌≤ℤ◌, inl, inr, ℕ, zero, suc, ℤ, pos, Option, Some, None, List, [], ◌∷◌, ◌++◌, length, map, replicate, take, drop, get_or, refl, ap, sym, subst, ◌∙◌, option_map, slice_get, range_with_len, get_or-drop, get_or-map, get_or-replicate, get_or-take, length-map, length-take, replicate-append-replicate, take-append-drop, All-map, ints, get_or-range_with_len, get_or_from_slice_get, slice_get-get_or, ArrowType, plain, null, Slot, id_at, sliced, length-sliced, sliced-cut, CrowdedRow, CrowdedVariant, child_at, nth_layout, Layout, column_of_id, flat, field_ids, rows, to_layouts, type_of_layout, union_items, field_types, FindsField, SpansRows, UnionParts, child_row_of, child_rows_by, rows_of_field, union_layout, union_layout_by, union_rows, range-sliced, union_items-sliced, columns_of-to_layouts, IsRun, run_rows}
+use Rattle.std.specs.Prelude.{slice_index}
+use Rattle.std.specs.List.{All}
 use Rattle.arrow_growable.proofs.UnionTypeLemmas.{before_or_same}
 use Rattle.arrow_growable.proofs.VariantColumns.{AreApart, own_column}
 use Rattle.arrow_growable.proofs.VariantLemmas.{naturals_back, run_pairs}

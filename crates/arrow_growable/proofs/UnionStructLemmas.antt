@@ -1,16 +1,7 @@
 -- The parts of a union under construction after a call.
-use Rattle.std.proofs.Common.{arith, ◌≡◌, ◌+◌, ◌<◌, ◌^◌, ℕ, ℤ, Bool, true, false, Option, List, [], length, map, refl, ap, sym, subst, ◌∙◌}
+use Rattle.arrow_growable.proofs.Common.{arith, ◌≡◌, ◌+◌, ◌<◌, ◌^◌, ℕ, ℤ, Bool, true, false, Option, List, [], length, map, refl, ap, sym, subst, ◌∙◌, ArrowType, Fits, Slot, Layout, mode_in, child_rows_of, mode_by, Grown, emptied_of, GrowsVariants, HoldsVariants, IsBoundUnion, IsGrownUnion, IsUnionOver, no_offsets, variant_rows}
 use Rattle.std.specs.List.{All}
 use Rattle.std.proofs.lemmas.List.{length-append}
-use Rattle.arrow_types.specs.ArrowType.{ArrowType}
-use Rattle.arrow_types.specs.Fits.{Fits}
-use Rattle.arrow_types.specs.Slot.{Slot}
-use Rattle.arrow_arrays.specs.Layout.{Layout}
-use Rattle.arrow_arrays.specs.TypeParts.{mode_in}
-use Rattle.arrow_arrays.specs.UnionParts.{child_rows_of, mode_by}
-use Rattle.arrow_flat_growable.specs.Grown.{Grown}
-use Rattle.arrow_growable.specs.Child.{emptied_of}
-use Rattle.arrow_growable.specs.GrownUnion.{GrowsVariants, HoldsVariants, IsBoundUnion, IsGrownUnion, IsUnionOver, no_offsets, variant_rows}
 use Rattle.arrow_growable.proofs.StepLemmas.{bound_map}
 use Rattle.arrow_growable.proofs.UnionBoundLemmas.{bound_next, fits_held, length_held}
 use Rattle.arrow_growable.proofs.UnionFinishLemmas.{IsBare, bare_mode, emptied_bare, holds_none}

@@ -1,24 +1,6 @@
 -- What the type of a union says: ids that differ, null slots, and which rows fit by what each child holds of them.
-use Rattle.std.proofs.Common.{arith, ◌≡◌, ◌+◌, ◌<◌, ◌≤◌, ◌^◌, ◌⊎◌, inl, inr, ℕ, zero, suc, ℤ, pos, Option, Some, None, List, [], ◌∷◌, length, map, get_or, Vec, Global, refl, ap, sym, subst, ◌∙◌}
-use Rattle.std.specs.Prelude.{slice_index_or}
-use Rattle.std.proofs.lemmas.List.{length-map}
+use Rattle.arrow_growable.proofs.Common.{arith, ◌≡◌, ◌+◌, ◌<◌, ◌≤◌, ◌^◌, ◌⊎◌, inl, inr, ℕ, zero, suc, ℤ, pos, Option, Some, None, List, [], ◌∷◌, length, map, get_or, Vec, Global, refl, ap, sym, subst, ◌∙◌, slice_index_or, length-map, DataType, Union, Field, UnionMode, Dense, Sparse, ArrowType, ArrowFields, plain, list, struct, union, dictionary, extension, null, field, no_fields, more_fields, type_in, from_fields, AreTypeIds, IsCarried, IsTypeId, fields_of, ids_of, type_of, type_of-Union, Fits, FitsDense, FitsSparse, dense_part, sparse_part, physical_type_of, Slot, Variant, id_at, null_slot, IsCarriedAs, field_ids, field_types, mode_in, list_shaped, plain_shape, field_part, variant_type}
 use Rattle.arrow_types.specs.declared.datatypes.physical_type.PhysicalType.TheVariants as physical
-use Rattle.arrow_types.specs.declared.datatypes.DataType.{DataType, Union}
-use Rattle.arrow_types.specs.declared.datatypes.Field.{Field}
-use Rattle.arrow_types.specs.declared.datatypes.UnionMode.{UnionMode}
-use Rattle.arrow_types.specs.declared.datatypes.UnionMode.TheVariants.{Dense, Sparse}
-use Rattle.arrow_types.specs.ArrowType.{ArrowType, ArrowFields, plain, list, struct, union, dictionary, extension, null, field, no_fields, more_fields, type_in, from_fields}
-use Rattle.arrow_types.specs.Carried.{AreTypeIds, IsCarried, IsTypeId}
-use Rattle.arrow_types.specs.TypeOf.{fields_of, ids_of, type_of}
-use Rattle.arrow_types.proofs.TypeLemmas.{type_of-Union}
-use Rattle.arrow_types.specs.Fits.{Fits, FitsDense, FitsSparse, dense_part, sparse_part}
-use Rattle.arrow_types.specs.Physical.{physical_type_of}
-use Rattle.arrow_types.specs.Slot.{Slot, Variant, id_at, null_slot}
-use Rattle.arrow_flat.specs.Faults.{IsCarriedAs}
-use Rattle.arrow_arrays.specs.Layout.{field_ids}
-use Rattle.arrow_arrays.specs.TypeParts.{field_types, mode_in}
-use Rattle.arrow_arrays.proofs.ShapeLemmas.{list_shaped, plain_shape}
-use Rattle.arrow_growable.specs.Variants.{field_part, variant_type}
 use Rattle.arrow_growable.proofs.VariantColumns.{AreApart}
 
 -- ids differ from field to field

@@ -1,29 +1,6 @@
 -- Dictionaries of a child that can't be joined: neither can those of the arrays that hold it.
-use Rattle.std.proofs.Common.{arith, ◌≡◌, ◌+◌, ◌<◌, inl, inr, ℕ, ℤ, zero, suc, Option, Some, None, List, [], ◌∷◌, ◌++◌, Result, Ok, Err, length, map, take, get_or, ap, sym, subst, ◌∙◌, append_assoc}
-use Rattle.std.specs.Prelude.{IsErrAnd, IsOkUnless, slice_index_or}
-use Rattle.arrow_types.specs.declared.error.Error.{Error}
-use Rattle.arrow_types.specs.declared.error.Error.TheVariants.{OutOfMemory}
+use Rattle.arrow_growable.proofs.Common.{arith, ◌≡◌, ◌+◌, ◌<◌, inl, inr, ℕ, ℤ, zero, suc, Option, Some, None, List, [], ◌∷◌, ◌++◌, Result, Ok, Err, length, map, take, get_or, ap, sym, subst, ◌∙◌, append_assoc, IsErrAnd, IsOkUnless, slice_index_or, Error, OutOfMemory, append-nil, length-map, All-cons, ArrowType, IsCarried, Fits, physical_type_of, joined, values_in, dictionary_kind, kind_in, type_depth, dictionary_child, CrowdedAmong, CrowdedRow, Unjoined, UnjoinedBy, UnjoinedPart, child_at, child_of, nth_layout, KeyedParts, keyed_layout, UnionParts, union_layout, union_layout_by, Layout, Layouts, listed, fixed, fielded, no_layouts, more_layouts, from_layouts, to_layouts, rows, type_of_layout, AreOfOneType, first_type, source_at, first_is, Form, by_offsets, by_size, by_fields, CannotAppendAll, CannotJoin, IsOfForm, no_child, nth_child}
 use Rattle.std.specs.List.{All}
-use Rattle.std.proofs.lemmas.List.{append-nil, length-map}
-use Rattle.std.proofs.lemmas.List.Elements.{All-cons}
-use Rattle.arrow_types.specs.ArrowType.{ArrowType}
-use Rattle.arrow_types.specs.Carried.{IsCarried}
-use Rattle.arrow_types.specs.Fits.{Fits}
-use Rattle.arrow_types.specs.Physical.{physical_type_of}
-use Rattle.arrow_types.specs.Rows.{joined}
-use Rattle.arrow_flat.specs.DictionaryScalar.{values_in}
-use Rattle.arrow_arrays.specs.Any.{dictionary_kind, kind_in}
-use Rattle.arrow_arrays.specs.TypeDepth.{type_depth}
-use Rattle.arrow_arrays.proofs.ShapeLemmas.{dictionary_child}
-use Rattle.arrow_arrays.specs.Crowded.{CrowdedAmong, CrowdedRow, Unjoined, UnjoinedBy, UnjoinedPart, child_at, child_of, nth_layout}
-use Rattle.arrow_arrays.specs.KeyedParts.{KeyedParts, keyed_layout}
-use Rattle.arrow_arrays.specs.UnionParts.{UnionParts, union_layout, union_layout_by}
-use Rattle.arrow_arrays.specs.Layout.{Layout, Layouts, listed, fixed, fielded, no_layouts, more_layouts, from_layouts, to_layouts, rows, type_of_layout}
-use Rattle.arrow_flat_growable.specs.Grown.{AreOfOneType, first_type, source_at}
-use Rattle.arrow_flat_growable.proofs.FlatLemmas.{first_is}
-use Rattle.arrow_growable.specs.Form.{Form, by_offsets, by_size, by_fields}
-use Rattle.arrow_growable.specs.Join.{CannotAppendAll, CannotJoin}
-use Rattle.arrow_growable.specs.Source.{IsOfForm, no_child, nth_child}
 use Rattle.arrow_growable.proofs.CrowdLemmas.{field_child, listed_child, same_map, sized_child}
 use Rattle.arrow_growable.proofs.KindLemmas.{shape_of_dictionaries}
 use Rattle.arrow_growable.proofs.MakeLemmas.{first_type_of, map_twice, one_type_of}

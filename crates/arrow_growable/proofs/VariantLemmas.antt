@@ -1,21 +1,8 @@
 -- Rows of unions: what each child holds of them, and a run of rows of one field behind others.
-use Rattle.std.proofs.Common.{arith, ◌≡◌, ◌+◌, ◌<◌, ℕ, suc, ℤ, pos, Bool, true, false, Option, List, [], ◌∷◌, ◌++◌, length, map, replicate, get_or, refl, ap, sym, ◌∙◌}
+use Rattle.arrow_growable.proofs.Common.{arith, ◌≡◌, ◌+◌, ◌<◌, ℕ, suc, ℤ, pos, Bool, true, false, Option, List, [], ◌∷◌, ◌++◌, length, map, replicate, get_or, refl, ap, sym, ◌∙◌, range_with_len, zip, int_eq, Decides-int_eq, append-nil, get_or_append_left, map-append, get_or-append_seam, UnionMode, Dense, Sparse, ArrowType, dense_part, sparse_part, Slot, Null, Variant, id_at, null_slot, dense_part-append, column_of_id, union_items, variant_at, child_row_of, not_told, part_of_id}
 use Rattle.std.specs.Prelude.{if◌then◌else◌}
-use Rattle.std.specs.List.{All, range_with_len, zip}
-use Rattle.std.specs.Ordering.{int_eq}
-use Rattle.std.proofs.lemmas.Bool.Decides.{Decides-int_eq}
-use Rattle.std.proofs.lemmas.List.{append_assoc, append-nil, get_or_append_left, length-append, map-append}
-use Rattle.std.proofs.Math.Seq.{get_or-append_seam}
-use Rattle.arrow_types.specs.declared.datatypes.UnionMode.{UnionMode}
-use Rattle.arrow_types.specs.declared.datatypes.UnionMode.TheVariants.{Dense, Sparse}
-use Rattle.arrow_types.specs.ArrowType.{ArrowType}
-use Rattle.arrow_types.specs.Fits.{dense_part, sparse_part}
-use Rattle.arrow_types.specs.Slot.{Slot, Null, Variant, id_at, null_slot}
-use Rattle.arrow_types.proofs.FitsLemmas.{dense_part-append}
-use Rattle.arrow_arrays.specs.Layout.{column_of_id, union_items, variant_at}
-use Rattle.arrow_arrays.specs.UnionParts.{child_row_of}
-use Rattle.arrow_arrays.proofs.UnionLemmas.{not_told}
-use Rattle.arrow_growable.specs.Variants.{part_of_id}
+use Rattle.std.specs.List.{All}
+use Rattle.std.proofs.lemmas.List.{append_assoc, length-append}
 
 -- what the child of an id holds
 

@@ -1,17 +1,4 @@
-use Rattle.std.proofs.Common.{arith, rules, ◌≡◌, ◌<◌, length, map, refl, ap, sym, subst, ◌∙◌}
-use Rattle.std.proofs.lemmas.List.{length-map, length-set, take_all}
-use Rattle.arrow_types.specs.TypeOf.{type_of}
-use Rattle.arrow_arrays.specs.Any.{any_array_rows, any_array_type, layout_of}
-use Rattle.arrow_arrays.specs.TypeDepth.{deepest, type_depth}
-use Rattle.arrow_arrays.specs.UnionParts.{child_rows_of}
-use Rattle.arrow_arrays.proofs.SliceLemmas.{all_changed, changed_next, changed_read, in_map, rest_as_was, written}
-use Rattle.arrow_flat_growable.specs.Grown.{Grown, HoldsRows}
-use Rattle.arrow_growable.specs.AnyGrowable.{grown_of}
-use Rattle.arrow_growable.specs.Child.{AreBoundAs, IsWell, emptied_of}
-use Rattle.arrow_growable.specs.FormLaws.{deepest_child, deepest_of_fields}
-use Rattle.arrow_growable.specs.GrowableSpans.{form_of, grown_arrays}
-use Rattle.arrow_growable.specs.GrownUnion.{no_offsets, offsets_in}
-use Rattle.arrow_growable.specs.Nested.{AreWhole, rows_of_all}
+use Rattle.arrow_growable.proofs.Common.{arith, rules, ◌≡◌, ◌<◌, length, map, refl, ap, sym, subst, ◌∙◌, length-map, length-set, take_all, type_of, any_array_rows, any_array_type, layout_of, deepest, type_depth, child_rows_of, all_changed, changed_next, changed_read, in_map, rest_as_was, written, Grown, HoldsRows, grown_of, AreBoundAs, IsWell, emptied_of, deepest_child, deepest_of_fields, form_of, grown_arrays, no_offsets, offsets_in, AreWhole, rows_of_all}
 use Rattle.arrow_growable.proofs.ChildLemmas.{only_memory}
 use Rattle.arrow_growable.proofs.LoopLemmas.{as_many_items, bound_after, deepest_at, taken_next}
 use Rattle.arrow_growable.proofs.StepLemmas.{all_well, bound_map, emptied_same, failed_parts, parts_left, spans_lie, whole_of}

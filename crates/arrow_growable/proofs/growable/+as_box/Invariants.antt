@@ -1,9 +1,4 @@
-use Rattle.std.proofs.Common.{◌≡◌, ◌+◌, ◌*◌, ◌≤◌, ℕ, get_or, length, map, take}
-use Rattle.arrow_arrays.specs.Any.{any_array_rows, any_array_type}
-use Rattle.arrow_arrays.specs.TypeDepth.{deepest, type_depth}
-use Rattle.arrow_arrays.proofs.SliceLemmas.{ChangedUpTo}
-use Rattle.arrow_growable.specs.AnyGrowable.{grown_of}
-use Rattle.arrow_growable.specs.Child.{emptied_of}
+use Rattle.arrow_growable.proofs.Common.{◌≡◌, ◌+◌, ◌*◌, ◌≤◌, ℕ, get_or, length, map, take, any_array_rows, any_array_type, deepest, type_depth, ChangedUpTo, grown_of, emptied_of}
 use Rattle.arrow_growable.proofs.growable.+as_box.Given as goal
 
 -- each call goes to a less deep growable, or comes nearer to one

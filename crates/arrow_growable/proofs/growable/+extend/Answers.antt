@@ -1,32 +1,4 @@
-use Rattle.std.proofs.Common.{rules, arith, ◌≡◌, ◌+◌, ◌<◌, ◌≤◌, ◌++◌, ℕ, Bool, false, Bor, List, Option, drop, length, map, take, Some, None, Err, inl, refl, ap, sym, subst, ◌∙◌}
-use Rattle.std.specs.Prelude.{IfSome, option_copied}
-use Rattle.std.proofs.lemmas.List.{length-map, length-set}
-use Rattle.std.proofs.lemmas.List.Elements.{All-map}
-use Rattle.arrow_types.specs.Fits.{Fits}
-use Rattle.arrow_types.specs.Slot.{null_slot}
-use Rattle.arrow_types.specs.TypeOf.{type_of}
-use Rattle.arrow_memory.specs.Sliced.{sliced}
-use Rattle.arrow_memory.proofs.SlicedLemmas.{length-sliced}
-use Rattle.arrow_flat.specs.Parts.{bits_of_slice}
-use Rattle.arrow_types.specs.ArrowType.{ArrowType}
-use Rattle.arrow_arrays.specs.Layout.{Layout, rows, type_of_layout}
-use Rattle.arrow_arrays.specs.UnionParts.{union_layout}
-use Rattle.arrow_growable.specs.declared.growable.any.AnyGrowable.{AnyGrowable}
-use Rattle.arrow_arrays.specs.TypeDepth.{deepest, type_depth}
-use Rattle.arrow_arrays.proofs.SliceLemmas.{all_changed, changed_next, changed_read, in_map, rest_as_was, written}
-use Rattle.arrow_flat_growable.specs.Grown.{Grown, CannotHold, FitsItself, NamesRows, appended, named_rows, source_at}
-use Rattle.arrow_flat_growable.proofs.FlatLemmas.{source_is, too_many}
-use Rattle.arrow_flat_growable.proofs.ResultLemmas.{on_ok, passed_on}
-use Rattle.arrow_flat_growable.proofs.ValidRowLemmas.{run_long}
-use Rattle.arrow_growable.specs.AnyGrowable.{grown_of}
-use Rattle.arrow_growable.specs.Bound.{bound_layouts}
-use Rattle.arrow_growable.specs.Child.{AreBoundAs, BindsRows, CannotGrow, GrownBy, IsWell, LiesIn, SameBound, SomeCannotGrow, bound_rows, grown_by, spread}
-use Rattle.arrow_growable.specs.Form.{nested_rows}
-use Rattle.arrow_growable.specs.FormLaws.{deepest_child, deepest_of_fields}
-use Rattle.arrow_growable.specs.GrowableSpans.{IsSoundForm, PassesGreatest, form_of, form_with, grown_arrays}
-use Rattle.arrow_growable.specs.GrownUnion.{GrowsVariants, HoldsVariants, IsBoundUnion, nth_grown, offsets_in, source_type, variant_rows, with_rows}
-use Rattle.arrow_growable.specs.Nested.{IsGrownNested, rows_of_all}
-use Rattle.arrow_growable.specs.Spans.{span_count, span_nulls, span_place}
+use Rattle.arrow_growable.proofs.Common.{rules, arith, ◌≡◌, ◌+◌, ◌<◌, ◌≤◌, ◌++◌, ℕ, Bool, false, Bor, List, Option, drop, length, map, take, Some, None, Err, inl, refl, ap, sym, subst, ◌∙◌, IfSome, option_copied, length-map, length-set, All-map, Fits, null_slot, type_of, sliced, length-sliced, bits_of_slice, ArrowType, Layout, rows, type_of_layout, union_layout, AnyGrowable, deepest, type_depth, all_changed, changed_next, changed_read, in_map, rest_as_was, written, Grown, CannotHold, FitsItself, NamesRows, appended, named_rows, source_at, source_is, too_many, on_ok, passed_on, run_long, grown_of, bound_layouts, AreBoundAs, BindsRows, CannotGrow, GrownBy, IsWell, LiesIn, SameBound, SomeCannotGrow, bound_rows, grown_by, spread, nested_rows, deepest_child, deepest_of_fields, IsSoundForm, PassesGreatest, form_of, form_with, grown_arrays, GrowsVariants, HoldsVariants, IsBoundUnion, nth_grown, offsets_in, source_type, variant_rows, with_rows, IsGrownNested, rows_of_all, span_count, span_nulls, span_place}
 use Rattle.arrow_growable.proofs.ChildLemmas.{grows_more, lies_bare, lies_in_all, names_more, names_there, nulls_refused, part_refused, run_refused}
 use Rattle.arrow_growable.proofs.GrownLemmas.{counts, offsets_refused}
 use Rattle.arrow_growable.proofs.LoopLemmas.{as_many_items, bound_after, deepest_at, holds_next, read_is}

@@ -1,16 +1,4 @@
-use Rattle.std.proofs.Common.{◌≡◌, ◌+◌, ◌-◌, ◌*◌, ◌<◌, ◌≤◌, length, map, get_or}
-use Rattle.std.specs.Prelude.{option_copied}
-use Rattle.arrow_memory.specs.Sliced.{sliced}
-use Rattle.arrow_flat.specs.Parts.{bits_of_slice}
-use Rattle.arrow_arrays.specs.Layout.{rows}
-use Rattle.arrow_arrays.specs.TypeDepth.{deepest, type_depth}
-use Rattle.arrow_arrays.specs.UnionParts.{union_layout}
-use Rattle.arrow_arrays.proofs.SliceLemmas.{ChangedUpTo}
-use Rattle.arrow_flat_growable.specs.Grown.{FitsItself, source_at}
-use Rattle.arrow_growable.specs.AnyGrowable.{grown_of}
-use Rattle.arrow_growable.specs.Child.{grown_by}
-use Rattle.arrow_growable.specs.GrownUnion.{GrowsVariants, IsBoundUnion, offsets_in, source_type}
-use Rattle.arrow_growable.specs.Spans.{span_nulls, span_place}
+use Rattle.arrow_growable.proofs.Common.{◌≡◌, ◌+◌, ◌-◌, ◌*◌, ◌<◌, ◌≤◌, length, map, get_or, option_copied, sliced, bits_of_slice, rows, deepest, type_depth, union_layout, ChangedUpTo, FitsItself, source_at, grown_of, grown_by, GrowsVariants, IsBoundUnion, offsets_in, source_type, span_nulls, span_place}
 use Rattle.arrow_growable.proofs.ChildLemmas.{GrowsTo}
 use Rattle.arrow_growable.proofs.growable.+extend.Given as goal
 

@@ -1,22 +1,4 @@
-use Rattle.std.proofs.Common.{arith, ◌≡◌, ◌+◌, ◌*◌, ◌<◌, ◌≤◌, ◌^◌, ◌++◌, ℕ, inl, false, drop, length, map, replicate, take, Some, Err, refl, ap, sym, subst, ◌∙◌}
-use Rattle.std.proofs.lemmas.List.{length-map, length-replicate, length-set}
-use Rattle.std.proofs.lemmas.List.Elements.{All-map}
-use Rattle.arrow_types.specs.Fits.{Fits}
-use Rattle.arrow_types.specs.Slot.{null_slot}
-use Rattle.arrow_types.specs.TypeOf.{type_of}
-use Rattle.arrow_arrays.specs.TypeDepth.{deepest, type_depth}
-use Rattle.arrow_arrays.proofs.SliceLemmas.{all_changed, changed_next, changed_read, in_map, rest_as_was, written}
-use Rattle.arrow_flat_growable.specs.Grown.{Grown, FitsItself, FitsWith, null_rows_of}
-use Rattle.arrow_flat_growable.proofs.FlatLemmas.{too_many}
-use Rattle.arrow_flat_growable.proofs.ResultLemmas.{on_ok, passed_on}
-use Rattle.arrow_growable.specs.AnyGrowable.{grown_of}
-use Rattle.arrow_growable.specs.Bound.{bound_layouts}
-use Rattle.arrow_growable.specs.Child.{AreBoundAs, IsWell, SomeCannotHoldNulls, grown_by_nulls}
-use Rattle.arrow_growable.specs.Form.{nested_rows}
-use Rattle.arrow_growable.specs.FormLaws.{deepest_child, deepest_of_fields}
-use Rattle.arrow_growable.specs.GrowableSpans.{IsSoundForm, form_of, grown_arrays}
-use Rattle.arrow_growable.specs.GrownUnion.{GrowsVariants, nth_grown, offsets_in, variant_rows}
-use Rattle.arrow_growable.specs.Nested.{IsGrownNested, rows_of_all}
+use Rattle.arrow_growable.proofs.Common.{arith, ◌≡◌, ◌+◌, ◌*◌, ◌<◌, ◌≤◌, ◌^◌, ◌++◌, ℕ, inl, false, drop, length, map, replicate, take, Some, Err, refl, ap, sym, subst, ◌∙◌, length-map, length-replicate, length-set, All-map, Fits, null_slot, type_of, deepest, type_depth, all_changed, changed_next, changed_read, in_map, rest_as_was, written, Grown, FitsItself, FitsWith, null_rows_of, too_many, on_ok, passed_on, grown_of, bound_layouts, AreBoundAs, IsWell, SomeCannotHoldNulls, grown_by_nulls, nested_rows, deepest_child, deepest_of_fields, IsSoundForm, form_of, grown_arrays, GrowsVariants, nth_grown, offsets_in, variant_rows, IsGrownNested, rows_of_all}
 use Rattle.arrow_growable.proofs.EvenLemmas.{no_grown}
 use Rattle.arrow_growable.proofs.GrownLemmas.{counts, nulls_refused, slots_refused}
 use Rattle.arrow_growable.proofs.LoopLemmas.{as_many_items, bound_after, deepest_at, holds_next, read_is}

@@ -1,9 +1,4 @@
-use Rattle.std.proofs.Common.{◌+◌, ◌*◌, ◌<◌, map, get_or}
-use Rattle.arrow_arrays.specs.TypeDepth.{deepest, type_depth}
-use Rattle.arrow_arrays.proofs.SliceLemmas.{ChangedUpTo}
-use Rattle.arrow_flat_growable.specs.Grown.{FitsItself}
-use Rattle.arrow_growable.specs.AnyGrowable.{grown_of}
-use Rattle.arrow_growable.specs.Child.{grown_by_nulls}
+use Rattle.arrow_growable.proofs.Common.{◌+◌, ◌*◌, ◌<◌, map, get_or, deepest, type_depth, ChangedUpTo, FitsItself, grown_of, grown_by_nulls}
 use Rattle.arrow_growable.proofs.growable.+extend_validity.Given as goal
 
 -- each call goes to a less deep growable, or comes nearer to one

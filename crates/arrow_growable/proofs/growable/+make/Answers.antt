@@ -1,28 +1,6 @@
-use Rattle.std.proofs.Common.{arith, rules, ◌≡◌, ◌<◌, Bor, Err, Global, List, [], Vec, get_or, length, map, ap, sym, subst, ◌∙◌}
+use Rattle.arrow_growable.proofs.Common.{arith, rules, ◌≡◌, ◌<◌, Bor, Err, Global, List, [], Vec, get_or, length, map, ap, sym, subst, ◌∙◌, get_or_default, length-map, take_all, physical_type_of, IfOk-weaker, joined, layout_of, layouts_in, Unjoined, child_of, keyed_layout, Layout, rows, passed_on, AnyArray, deepest, type_depth, field_types, union_layout, AreOfOneType, bound_to, first_type, first_is, bound_layouts, child_type, child_types, child_less_deep, deepest_of_fields, CanBind, HaveFieldTypes, SomeColumnUnjoined, union_children, nth_child, form_of, CannotJoin}
 use Rattle.std.specs.List.{All}
-use Rattle.std.proofs.lemmas.List.{get_or_default, length-map, take_all}
-use Rattle.arrow_types.specs.Physical.{physical_type_of}
-use Rattle.std.proofs.lemmas.Result.{IfOk-weaker}
-use Rattle.arrow_types.specs.Rows.{joined}
-use Rattle.arrow_arrays.specs.Any.{layout_of, layouts_in}
-use Rattle.arrow_arrays.specs.Crowded.{Unjoined, child_of}
-use Rattle.arrow_arrays.specs.KeyedParts.{keyed_layout}
-use Rattle.arrow_arrays.specs.Layout.{Layout, rows}
-use Rattle.arrow_flat_growable.proofs.ResultLemmas.{passed_on}
-use Rattle.arrow_arrays.specs.declared.array.any.AnyArray.{AnyArray}
-use Rattle.arrow_arrays.specs.TypeDepth.{deepest, type_depth}
-use Rattle.arrow_arrays.specs.TypeParts.{field_types}
-use Rattle.arrow_arrays.specs.UnionParts.{union_layout}
-use Rattle.arrow_flat_growable.specs.Grown.{AreOfOneType, bound_to, first_type}
-use Rattle.arrow_flat_growable.proofs.FlatLemmas.{first_is}
-use Rattle.arrow_growable.specs.Bound.{bound_layouts}
-use Rattle.arrow_growable.specs.Form.{child_type, child_types}
-use Rattle.arrow_growable.specs.FormLaws.{child_less_deep, deepest_of_fields}
-use Rattle.arrow_growable.specs.GrownUnion.{CanBind, HaveFieldTypes, SomeColumnUnjoined, union_children}
 use Rattle.arrow_growable.proofs.UnionMakeLemmas.{child_list, children_many, column_depth, column_read, columns_alone, columns_bind, columns_types, grown_next, grown_types}
-use Rattle.arrow_growable.specs.Source.{nth_child}
-use Rattle.arrow_growable.specs.GrowableSpans.{form_of}
-use Rattle.arrow_growable.specs.Join.{CannotJoin}
 use Rattle.arrow_growable.proofs.KindLemmas.{others_flat}
 use Rattle.arrow_growable.proofs.UnjoinedLemmas.{cannot_join, child_unjoined, field_unjoined, only_memory, values_are, values_unjoined}
 use Rattle.arrow_growable.proofs.MakeLemmas.{all_children, made_next, map_twice, one_type_of, first_type_of}

@@ -1,14 +1,4 @@
-use Rattle.std.proofs.Common.{◌≡◌, ◌+◌, ◌*◌, map, take}
-use Rattle.std.specs.List.{range_with_len}
-use Rattle.arrow_arrays.specs.Any.{layout_of, layouts_in}
-use Rattle.arrow_arrays.specs.KeyedParts.{keyed_layout}
-use Rattle.arrow_arrays.specs.TypeDepth.{deepest, type_depth}
-use Rattle.arrow_arrays.specs.UnionParts.{union_layout}
-use Rattle.arrow_flat_growable.specs.Grown.{bound_to, first_type}
-use Rattle.arrow_growable.specs.AnyGrowable.{grown_of}
-use Rattle.arrow_growable.specs.Bound.{bound_layouts}
-use Rattle.arrow_growable.specs.Form.{child_types}
-use Rattle.arrow_growable.specs.Source.{nth_child}
+use Rattle.arrow_growable.proofs.Common.{◌≡◌, ◌+◌, ◌*◌, map, take, range_with_len, layout_of, layouts_in, keyed_layout, deepest, type_depth, union_layout, bound_to, first_type, grown_of, bound_layouts, child_types, nth_child}
 use Rattle.arrow_growable.proofs.growable.+make.Given as goal
 
 -- each call goes to arrays of a less deep type, or comes nearer to their children

@@ -1,13 +1,6 @@
-use Rattle.std.proofs.Common.{arith, ◌≡◌, Bor, map, sym, subst, ◌∙◌}
-use Rattle.std.proofs.lemmas.List.{take_all}
-use Rattle.std.proofs.lemmas.List.Elements.{All-map, All-more, All-same}
-use Rattle.arrow_arrays.specs.Any.{layout_of}
-use Rattle.arrow_arrays.specs.Layout.{Layout, type_of_layout}
-use Rattle.arrow_flat_growable.specs.Grown.{first_type}
+use Rattle.arrow_growable.proofs.Common.{arith, ◌≡◌, Bor, map, sym, subst, ◌∙◌, take_all, All-map, All-more, All-same, layout_of, Layout, type_of_layout, first_type, child_type, nth_child}
 use Rattle.arrow_growable.proofs.MakeLemmas.{bind_all, bind_next, map_twice, type_at}
 use Rattle.arrow_growable.proofs.SourceLemmas.{child_there, nth_type}
-use Rattle.arrow_growable.specs.Form.{child_type}
-use Rattle.arrow_growable.specs.Source.{nth_child}
 use Rattle.arrow_growable.proofs.growable.bound.column_of.Goals as goal
 
 pub child-requires : goal.child-requires

@@ -1,9 +1,4 @@
-use Rattle.std.proofs.Common.{◌≡◌, All, map, take}
-use Rattle.arrow_arrays.specs.Any.{layout_of}
-use Rattle.arrow_arrays.specs.Layout.{type_of_layout}
-use Rattle.arrow_flat_growable.specs.Grown.{first_type}
-use Rattle.arrow_growable.specs.Form.{child_type}
-use Rattle.arrow_growable.specs.Source.{nth_child}
+use Rattle.arrow_growable.proofs.Common.{◌≡◌, All, map, take, layout_of, type_of_layout, first_type, child_type, nth_child}
 use Rattle.arrow_growable.proofs.growable.bound.column_of.Given as goal
 
 -- the children so far, each of the type that the data type says

@@ -1,8 +1,4 @@
-use Rattle.std.proofs.Common.{arith, ◌*◌, inl, ap, subst}
-use Rattle.arrow_flat_growable.specs.Grown.{FitsWith}
-use Rattle.arrow_flat_growable.proofs.ResultLemmas.{on_ok}
-use Rattle.arrow_growable.specs.AnyGrowable.{grown_of}
-use Rattle.arrow_growable.specs.Child.{GrownBy}
+use Rattle.arrow_growable.proofs.Common.{arith, ◌*◌, inl, ap, subst, FitsWith, on_ok, grown_of, GrownBy}
 use Rattle.arrow_growable.proofs.EvenSpreadLemmas.{even_place, items_bound, items_named}
 use Rattle.arrow_growable.proofs.growable.children.extend_under.Goals as goal
 

@@ -1,9 +1,4 @@
-use Rattle.std.proofs.Common.{arith, ◌<◌, Bor, length, map, ap, refl, sym, ◌∙◌}
-use Rattle.std.proofs.lemmas.List.{length-map}
-use Rattle.arrow_arrays.specs.Crowded.{child_of}
-use Rattle.arrow_arrays.specs.KeyedParts.{keyed_layout}
-use Rattle.arrow_arrays.specs.Layout.{rows}
-use Rattle.arrow_flat_growable.proofs.FlatLemmas.{source_is}
+use Rattle.arrow_growable.proofs.Common.{arith, ◌<◌, Bor, length, map, ap, refl, sym, ◌∙◌, length-map, child_of, keyed_layout, rows, source_is}
 use Rattle.arrow_growable.proofs.DictionaryLemmas.{starts_more, values_room}
 use Rattle.arrow_growable.proofs.growable.dictionary.starts_of.Goals as goal
 

@@ -1,7 +1,5 @@
-use Rattle.std.proofs.Common.{◌≡◌, ◌<◌, ℕ, length, map, take}
+use Rattle.arrow_growable.proofs.Common.{◌≡◌, ◌<◌, ℕ, length, map, take, values_before, keyed_layout}
 use Rattle.std.specs.Prelude.{slice_index}
-use Rattle.arrow_arrays.specs.Crowded.{values_before}
-use Rattle.arrow_arrays.specs.KeyedParts.{keyed_layout}
 use Rattle.arrow_growable.proofs.growable.dictionary.starts_of.Given as goal
 
 -- where the values of the arrays so far begin, and those of the next one

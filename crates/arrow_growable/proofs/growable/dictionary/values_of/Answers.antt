@@ -1,11 +1,4 @@
-use Rattle.std.proofs.Common.{arith, ◌≡◌, Bor, sym, subst, ◌∙◌}
-use Rattle.std.proofs.lemmas.List.{take_all}
-use Rattle.std.proofs.lemmas.List.Elements.{All-more, All-same}
-use Rattle.arrow_flat.specs.DictionaryScalar.{values_in}
-use Rattle.arrow_arrays.specs.Any.{layout_of}
-use Rattle.arrow_arrays.specs.Crowded.{child_of}
-use Rattle.arrow_arrays.specs.KeyedParts.{keyed_layout}
-use Rattle.arrow_arrays.specs.Layout.{type_of_layout}
+use Rattle.arrow_growable.proofs.Common.{arith, ◌≡◌, Bor, sym, subst, ◌∙◌, take_all, All-more, All-same, values_in, layout_of, child_of, keyed_layout, type_of_layout}
 use Rattle.arrow_growable.proofs.MakeLemmas.{bind_all, bind_next, map_twice}
 use Rattle.arrow_growable.proofs.growable.dictionary.values_of.Goals as goal
 

@@ -1,7 +1,4 @@
-use Rattle.std.proofs.Common.{◌≡◌, All, map, take}
-use Rattle.arrow_flat.specs.DictionaryScalar.{values_in}
-use Rattle.arrow_arrays.specs.Any.{layout_of}
-use Rattle.arrow_arrays.specs.Layout.{type_of_layout}
+use Rattle.arrow_growable.proofs.Common.{◌≡◌, All, map, take, values_in, layout_of, type_of_layout}
 use Rattle.arrow_growable.proofs.growable.dictionary.values_of.Given as goal
 
 -- the values so far, each of the type that the data type says

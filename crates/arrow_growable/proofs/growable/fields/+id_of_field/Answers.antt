@@ -1,5 +1,4 @@
-use Rattle.std.proofs.Common.{◌∙◌, ap, arith, of_z, sym, to_z, w8, w32}
-use Rattle.std.proofs.lemmas.Int.{ints, to_z-of_z}
+use Rattle.arrow_growable.proofs.Common.{◌∙◌, ap, arith, of_z, sym, to_z, w8, w32, ints, to_z-of_z}
 use Rattle.arrow_growable.proofs.UnionTypeLemmas.{id_told}
 use Rattle.arrow_growable.proofs.growable.fields.+id_of_field.Goals as goal
 

@@ -1,5 +1,4 @@
-use Rattle.std.proofs.Common.{◌<◌, get_or}
-use Rattle.arrow_growable.specs.AnyGrowable.{IsFlat}
+use Rattle.arrow_growable.proofs.Common.{◌<◌, get_or, IsFlat}
 use Rattle.arrow_growable.proofs.growable.fields.are_flat.Given as goal
 
 -- those so far are flat

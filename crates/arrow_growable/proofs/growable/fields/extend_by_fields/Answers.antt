@@ -1,10 +1,4 @@
-use Rattle.std.proofs.Common.{map, subst, sym}
-use Rattle.std.proofs.lemmas.List.{length-map}
-use Rattle.arrow_memory.specs.Sliced.{sliced}
-use Rattle.arrow_arrays.specs.UnionParts.{union_rows}
-use Rattle.arrow_flat_growable.proofs.ResultLemmas.{on_ok}
-use Rattle.arrow_growable.specs.AnyGrowable.{grown_of}
-use Rattle.arrow_growable.specs.Fields.{GrownFields}
+use Rattle.arrow_growable.proofs.Common.{map, subst, sym, length-map, sliced, union_rows, on_ok, grown_of, GrownFields}
 use Rattle.arrow_growable.proofs.UnionFieldLemmas.{fields_refused, grows_fields}
 use Rattle.arrow_growable.proofs.growable.fields.extend_by_fields.Goals as goal
 

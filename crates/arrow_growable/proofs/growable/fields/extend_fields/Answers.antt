@@ -1,19 +1,4 @@
-use Rattle.std.proofs.Common.{arith, ◌≡◌, ◌+◌, ◌-◌, ◌<◌, ◌∙◌, Err, List, ap, drop, get_or, length, map, of_z, subst, sym, take, to_z, w8}
-use Rattle.std.specs.Ordering.{int_eq}
-use Rattle.std.proofs.lemmas.Int.{ints, to_z-of_z}
-use Rattle.std.proofs.lemmas.List.{get_or-set_other, length-map, length-set}
-use Rattle.arrow_types.specs.Rows.{mask}
-use Rattle.arrow_types.specs.Slot.{Slot, id_at}
-use Rattle.arrow_memory.specs.Sliced.{sliced}
-use Rattle.arrow_memory.proofs.SlicedLemmas.{length-sliced}
-use Rattle.arrow_arrays.specs.Layout.{field_ids}
-use Rattle.arrow_arrays.specs.UnionParts.{union_rows}
-use Rattle.arrow_flat_growable.specs.Grown.{FitsWith, Grown}
-use Rattle.arrow_flat_growable.proofs.ResultLemmas.{passed_on}
-use Rattle.arrow_growable.specs.AnyGrowable.{IsFlat, grown_of}
-use Rattle.arrow_growable.specs.Child.{BindsRows, GrownBy, IsWell, SameBound, bound_rows}
-use Rattle.arrow_growable.specs.GrownUnion.{nth_grown}
-use Rattle.arrow_growable.specs.Variants.{have_id}
+use Rattle.arrow_growable.proofs.Common.{arith, ◌≡◌, ◌+◌, ◌-◌, ◌<◌, ◌∙◌, Err, List, ap, drop, get_or, length, map, of_z, subst, sym, take, to_z, w8, int_eq, ints, to_z-of_z, get_or-set_other, length-map, length-set, mask, Slot, id_at, sliced, length-sliced, field_ids, union_rows, FitsWith, Grown, passed_on, IsFlat, grown_of, BindsRows, GrownBy, IsWell, SameBound, bound_rows, nth_grown, have_id}
 use Rattle.arrow_growable.proofs.UnionChildLemmas.{nth_read, set_bound}
 use Rattle.arrow_growable.proofs.UnionFieldLemmas.{field_next, named_in_child}
 use Rattle.arrow_growable.proofs.growable.fields.extend_fields.Goals as goal

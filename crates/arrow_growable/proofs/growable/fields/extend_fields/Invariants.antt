@@ -1,8 +1,4 @@
-use Rattle.std.proofs.Common.{◌≡◌, ◌<◌, ◌≤◌, ℕ, length, map, get_or}
-use Rattle.arrow_memory.specs.Sliced.{sliced}
-use Rattle.arrow_arrays.specs.UnionParts.{union_rows}
-use Rattle.arrow_growable.specs.AnyGrowable.{IsFlat, grown_of}
-use Rattle.arrow_growable.specs.Fields.{GrownFields}
+use Rattle.arrow_growable.proofs.Common.{◌≡◌, ◌<◌, ◌≤◌, ℕ, length, map, get_or, sliced, union_rows, IsFlat, grown_of, GrownFields}
 use Rattle.arrow_growable.proofs.growable.fields.extend_fields.Given as goal
 
 -- the children of the fields so far have grown; the others are as they were

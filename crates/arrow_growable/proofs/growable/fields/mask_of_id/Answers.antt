@@ -1,4 +1,4 @@
-use Rattle.std.proofs.Common.{rules}
+use Rattle.arrow_growable.proofs.Common.{rules}
 use Rattle.arrow_growable.proofs.UnionFieldLemmas.{bits_of_id}
 use Rattle.arrow_growable.proofs.growable.fields.mask_of_id.Goals as goal
 

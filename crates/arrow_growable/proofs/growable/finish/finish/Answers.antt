@@ -1,7 +1,4 @@
-use Rattle.std.proofs.Common.{ap, ◌∙◌}
-use Rattle.arrow_types.specs.TypeOf.{type_of}
-use Rattle.arrow_arrays.proofs.ShapeLemmas.{shape_of}
-use Rattle.arrow_growable.specs.GrowableSpans.{form_of, grown_arrays}
+use Rattle.arrow_growable.proofs.Common.{ap, ◌∙◌, type_of, shape_of, form_of, grown_arrays}
 use Rattle.arrow_growable.proofs.ColumnLemmas.{struct_child_types}
 use Rattle.arrow_growable.proofs.FinishLemmas.{child_type_is, fields_fit, fields_made, lists_made, one_child, sized_fit, sized_made}
 use Rattle.arrow_growable.proofs.growable.finish.finish.Goals as goal

@@ -1,4 +1,4 @@
-use Rattle.std.proofs.Common.{arith}
+use Rattle.arrow_growable.proofs.Common.{arith}
 use Rattle.arrow_growable.proofs.growable.finish.fixed_size_list_array.Goals as goal
 
 pub new-requires : goal.new-requires

@@ -1,8 +1,4 @@
-use Rattle.std.proofs.Common.{ap, ◌∙◌}
-use Rattle.arrow_types.specs.Rows.{masked}
-use Rattle.arrow_arrays.specs.Layout.{struct_items}
-use Rattle.arrow_arrays.proofs.NullPartsLemmas.{columns_of_arrays}
-use Rattle.arrow_arrays.proofs.TypeLemmas.{types_of_layouts}
+use Rattle.arrow_growable.proofs.Common.{ap, ◌∙◌, masked, struct_items, columns_of_arrays, types_of_layouts}
 use Rattle.arrow_growable.proofs.growable.finish.struct_array.Goals as goal
 
 pub new-requires : goal.new-requires

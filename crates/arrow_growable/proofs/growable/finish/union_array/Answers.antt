@@ -1,8 +1,4 @@
-use Rattle.std.proofs.Common.{rules, ◌≡◌, ℤ, List, Option, map, subst, sym}
-use Rattle.arrow_types.specs.ArrowType.{ArrowType}
-use Rattle.arrow_types.specs.TypeOf.{type_of}
-use Rattle.arrow_arrays.specs.Any.{layout_of}
-use Rattle.arrow_arrays.specs.UnionParts.{HoldsUnion}
+use Rattle.arrow_growable.proofs.Common.{rules, ◌≡◌, ℤ, List, Option, map, subst, sym, ArrowType, type_of, layout_of, HoldsUnion}
 use Rattle.arrow_growable.proofs.growable.finish.union_array.Goals as goal
 
 pub new-requires : goal.new-requires

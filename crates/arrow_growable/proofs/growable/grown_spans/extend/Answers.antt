@@ -1,5 +1,4 @@
-use Rattle.std.proofs.Common.{◌∙◌, arith}
-use Rattle.arrow_flat_growable.proofs.ResultLemmas.{on_ok}
+use Rattle.arrow_growable.proofs.Common.{◌∙◌, arith, on_ok}
 use Rattle.arrow_growable.proofs.CountLemmas.{all_items_of, all_rows_of}
 use Rattle.arrow_growable.proofs.growable.grown_spans.extend.Goals as goal
 

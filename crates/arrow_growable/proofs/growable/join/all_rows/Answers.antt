@@ -1,5 +1,4 @@
-use Rattle.std.proofs.Common.{Err, ap}
-use Rattle.arrow_flat_growable.proofs.ResultLemmas.{passed_on}
+use Rattle.arrow_growable.proofs.Common.{Err, ap, passed_on}
 use Rattle.arrow_growable.proofs.growable.join.all_rows.Goals as goal
 
 pub returns-in_err-append_all-clause-overflow : goal.returns-in_err-append_all-clause-overflow

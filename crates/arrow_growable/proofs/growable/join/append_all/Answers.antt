@@ -1,12 +1,4 @@
-use Rattle.std.proofs.Common.{arith, ◌≡◌, ◌<◌, subst, Bor, Err, ap, length, map, sym, ◌∙◌}
-use Rattle.std.proofs.lemmas.List.{length-map}
-use Rattle.arrow_arrays.specs.Any.{layout_of, layouts_in}
-use Rattle.arrow_arrays.specs.Layout.{rows}
-use Rattle.arrow_flat_growable.specs.Grown.{source_at}
-use Rattle.arrow_flat_growable.proofs.FlatLemmas.{source_is}
-use Rattle.arrow_flat_growable.proofs.ResultLemmas.{passed_on}
-use Rattle.arrow_growable.specs.AnyGrowable.{grown_of}
-use Rattle.arrow_growable.specs.Growing.{HasAppended}
+use Rattle.arrow_growable.proofs.Common.{arith, ◌≡◌, ◌<◌, subst, Bor, Err, ap, length, map, sym, ◌∙◌, length-map, layout_of, layouts_in, rows, source_at, source_is, passed_on, grown_of, HasAppended}
 use Rattle.arrow_growable.proofs.GrowLemmas.{cannot_append, holds_none, holds_more, named, whole_source}
 use Rattle.arrow_growable.proofs.JoinedLemmas.{joined_next, joined_around, rows_read}
 use Rattle.arrow_growable.proofs.growable.join.append_all.Goals as goal

@@ -1,9 +1,4 @@
-use Rattle.std.proofs.Common.{map, take}
-use Rattle.arrow_types.specs.Rows.{joined}
-use Rattle.arrow_arrays.specs.Any.{layouts_in}
-use Rattle.arrow_arrays.specs.Layout.{rows}
-use Rattle.arrow_growable.specs.AnyGrowable.{grown_of}
-use Rattle.arrow_growable.specs.Growing.{HasAppended}
+use Rattle.arrow_growable.proofs.Common.{map, take, joined, layouts_in, rows, grown_of, HasAppended}
 use Rattle.arrow_growable.proofs.growable.join.append_all.Given as goal
 
 -- the rows of the arrays so far are held

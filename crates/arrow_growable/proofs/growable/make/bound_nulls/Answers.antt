@@ -1,9 +1,4 @@
-use Rattle.std.proofs.Common.{arith, ◌≡◌, Bor, IfOk, length, map, ap, sym, subst, ◌∙◌}
-use Rattle.std.proofs.lemmas.List.{length-map}
-use Rattle.arrow_types.specs.Physical.{physical_type_of}
-use Rattle.arrow_arrays.specs.Any.{kind_in, layout_of}
-use Rattle.arrow_flat_growable.specs.Nulls.{null_layout}
-use Rattle.arrow_flat_growable.specs.Grown.{AreOfOneType, bound_to}
+use Rattle.arrow_growable.proofs.Common.{arith, ◌≡◌, Bor, IfOk, length, map, ap, sym, subst, ◌∙◌, length-map, physical_type_of, kind_in, layout_of, null_layout, AreOfOneType, bound_to}
 use Rattle.arrow_growable.proofs.MakeLemmas.{bind_all, bind_next, type_at}
 use Rattle.arrow_growable.proofs.growable.make.bound_nulls.Goals as goal
 

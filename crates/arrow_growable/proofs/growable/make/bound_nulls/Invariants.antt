@@ -1,6 +1,4 @@
-use Rattle.std.proofs.Common.{◌≡◌, map, take}
-use Rattle.arrow_arrays.specs.Any.{layout_of}
-use Rattle.arrow_flat_growable.specs.Nulls.{null_layout}
+use Rattle.arrow_growable.proofs.Common.{◌≡◌, map, take, layout_of, null_layout}
 use Rattle.arrow_growable.proofs.growable.make.bound_nulls.Given as goal
 
 -- the arrays so far are bound

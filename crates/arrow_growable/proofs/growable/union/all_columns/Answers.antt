@@ -1,8 +1,4 @@
-use Rattle.std.proofs.Common.{arith, Bor, map, ap, sym, ◌∙◌}
-use Rattle.std.specs.List.{range_with_len}
-use Rattle.arrow_arrays.specs.Crowded.{child_at}
-use Rattle.arrow_arrays.specs.UnionParts.{union_layout}
-use Rattle.arrow_flat_growable.proofs.FlatLemmas.{first_is}
+use Rattle.arrow_growable.proofs.Common.{arith, Bor, map, ap, sym, ◌∙◌, range_with_len, child_at, union_layout, first_is}
 use Rattle.arrow_growable.proofs.UnionMakeLemmas.{field_count, field_total, more_columns, typed_next}
 use Rattle.arrow_growable.proofs.growable.union.all_columns.Goals as goal
 

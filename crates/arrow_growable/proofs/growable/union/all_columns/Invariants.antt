@@ -1,11 +1,4 @@
-use Rattle.std.proofs.Common.{◌≡◌, ◌<◌, ℕ, All, map}
-use Rattle.std.specs.List.{range_with_len}
-use Rattle.arrow_arrays.specs.Any.{layout_of}
-use Rattle.arrow_arrays.specs.Crowded.{child_at}
-use Rattle.arrow_arrays.specs.Layout.{type_of_layout}
-use Rattle.arrow_arrays.specs.UnionParts.{union_layout}
-use Rattle.arrow_flat_growable.specs.Grown.{first_type}
-use Rattle.arrow_growable.specs.Variants.{variant_type}
+use Rattle.arrow_growable.proofs.Common.{◌≡◌, ◌<◌, ℕ, All, map, range_with_len, layout_of, child_at, type_of_layout, union_layout, first_type, variant_type}
 use Rattle.arrow_growable.proofs.growable.union.all_columns.Given as goal
 
 -- the children of the fields so far, which have their types

@@ -1,7 +1,4 @@
-use Rattle.std.proofs.Common.{Bor, ap, sym, ◌∙◌}
-use Rattle.arrow_types.specs.Physical.{physical_type_of}
-use Rattle.arrow_arrays.specs.Any.{kind_in, layout_of}
-use Rattle.arrow_arrays.specs.UnionParts.{union_layout}
+use Rattle.arrow_growable.proofs.Common.{Bor, ap, sym, ◌∙◌, physical_type_of, kind_in, layout_of, union_layout}
 use Rattle.arrow_growable.proofs.MakeLemmas.{bind_next, type_at}
 use Rattle.arrow_growable.proofs.growable.union.bind.Goals as goal
 

@@ -1,6 +1,4 @@
-use Rattle.std.proofs.Common.{◌≡◌, map, take}
-use Rattle.arrow_arrays.specs.Any.{layout_of}
-use Rattle.arrow_arrays.specs.UnionParts.{union_layout}
+use Rattle.arrow_growable.proofs.Common.{◌≡◌, map, take, layout_of, union_layout}
 use Rattle.arrow_growable.proofs.growable.union.bind.Given as goal
 
 -- the arrays so far are bound

@@ -1,4 +1,4 @@
-use Rattle.std.proofs.Common.{arith}
+use Rattle.arrow_growable.proofs.Common.{arith}
 use Rattle.arrow_growable.proofs.UnionMakeLemmas.{child_read, child_there, child_type_is}
 use Rattle.arrow_growable.proofs.growable.union.child_of.Goals as goal
 

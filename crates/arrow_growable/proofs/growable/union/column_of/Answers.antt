@@ -1,13 +1,4 @@
-use Rattle.std.proofs.Common.{arith, ◌≡◌, Bor, length, map, ap, sym, subst, ◌∙◌}
-use Rattle.std.proofs.lemmas.List.{take_all}
-use Rattle.std.proofs.lemmas.List.Elements.{All-map, All-more, All-same}
-use Rattle.arrow_arrays.specs.Any.{layout_of}
-use Rattle.arrow_arrays.specs.Crowded.{child_at}
-use Rattle.arrow_arrays.specs.Layout.{Layout, type_of_layout}
-use Rattle.arrow_arrays.specs.TypeParts.{field_types}
-use Rattle.arrow_arrays.specs.UnionParts.{union_layout}
-use Rattle.arrow_flat_growable.specs.Grown.{first_type}
-use Rattle.arrow_growable.specs.Variants.{variant_type}
+use Rattle.arrow_growable.proofs.Common.{arith, ◌≡◌, Bor, length, map, ap, sym, subst, ◌∙◌, take_all, All-map, All-more, All-same, layout_of, child_at, Layout, type_of_layout, field_types, union_layout, first_type, variant_type}
 use Rattle.arrow_growable.proofs.MakeLemmas.{bind_all, bind_next, map_twice, type_at}
 use Rattle.arrow_growable.proofs.UnionMakeLemmas.{same_type}
 use Rattle.arrow_growable.proofs.growable.union.column_of.Goals as goal

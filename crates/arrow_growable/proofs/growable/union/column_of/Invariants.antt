@@ -1,10 +1,4 @@
-use Rattle.std.proofs.Common.{◌≡◌, All, map, take}
-use Rattle.arrow_arrays.specs.Any.{layout_of}
-use Rattle.arrow_arrays.specs.Crowded.{child_at}
-use Rattle.arrow_arrays.specs.Layout.{type_of_layout}
-use Rattle.arrow_arrays.specs.UnionParts.{union_layout}
-use Rattle.arrow_flat_growable.specs.Grown.{first_type}
-use Rattle.arrow_growable.specs.Variants.{variant_type}
+use Rattle.arrow_growable.proofs.Common.{◌≡◌, All, map, take, layout_of, child_at, type_of_layout, union_layout, first_type, variant_type}
 use Rattle.arrow_growable.proofs.growable.union.column_of.Given as goal
 
 -- the children of the arrays so far, each of the type that the data type says

@@ -1,8 +1,5 @@
-use Rattle.std.proofs.Common.{Bor, sym, subst, ◌∙◌}
-use Rattle.arrow_arrays.specs.UnionParts.{union_layout}
-use Rattle.arrow_flat.specs.Faults.{IsCarriedAs}
+use Rattle.arrow_growable.proofs.Common.{Bor, sym, subst, ◌∙◌, union_layout, IsCarriedAs, first_is}
 use Rattle.arrow_types.specs.declared.datatypes.physical_type.PhysicalType.TheVariants as physical
-use Rattle.arrow_flat_growable.proofs.FlatLemmas.{first_is}
 use Rattle.arrow_growable.proofs.UnionLoopLemmas.{union_type}
 use Rattle.arrow_growable.proofs.UnionMakeLemmas.{type_of_unions}
 use Rattle.arrow_growable.proofs.growable.union.first_data_type.Goals as goal

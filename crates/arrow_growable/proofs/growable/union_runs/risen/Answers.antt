@@ -1,8 +1,4 @@
-use Rattle.std.proofs.Common.{arith, rules, ◌≡◌, ◌<◌, ◌+◌, [], ◌∷◌, pos, w8, w32, get_or, length, map, refl, ap, ◌∙◌}
-use mir.Val.{SFits}
-use Rattle.std.proofs.lemmas.Int.{to_z-of_z}
-use Rattle.std.proofs.lemmas.List.{get_or-map, length-map}
-use Rattle.arrow_arrays.specs.UnionParts.{child_row_of}
+use Rattle.arrow_growable.proofs.Common.{arith, rules, ◌≡◌, ◌<◌, ◌+◌, [], ◌∷◌, pos, w8, w32, get_or, length, map, refl, ap, ◌∙◌, SFits, to_z-of_z, get_or-map, length-map, child_row_of}
 use Rattle.arrow_growable.proofs.UnionRunLemmas.{next_risen, next_same, one_is}
 use Rattle.arrow_growable.proofs.growable.union_runs.risen.Goals as goal
 

@@ -1,7 +1,4 @@
-use Rattle.std.proofs.Common.{◌≡◌, ◌+◌, ◌-◌, ◌≤◌, pos, get_or, map, replicate}
-use Rattle.std.specs.List.{range_with_len}
-use Rattle.arrow_memory.specs.Sliced.{sliced}
-use Rattle.arrow_arrays.specs.UnionParts.{child_row_of}
+use Rattle.arrow_growable.proofs.Common.{◌≡◌, ◌+◌, ◌-◌, ◌≤◌, pos, get_or, map, replicate, range_with_len, sliced, child_row_of}
 use Rattle.arrow_growable.proofs.growable.union_runs.risen.Given as goal
 
 -- the ids so far are the same, and each offset is the next number

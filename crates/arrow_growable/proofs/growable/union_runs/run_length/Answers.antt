@@ -1,4 +1,4 @@
-use Rattle.std.proofs.Common.{Some, arith, ap, ◌∙◌, length}
+use Rattle.arrow_growable.proofs.Common.{Some, arith, ap, ◌∙◌, length}
 use Rattle.arrow_growable.proofs.UnionRunLemmas.{dense_places, offsets_many, offsets_natural, sparse_places}
 use Rattle.arrow_growable.proofs.growable.union_runs.run_length.Goals as goal
 

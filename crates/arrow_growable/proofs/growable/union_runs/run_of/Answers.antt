@@ -1,4 +1,4 @@
-use Rattle.std.proofs.Common.{arith}
+use Rattle.arrow_growable.proofs.Common.{arith}
 use Rattle.arrow_growable.proofs.UnionRunLemmas.{is_run, last_is}
 use Rattle.arrow_growable.proofs.growable.union_runs.run_of.Goals as goal
 

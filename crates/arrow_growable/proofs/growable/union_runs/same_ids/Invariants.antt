@@ -1,5 +1,4 @@
-use Rattle.std.proofs.Common.{◌≡◌, ◌+◌, ◌-◌, ◌≤◌, pos, get_or, replicate}
-use Rattle.arrow_memory.specs.Sliced.{sliced}
+use Rattle.arrow_growable.proofs.Common.{◌≡◌, ◌+◌, ◌-◌, ◌≤◌, pos, get_or, replicate, sliced}
 use Rattle.arrow_growable.proofs.growable.union_runs.same_ids.Given as goal
 
 -- the ids so far are the same

@@ -1,8 +1,5 @@
-use Rattle.std.proofs.Common.{arith, ◌+◌, ◌++◌, [], ◌∷◌, pos, w32, map, ap, sym, ◌∙◌}
-use Rattle.std.specs.List.{range_with_len}
-use Rattle.std.proofs.lemmas.Int.{to_z_pos}
+use Rattle.arrow_growable.proofs.Common.{arith, ◌+◌, ◌++◌, [], ◌∷◌, pos, w32, map, ap, sym, ◌∙◌, range_with_len, to_z_pos, map-range_with_len_more}
 use Rattle.std.proofs.lemmas.List.{append_assoc}
-use Rattle.std.proofs.lemmas.List.FromFn.{map-range_with_len_more}
 use Rattle.arrow_growable.proofs.growable.variants.append_places.Goals as goal
 
 pub loop-i-preserved : goal.loop-i-preserved

@@ -1,5 +1,4 @@
-use Rattle.std.proofs.Common.{◌≡◌, ◌++◌, pos, map}
-use Rattle.std.specs.List.{range_with_len}
+use Rattle.arrow_growable.proofs.Common.{◌≡◌, ◌++◌, pos, map, range_with_len}
 use Rattle.arrow_growable.proofs.growable.variants.append_places.Given as goal
 
 -- the offsets so far are appended

@@ -1,5 +1,4 @@
-use Rattle.std.proofs.Common.{Err, ap}
-use Rattle.arrow_flat_growable.proofs.ResultLemmas.{on_ok, passed_on}
+use Rattle.arrow_growable.proofs.Common.{Err, ap, on_ok, passed_on}
 use Rattle.arrow_growable.proofs.UnionChildLemmas.{on_both}
 use Rattle.arrow_growable.proofs.UnionOthersLemmas.{before_refused, before_well, half_bound, part_refused, part_well, some_child, whole_bound, whole_others, whole_well}
 use Rattle.arrow_growable.proofs.growable.variants.extend_others.Goals as goal

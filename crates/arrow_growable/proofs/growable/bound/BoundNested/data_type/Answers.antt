@@ -1,11 +1,4 @@
-use Rattle.std.proofs.Common.{◌≡◌, Bor, map, subst}
-use Rattle.arrow_types.specs.Carried.{IsCarried}
-use Rattle.arrow_types.specs.Physical.{physical_type_of}
-use Rattle.arrow_arrays.specs.Any.{fixed_size_list_kind, kind_in, list_kind, map_kind, struct_kind}
-use Rattle.arrow_arrays.specs.FixedListParts.{fixed_list_layout}
-use Rattle.arrow_arrays.specs.ListParts.{list_layout}
-use Rattle.arrow_arrays.specs.StructParts.{struct_layout}
-use Rattle.arrow_flat_growable.specs.Grown.{first_type}
+use Rattle.arrow_growable.proofs.Common.{◌≡◌, Bor, map, subst, IsCarried, physical_type_of, fixed_size_list_kind, kind_in, list_kind, map_kind, struct_kind, fixed_list_layout, list_layout, struct_layout, first_type}
 use Rattle.arrow_growable.proofs.KindLemmas.{nested_fixed_size_lists, nested_lists, nested_maps, nested_structs}
 use Rattle.arrow_growable.proofs.growable.bound.BoundNested.data_type.Goals as goal
 

@@ -1,9 +1,4 @@
-use Rattle.std.proofs.Common.{Bor, map, subst}
-use Rattle.arrow_arrays.specs.FixedListParts.{fixed_list_layout}
-use Rattle.arrow_arrays.specs.ListParts.{list_layout}
-use Rattle.arrow_arrays.specs.StructParts.{struct_layout}
-use Rattle.arrow_flat_growable.specs.Grown.{source_at}
-use Rattle.arrow_growable.specs.Lies.{Lies}
+use Rattle.arrow_growable.proofs.Common.{Bor, map, subst, fixed_list_layout, list_layout, struct_layout, source_at, Lies}
 use Rattle.arrow_growable.proofs.growable.bound.BoundNested.spans.Goals as goal
 
 pub returns-in-Lists : goal.returns-in-Lists

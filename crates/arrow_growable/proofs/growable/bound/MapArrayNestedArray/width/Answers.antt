@@ -1,5 +1,4 @@
-use Rattle.std.proofs.Common.{ap}
-use Rattle.arrow_arrays.proofs.ShapeLemmas.{shape_of}
+use Rattle.arrow_growable.proofs.Common.{ap, shape_of}
 use Rattle.arrow_growable.proofs.KindLemmas.{type_of_maps}
 use Rattle.arrow_growable.proofs.SourceLemmas.{list_types}
 use Rattle.arrow_growable.proofs.growable.bound.MapArrayNestedArray.width.Goals as goal

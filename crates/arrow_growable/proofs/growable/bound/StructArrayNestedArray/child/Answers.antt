@@ -1,4 +1,4 @@
-use Rattle.std.proofs.Common.{arith}
+use Rattle.arrow_growable.proofs.Common.{arith}
 use Rattle.arrow_growable.proofs.SourceLemmas.{value_is, value_there}
 use Rattle.arrow_growable.proofs.growable.bound.StructArrayNestedArray.child.Goals as goal
 

@@ -1,6 +1,4 @@
-use Rattle.std.proofs.Common.{length, ap, sym, ◌∙◌}
-use Rattle.std.proofs.lemmas.List.{length-map}
-use Rattle.arrow_arrays.specs.Any.{layout_of}
+use Rattle.arrow_growable.proofs.Common.{length, ap, sym, ◌∙◌, length-map, layout_of}
 use Rattle.arrow_growable.proofs.KindLemmas.{type_of_structs}
 use Rattle.arrow_growable.proofs.SourceLemmas.{from_to, struct_types}
 use Rattle.arrow_growable.proofs.growable.bound.StructArrayNestedArray.width.Goals as goal

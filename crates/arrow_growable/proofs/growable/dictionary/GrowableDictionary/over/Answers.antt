@@ -1,20 +1,6 @@
-use Rattle.std.proofs.Common.{arith, ◌≡◌, ◌∙◌, ◌++◌, Bor, false, get_or, length, map, ap, sym, subst}
+use Rattle.arrow_growable.proofs.Common.{arith, ◌≡◌, ◌∙◌, ◌++◌, Bor, false, get_or, length, map, ap, sym, subst, get_or_default, IsCarried, physical_type_of, mask, type_of, values_in, any_array_rows, layout_of, AreKeys, keyed_layout, type_of_layout, BindsAll, first_type, BindsKeys, grown_key_type, key_slots, key_sources, first_is, IsGrownDictionary}
 use Rattle.std.specs.List.{All}
-use Rattle.std.proofs.lemmas.List.{get_or_default}
 use Rattle.arrow_types.specs.declared.datatypes.physical_type.PhysicalType.TheVariants as physical
-use Rattle.arrow_types.specs.Carried.{IsCarried}
-use Rattle.arrow_types.specs.Physical.{physical_type_of}
-use Rattle.arrow_types.specs.Rows.{mask}
-use Rattle.arrow_types.specs.TypeOf.{type_of}
-use Rattle.arrow_flat.specs.DictionaryScalar.{values_in}
-use Rattle.arrow_arrays.specs.Any.{any_array_rows, layout_of}
-use Rattle.arrow_arrays.specs.KeyedParts.{AreKeys, keyed_layout}
-use Rattle.arrow_arrays.specs.Layout.{type_of_layout}
-use Rattle.arrow_flat_growable.specs.Flat.{BindsAll}
-use Rattle.arrow_flat_growable.specs.Grown.{first_type}
-use Rattle.arrow_flat_growable.specs.Keys.{BindsKeys, grown_key_type, key_slots, key_sources}
-use Rattle.arrow_flat_growable.proofs.FlatLemmas.{first_is}
-use Rattle.arrow_growable.specs.Dictionary.{IsGrownDictionary}
 use Rattle.arrow_growable.proofs.MakeLemmas.{type_at}
 use Rattle.arrow_growable.proofs.growable.dictionary.GrowableDictionary.over.Goals as goal
 

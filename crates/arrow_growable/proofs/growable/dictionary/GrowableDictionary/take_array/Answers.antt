@@ -1,11 +1,4 @@
-use Rattle.std.proofs.Common.{◌≡◌, length, map, ap, sym, ◌∙◌, rules}
-use Rattle.arrow_types.specs.Rows.{mask, masked}
-use Rattle.arrow_types.specs.TypeOf.{type_of}
-use Rattle.arrow_arrays.specs.Any.{layout_of}
-use Rattle.arrow_arrays.specs.AnyKeys.{key_rows}
-use Rattle.arrow_arrays.specs.KeyedParts.{keys_in}
-use Rattle.arrow_arrays.specs.Layout.{keyed_item, rows}
-use Rattle.arrow_flat_growable.specs.Keys.{key_slots}
+use Rattle.arrow_growable.proofs.Common.{◌≡◌, length, map, ap, sym, ◌∙◌, rules, mask, masked, type_of, layout_of, key_rows, keys_in, keyed_item, rows, key_slots}
 use Rattle.arrow_growable.proofs.growable.dictionary.GrowableDictionary.take_array.Goals as goal
 
 pub returns-clause-ok : goal.returns-clause-ok

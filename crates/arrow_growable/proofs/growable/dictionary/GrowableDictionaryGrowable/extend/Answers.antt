@@ -1,24 +1,5 @@
-use Rattle.std.proofs.Common.{arith, ◌≡◌, ◌+◌, Bor, Err, Some, false, inl, inr, length, map, ap, sym, subst, ◌∙◌, rules}
-use Rattle.std.proofs.lemmas.List.{length-map}
-use Rattle.std.specs.Prelude.{option_copied}
-use Rattle.std.specs.Vec.{vec_len}
+use Rattle.arrow_growable.proofs.Common.{arith, ◌≡◌, ◌+◌, Bor, Err, Some, false, inl, inr, length, map, ap, sym, subst, ◌∙◌, rules, length-map, option_copied, vec_len, greatest_number, IsCarriedAs, type_of, sliced, length-sliced, any_array_rows, key_rows, keyed_layout, keyed_rows, rows, shape_of, CannotHold, NamesRows, source_at, BindsAll, BindsKeys, key_slots, too_many, passed_on, AreUncrowded, HoldsKeys, dictionary_rows}
 use Rattle.arrow_types.specs.declared.datatypes.physical_type.PhysicalType.TheVariants as physical
-use Rattle.arrow_types.specs.Greatest.{greatest_number}
-use Rattle.arrow_flat.specs.Faults.{IsCarriedAs}
-use Rattle.arrow_types.specs.TypeOf.{type_of}
-use Rattle.arrow_memory.specs.Sliced.{sliced}
-use Rattle.arrow_memory.proofs.SlicedLemmas.{length-sliced}
-use Rattle.arrow_arrays.specs.Any.{any_array_rows}
-use Rattle.arrow_arrays.specs.AnyKeys.{key_rows}
-use Rattle.arrow_arrays.specs.KeyedParts.{keyed_layout, keyed_rows}
-use Rattle.arrow_arrays.specs.Layout.{rows}
-use Rattle.arrow_arrays.proofs.ShapeLemmas.{shape_of}
-use Rattle.arrow_flat_growable.specs.Grown.{CannotHold, NamesRows, source_at}
-use Rattle.arrow_flat_growable.specs.Flat.{BindsAll}
-use Rattle.arrow_flat_growable.specs.Keys.{BindsKeys, key_slots}
-use Rattle.arrow_flat_growable.proofs.FlatLemmas.{too_many}
-use Rattle.arrow_flat_growable.proofs.ResultLemmas.{passed_on}
-use Rattle.arrow_growable.specs.Dictionary.{AreUncrowded, HoldsKeys, dictionary_rows}
 use Rattle.arrow_growable.proofs.DictionaryLemmas.{Names, counted_fit, fits_uncrowded, greatest_named, holds_named, marks_cover, names_from, passes_crowded, rows_counted, rows_long, rows_named, same_keys, source}
 use Rattle.arrow_growable.proofs.growable.dictionary.GrowableDictionaryGrowable.extend.Goals as goal
 

@@ -1,17 +1,5 @@
-use Rattle.std.proofs.Common.{arith, ◌≡◌, ◌+◌, ◌++◌, Bor, Some, false, length, map, replicate, ap, sym, subst, ◌∙◌}
-use Rattle.std.proofs.lemmas.List.{length-replicate}
+use Rattle.arrow_growable.proofs.Common.{arith, ◌≡◌, ◌+◌, ◌++◌, Bor, Some, false, length, map, replicate, ap, sym, subst, ◌∙◌, length-replicate, Null, null_slot, type_of, IsCarriedAs, any_array_rows, keyed_layout, dictionary_shape, null_slot-shape, shape_of, FitsWith, null_rows_of, BindsAll, BindsKeys, key_slots, too_many, HoldsKeys, dictionary_rows}
 use Rattle.arrow_types.specs.declared.datatypes.physical_type.PhysicalType.TheVariants as physical
-use Rattle.arrow_types.specs.Slot.{Null, null_slot}
-use Rattle.arrow_types.specs.TypeOf.{type_of}
-use Rattle.arrow_flat.specs.Faults.{IsCarriedAs}
-use Rattle.arrow_arrays.specs.Any.{any_array_rows}
-use Rattle.arrow_arrays.specs.KeyedParts.{keyed_layout}
-use Rattle.arrow_arrays.proofs.ShapeLemmas.{dictionary_shape, null_slot-shape, shape_of}
-use Rattle.arrow_flat_growable.specs.Grown.{FitsWith, null_rows_of}
-use Rattle.arrow_flat_growable.specs.Flat.{BindsAll}
-use Rattle.arrow_flat_growable.specs.Keys.{BindsKeys, key_slots}
-use Rattle.arrow_flat_growable.proofs.FlatLemmas.{too_many}
-use Rattle.arrow_growable.specs.Dictionary.{HoldsKeys, dictionary_rows}
 use Rattle.arrow_growable.proofs.DictionaryLemmas.{counted_fit, holds_nulls, nulls_behind, rows_counted}
 use Rattle.arrow_growable.proofs.growable.dictionary.GrowableDictionaryGrowable.extend_validity.Goals as goal
 

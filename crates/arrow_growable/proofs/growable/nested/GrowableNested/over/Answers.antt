@@ -1,12 +1,4 @@
-use Rattle.std.proofs.Common.{◌≡◌, Some, false, map, ap, sym, subst, ◌∙◌, rules}
-use Rattle.arrow_types.specs.Carried.{IsCarried}
-use Rattle.arrow_types.specs.TypeOf.{type_of}
-use Rattle.arrow_flat_growable.specs.Grown.{first_type}
-use Rattle.arrow_growable.specs.AnyGrowable.{grown_of}
-use Rattle.arrow_growable.specs.Bound.{bound_layouts}
-use Rattle.arrow_growable.specs.Form.{nested_rows}
-use Rattle.arrow_growable.specs.GrowableSpans.{form_of}
-use Rattle.arrow_growable.specs.Nested.{rows_of_all}
+use Rattle.arrow_growable.proofs.Common.{◌≡◌, Some, false, map, ap, sym, subst, ◌∙◌, rules, IsCarried, type_of, first_type, grown_of, bound_layouts, nested_rows, form_of, rows_of_all}
 use Rattle.arrow_growable.proofs.GrownLemmas.{no_rows}
 use Rattle.arrow_growable.proofs.StepLemmas.{parts_made}
 use Rattle.arrow_growable.proofs.growable.nested.GrowableNested.over.Goals as goal

@@ -1,6 +1,4 @@
-use Rattle.std.proofs.Common.{arith, ◌+◌, ◌≤◌}
-use Rattle.arrow_flat_growable.proofs.ValidRowLemmas.{run_long}
-use Rattle.arrow_growable.specs.Spans.{span_count, span_place}
+use Rattle.arrow_growable.proofs.Common.{arith, ◌+◌, ◌≤◌, run_long, span_count, span_place}
 use Rattle.arrow_growable.proofs.SpreadLemmas.{bare_run}
 use Rattle.arrow_growable.proofs.StepLemmas.{places_rise}
 use Rattle.arrow_growable.proofs.growable.spans.Spans.have_none_beneath.Goals as goal

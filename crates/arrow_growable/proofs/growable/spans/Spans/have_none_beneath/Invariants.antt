@@ -1,7 +1,4 @@
-use Rattle.std.proofs.Common.{◌≡◌, ◌+◌, ◌-◌, length}
-use Rattle.arrow_memory.specs.Sliced.{sliced}
-use Rattle.arrow_growable.specs.Child.{NoneBeneath}
-use Rattle.arrow_growable.specs.Spans.{span_place}
+use Rattle.arrow_growable.proofs.Common.{◌≡◌, ◌+◌, ◌-◌, length, sliced, NoneBeneath, span_place}
 use Rattle.arrow_growable.proofs.growable.spans.Spans.have_none_beneath.Given as goal
 
 -- where the rows that are left have nothing beneath nulls, no row has

@@ -1,5 +1,4 @@
-use Rattle.std.proofs.Common.{length, ap, ◌∙◌}
-use Rattle.arrow_arrays.specs.Layout.{rows}
+use Rattle.arrow_growable.proofs.Common.{length, ap, ◌∙◌, rows}
 use Rattle.arrow_growable.proofs.KindLemmas.{type_of_fixed_size_lists}
 use Rattle.arrow_growable.proofs.SourceLemmas.{fixed_size_lists_lie}
 use Rattle.arrow_growable.proofs.growable.spans.Spans.of_fixed_size_lists.Goals as goal

@@ -1,6 +1,4 @@
-use Rattle.std.proofs.Common.{ap, sym, ◌∙◌}
-use Rattle.arrow_arrays.specs.AnyOffsetsBuffer.{lists_of, offsets_of}
-use Rattle.arrow_arrays.proofs.ShapeLemmas.{shape_of}
+use Rattle.arrow_growable.proofs.Common.{ap, sym, ◌∙◌, lists_of, offsets_of, shape_of}
 use Rattle.arrow_growable.proofs.SourceLemmas.{large_lists_lie, list_source, lists_lie}
 use Rattle.arrow_growable.proofs.growable.spans.Spans.of_lists.Goals as goal
 

@@ -1,5 +1,4 @@
-use Rattle.std.proofs.Common.{ap}
-use Rattle.arrow_arrays.proofs.ShapeLemmas.{shape_of}
+use Rattle.arrow_growable.proofs.Common.{ap, shape_of}
 use Rattle.arrow_growable.proofs.KindLemmas.{type_of_maps}
 use Rattle.arrow_growable.proofs.SourceLemmas.{list_source, maps_lie}
 use Rattle.arrow_growable.proofs.growable.spans.Spans.of_maps.Goals as goal

@@ -1,11 +1,5 @@
-use Rattle.std.proofs.Common.{rules, ◌≡◌, Some, false, Bor, map, ap, subst, ◌∙◌}
+use Rattle.arrow_growable.proofs.Common.{rules, ◌≡◌, Some, false, Bor, map, ap, subst, ◌∙◌, type_of, IsCarriedAs, union_layout, first_type, grown_of, no_offsets, offsets_in}
 use Rattle.arrow_types.specs.declared.datatypes.physical_type.PhysicalType.TheVariants as physical
-use Rattle.arrow_types.specs.TypeOf.{type_of}
-use Rattle.arrow_flat.specs.Faults.{IsCarriedAs}
-use Rattle.arrow_arrays.specs.UnionParts.{union_layout}
-use Rattle.arrow_flat_growable.specs.Grown.{first_type}
-use Rattle.arrow_growable.specs.AnyGrowable.{grown_of}
-use Rattle.arrow_growable.specs.GrownUnion.{no_offsets, offsets_in}
 use Rattle.arrow_growable.proofs.UnionMakeLemmas.{made_union, no_variants}
 use Rattle.arrow_growable.proofs.growable.union.GrowableUnion.over.Goals as goal
 
