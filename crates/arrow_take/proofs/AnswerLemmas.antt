@@ -1,18 +1,5 @@
 -- Answers that pass an error on, and those that a growable hands out.
-use Rattle.std.proofs.Common.{◌≡◌, ◌∙◌, true, false, List, Result, Ok, Err, ap, refl, sym, subst}
-use Rattle.std.specs.Prelude.{IfOk}
-use Rattle.std.specs.Result.{IsErrAnd}
-use Rattle.arrow_types.specs.declared.error.Error.{Error}
-use Rattle.arrow_types.specs.declared.error.Error.TheVariants.{Failed, OutOfMemory, Overflow}
-use Rattle.arrow_types.specs.ArrowType.{ArrowType}
-use Rattle.arrow_types.specs.Fits.{Fits}
-use Rattle.arrow_types.specs.Slot.{Slot}
-use Rattle.arrow_memory.specs.Grown.{IsGrowthError}
-use Rattle.arrow_arrays.specs.Layout.{Layout}
-use Rattle.arrow_flat_growable.specs.Grown.{Grown, HandsOut, first_type}
-use Rattle.arrow_flat_growable.proofs.ResultLemmas.{passed_on}
-use Rattle.arrow_growable.specs.Growing.{HasAppended}
-use Rattle.arrow_take.specs.Answers.{Answers}
+use Rattle.arrow_take.proofs.Common.{◌≡◌, ◌∙◌, true, false, List, Result, Ok, Err, ap, refl, sym, subst, IfOk, IsErrAnd, Error, Failed, OutOfMemory, Overflow, ArrowType, Fits, Slot, IsGrowthError, Layout, Grown, HandsOut, first_type, passed_on, HasAppended, Answers}
 
 module _ {A : Type 0} (type_in : A → ArrowType) (rows_in : A → List Slot) where
   -- a growth that was refused

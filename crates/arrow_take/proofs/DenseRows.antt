@@ -1,31 +1,6 @@
 -- Rows of a dense union whose children have the rows of their own ids, one behind the other: each row by its rank.
-use Rattle.std.proofs.Common.{arith, ◌≡◌, ◌+◌, ◌<◌, ◌≤◌, ◌^◌, ℕ, zero, suc, ℤ, pos, Bool, true, false, Some, List, [], ◌∷◌, length, map, get_or, take, if◌then◌else◌, refl, ap, sym, subst, ◌∙◌}
-use Rattle.std.specs.Prelude.{cond, count_by}
-use Rattle.std.specs.List.{All, range_with_len, zip}
-use Rattle.std.specs.Ordering.{int_eq}
-use Rattle.std.proofs.lemmas.Bool.Decides.{Decides-int_eq}
-use Rattle.std.proofs.lemmas.List.{get_or-map, get_or_default, length-map, same_lists}
-use Rattle.std.proofs.lemmas.List.FromFn.{get_or-range_with_len, length-range_with_len}
-use Rattle.std.proofs.lemmas.List.Sums.{sum_by-cons}
-use Rattle.std.proofs.lemmas.Simd.{map-map}
-use Rattle.std.proofs.lemmas.Slice.Zip.{get_or-zip, length-zip}
-use Rattle.arrow_types.specs.declared.datatypes.UnionMode.TheVariants.{Dense}
+use Rattle.arrow_take.proofs.Common.{arith, ◌≡◌, ◌+◌, ◌<◌, ◌≤◌, ◌^◌, ℕ, zero, suc, ℤ, pos, Bool, true, false, Some, List, [], ◌∷◌, length, map, get_or, take, if◌then◌else◌, refl, ap, sym, subst, ◌∙◌, cond, count_by, All, range_with_len, zip, int_eq, Decides-int_eq, get_or-map, get_or_default, length-map, same_lists, get_or-range_with_len, length-range_with_len, sum_by-cons, map-map, get_or-zip, length-zip, Dense, ArrowType, Fits, dense_part, Slot, Null, Variant, id_at, IsCarriedAs, AnyArray, layout_of, column_of_id, field_ids, rows, type_of_layout, union_items, variant_at, field_types, mode_in, FitsOffsets, IsInside, IsKnown, union_rows, field_part, part_of_id, variant_type, rows_are, FitsPlaces, fits_variants, ids_apart, variant_fits, AreApart, own_column, AreFew, SomeRankPasses, rank_at, ranks, HaveParts}
 use Rattle.arrow_types.specs.declared.datatypes.physical_type.PhysicalType.TheVariants as physical
-use Rattle.arrow_types.specs.ArrowType.{ArrowType}
-use Rattle.arrow_types.specs.Fits.{Fits, dense_part}
-use Rattle.arrow_types.specs.Slot.{Slot, Null, Variant, id_at}
-use Rattle.arrow_flat.specs.Faults.{IsCarriedAs}
-use Rattle.arrow_arrays.specs.declared.array.any.AnyArray.{AnyArray}
-use Rattle.arrow_arrays.specs.Any.{layout_of}
-use Rattle.arrow_arrays.specs.Layout.{column_of_id, field_ids, rows, type_of_layout, union_items, variant_at}
-use Rattle.arrow_arrays.specs.TypeParts.{field_types, mode_in}
-use Rattle.arrow_arrays.specs.UnionParts.{FitsOffsets, IsInside, IsKnown, union_rows}
-use Rattle.arrow_growable.specs.Variants.{field_part, part_of_id, variant_type}
-use Rattle.arrow_growable.proofs.UnionRunLemmas.{rows_are}
-use Rattle.arrow_growable.proofs.UnionTypeLemmas.{FitsPlaces, fits_variants, ids_apart, variant_fits}
-use Rattle.arrow_growable.proofs.VariantColumns.{AreApart, own_column}
-use Rattle.arrow_take.specs.DenseUnions.{AreFew, SomeRankPasses, rank_at, ranks}
-use Rattle.arrow_take.specs.SparseUnions.{HaveParts}
 use Rattle.arrow_take.proofs.SparseRows.{array_fits, column_of, item_at, types_of}
 
 -- each row has the id of its place

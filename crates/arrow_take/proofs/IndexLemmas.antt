@@ -1,23 +1,6 @@
 -- Rows by index: what is stored by index, under the validity by index.
-use Rattle.std.proofs.Common.{arith, ◌≡◌, ◌/◌, ◌^◌, ◌==◌, ℕ, suc, ◌<◌, ℤ, pos, negsuc, Bool, true, false, not, Option, Some, None, List, [], ◌∷◌, ◌++◌, ◌+◌, ◌≤◌, length, map, take, take-add, get_or, nat_eq, bit_and, replicate, if◌then◌else◌, refl, ap, sym, subst, ◌∙◌, append_assoc}
-use Rattle.std.specs.Prelude.{IfSome, slice_get, slice_index_or, option_map, unwrap_or}
-use Rattle.std.specs.Int.{bit_at}
-use Rattle.std.specs.List.{All}
-use Rattle.std.proofs.lemmas.List.{get_or-replicate, get_or_default, length-map, length-replicate, map-append, take_all}
-use Rattle.std.proofs.lemmas.Simd.{map-map}
-use Rattle.std.proofs.lemmas.Nat.Bits.{shr_and_one}
-use Rattle.std.proofs.lemmas.Option.{get_or_from_slice_get, slice_get-get_or, slice_get-map, slice_get_read, slice_get_within}
-use Rattle.arrow_types.specs.ArrowType.{ArrowType}
-use Rattle.arrow_types.specs.Rows.{gather, gathered, mask, masked, valid_at}
-use Rattle.arrow_types.specs.Slot.{Slot, Null, Boolean, Number, DayTime, MonthDayNano, Bytes, Text, Items, Parts as fields, Dict, Variant, null_slot}
-use Rattle.arrow_types.proofs.RowsLemmas.{slice_get-mask, take_at_read}
-use Rattle.arrow_memory.specs.Sliced.{sliced}
-use Rattle.arrow_flat.specs.Parts.{FitsRows, IsValue}
-use Rattle.arrow_flat.proofs.PartsLemmas.{bit_within, length-masked, row_at}
-use Rattle.arrow_flat.proofs.PieceLemmas.{slot_of_row}
-use Rattle.arrow_arrays.specs.KeyedParts.{AreKeys, IsKey, key_in}
-use Rattle.arrow_arrays.proofs.KeyLemmas.{null_row, number_row}
-use Rattle.arrow_take.specs.Taken.{MarksTaken, is_taken_valid, named_bit, picked, valid_index}
+use Rattle.arrow_take.proofs.Common.{arith, ◌≡◌, ◌/◌, ◌^◌, ◌==◌, ℕ, suc, ◌<◌, ℤ, pos, negsuc, Bool, true, false, not, Option, Some, None, List, [], ◌∷◌, ◌++◌, ◌+◌, ◌≤◌, length, map, take, take-add, get_or, nat_eq, bit_and, replicate, if◌then◌else◌, refl, ap, sym, subst, ◌∙◌, append_assoc, IfSome, slice_get, slice_index_or, option_map, unwrap_or, bit_at, All, get_or-replicate, get_or_default, length-map, length-replicate, map-append, take_all, map-map, shr_and_one, get_or_from_slice_get, slice_get-get_or, slice_get-map, slice_get_read, slice_get_within, ArrowType, gather, gathered, mask, masked, valid_at, Slot, Null, Boolean, Number, DayTime, MonthDayNano, Bytes, Text, Items, Dict, Variant, null_slot, slice_get-mask, take_at_read, sliced, FitsRows, IsValue, bit_within, length-masked, row_at, slot_of_row, AreKeys, IsKey, key_in, null_row, number_row, MarksTaken, is_taken_valid, named_bit, picked, valid_index}
+use Rattle.arrow_types.specs.Slot.{Parts as fields}
 
 -- functions that agree on each member
 pub map-agree : {A B : Type 0} (P : A → Type 0) (f g : A → B) → ((x : A) → P x → f x ≡ g x) → (xs : List A) → All P xs → map f xs ≡ map g xs

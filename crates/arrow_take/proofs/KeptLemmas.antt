@@ -1,17 +1,5 @@
 -- What a mask keeps of a list: behind one row more, under a validity, and of places that indices name.
-use Rattle.std.proofs.Common.{arith, ◌≡◌, ◌+◌, ◌<◌, ◌≤◌, ℕ, zero, suc, ℤ, Bool, true, false, Some, None, Option, List, [], ◌∷◌, ◌++◌, length, map, get_or, set, take, if◌then◌else◌, refl, ap, sym, subst, ◌∙◌}
-use mir.Val.{bool_byte}
-use Rattle.std.specs.Prelude.{cond, option_map}
-use Rattle.std.specs.List.{All}
-use Rattle.std.specs.Ordering.{int_eq}
-use Rattle.std.proofs.lemmas.List.{append-nil, take-set, take_more_set}
-use Rattle.std.proofs.lemmas.List.Elements.{All-cons, All-nil}
-use Rattle.arrow_types.specs.ArrowType.{ArrowType}
-use Rattle.arrow_types.specs.Fits.{dense_part}
-use Rattle.arrow_types.specs.Rows.{gathered, mask, masked}
-use Rattle.arrow_types.specs.Slot.{Slot, Null, Variant}
-use Rattle.arrow_flat.specs.Parts.{FitsRows}
-use Rattle.arrow_take.specs.DenseUnions.{kept}
+use Rattle.arrow_take.proofs.Common.{arith, ◌≡◌, ◌+◌, ◌<◌, ◌≤◌, ℕ, zero, suc, ℤ, Bool, true, false, Some, None, Option, List, [], ◌∷◌, ◌++◌, length, map, get_or, set, take, if◌then◌else◌, refl, ap, sym, subst, ◌∙◌, bool_byte, cond, option_map, All, int_eq, append-nil, take-set, take_more_set, All-cons, All-nil, ArrowType, dense_part, gathered, mask, masked, Slot, Null, Variant, FitsRows, kept}
 
 -- the row more that is kept, if it is
 abbrev pub one_kept : {A : Type 0} → Bool → A → List A

@@ -1,18 +1,5 @@
 -- How many rows before each have its type id: one row more, counted by id.
-use Rattle.std.proofs.Common.{arith, ◌≡◌, ◌+◌, ◌<◌, ◌≤◌, ◌^◌, ◌⊎◌, inl, inr, ℕ, ℤ, pos, negsuc, Bool, true, false, List, [], ◌∷◌, ◌++◌, length, map, get_or, set, take, refl, ap, sym, subst, ◌∙◌}
-use lib.IntN.{nat_abs}
-use Rattle.std.specs.Prelude.{count_by}
-use Rattle.std.specs.List.{range_with_len}
-use Rattle.std.specs.Ordering.{int_eq}
-use Rattle.std.proofs.lemmas.Bool.Decides.{Decides-int_eq}
-use Rattle.std.proofs.lemmas.Int.{ints}
-use Rattle.std.proofs.lemmas.List.{get_or-set_same, get_or-set_other, map-append, take_all}
-use Rattle.std.proofs.lemmas.List.FromFn.{map-range_with_len_more}
-use Rattle.std.proofs.lemmas.List.Sums.{count_by_more_no, count_by_more_yes}
-use Rattle.arrow_types.specs.Carried.{IsTypeId}
-use Rattle.arrow_arrays.proofs.UnionLemmas.{not_told}
-use Rattle.arrow_growable.proofs.UnionTypeLemmas.{before_or_same}
-use Rattle.arrow_take.specs.DenseUnions.{AreFew, rank_at}
+use Rattle.arrow_take.proofs.Common.{arith, ◌≡◌, ◌+◌, ◌<◌, ◌≤◌, ◌^◌, ◌⊎◌, inl, inr, ℕ, ℤ, pos, negsuc, Bool, true, false, List, [], ◌∷◌, ◌++◌, length, map, get_or, set, take, refl, ap, sym, subst, ◌∙◌, nat_abs, count_by, range_with_len, int_eq, Decides-int_eq, ints, get_or-set_same, get_or-set_other, map-append, take_all, map-range_with_len_more, count_by_more_no, count_by_more_yes, IsTypeId, not_told, before_or_same, AreFew, rank_at}
 
 -- a type id as a place of a list
 pub id_placed : (id : ℤ) → IsTypeId id → (id ≡ pos (nat_abs id)) × (nat_abs id < 128)

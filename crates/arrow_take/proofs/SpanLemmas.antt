@@ -1,9 +1,5 @@
 -- Bytes of spans, one span at a time.
-use Rattle.std.proofs.Common.{arith, ◌≡◌, ◌≤◌, ◌∙◌, ℕ, List, [], ◌∷◌, ◌++◌, ap, map}
-use Rattle.std.specs.List.{All, concat}
-use Rattle.std.proofs.lemmas.List.{append-nil, map-append}
-use Rattle.std.proofs.lemmas.List.Folds.{concat-append}
-use Rattle.arrow_take.specs.Spans.{IsSpanWithin, span_bytes, spanned}
+use Rattle.arrow_take.proofs.Common.{arith, ◌≡◌, ◌≤◌, ◌∙◌, ℕ, List, [], ◌∷◌, ◌++◌, ap, map, All, concat, append-nil, map-append, concat-append, IsSpanWithin, span_bytes, spanned}
 
 -- one span more
 pub spanned_more : (bytes : List ℕ) (spans new : List (ℕ × ℕ)) (span : ℕ × ℕ) → new ≡ spans ++ span ∷ [] → spanned bytes new ≡ spanned bytes spans ++ span_bytes bytes span

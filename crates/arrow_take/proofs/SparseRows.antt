@@ -1,31 +1,6 @@
 -- Rows of a sparse union, by their type ids and what each field has of them: they fit where that does.
-use Rattle.std.proofs.Common.{arith, ◌≡◌, ◌+◌, ◌<◌, ◌^◌, ◌⊎◌, inl, inr, ℕ, zero, suc, ℤ, pos, None, List, [], ◌∷◌, ◌++◌, length, map, get_or, if◌then◌else◌, refl, ap, sym, subst, ◌∙◌}
-use Rattle.std.specs.List.{All, range_with_len, zip}
-use Rattle.std.proofs.lemmas.Bool.Decides.{Decides-int_eq}
-use Rattle.std.proofs.lemmas.List.{get_or-map, get_or_append_left, get_or_default, length-append, length-map, same_lists}
-use Rattle.std.proofs.lemmas.List.Elements.{All-cons, All-nil}
-use Rattle.std.proofs.lemmas.List.FromFn.{get_or-range_with_len, length-range_with_len}
-use Rattle.std.proofs.Math.Nat.{eq-or-lt_of_le}
-use Rattle.std.proofs.Math.Seq.{get_or-append_seam}
-use Rattle.std.proofs.lemmas.Simd.{map-map}
-use Rattle.std.proofs.lemmas.Slice.Zip.{get_or-zip, length-zip}
-use Rattle.arrow_types.specs.declared.datatypes.UnionMode.TheVariants.{Sparse}
+use Rattle.arrow_take.proofs.Common.{arith, ◌≡◌, ◌+◌, ◌<◌, ◌^◌, ◌⊎◌, inl, inr, ℕ, zero, suc, ℤ, pos, None, List, [], ◌∷◌, ◌++◌, length, map, get_or, if◌then◌else◌, refl, ap, sym, subst, ◌∙◌, All, range_with_len, zip, Decides-int_eq, get_or-map, get_or_append_left, get_or_default, length-append, length-map, same_lists, All-cons, All-nil, get_or-range_with_len, length-range_with_len, eq-or-lt_of_le, get_or-append_seam, map-map, get_or-zip, length-zip, Sparse, ArrowType, null, plain, Fits, sparse_part, Slot, Null, Variant, id_at, null_slot, IsCarriedAs, AnyArray, any_array_rows, any_array_type, layout_of, column_of_id, field_ids, rows, type_of_layout, union_items, variant_at, HaveRows, field_types, mode_in, IsKnown, union_rows, field_part, part_of_id, variant_type, rows_are, FitsPlaces, fits_variants, ids_apart, AreApart, own_column, HasPart, HaveParts}
 use Rattle.arrow_types.specs.declared.datatypes.physical_type.PhysicalType.TheVariants as physical
-use Rattle.arrow_types.specs.ArrowType.{ArrowType, null, plain}
-use Rattle.arrow_types.specs.Fits.{Fits, sparse_part}
-use Rattle.arrow_types.specs.Slot.{Slot, Null, Variant, id_at, null_slot}
-use Rattle.arrow_flat.specs.Faults.{IsCarriedAs}
-use Rattle.arrow_arrays.specs.declared.array.any.AnyArray.{AnyArray}
-use Rattle.arrow_arrays.specs.Any.{any_array_rows, any_array_type, layout_of}
-use Rattle.arrow_arrays.specs.Layout.{column_of_id, field_ids, rows, type_of_layout, union_items, variant_at}
-use Rattle.arrow_arrays.specs.StructParts.{HaveRows}
-use Rattle.arrow_arrays.specs.TypeParts.{field_types, mode_in}
-use Rattle.arrow_arrays.specs.UnionParts.{IsKnown, union_rows}
-use Rattle.arrow_growable.specs.Variants.{field_part, part_of_id, variant_type}
-use Rattle.arrow_growable.proofs.UnionRunLemmas.{rows_are}
-use Rattle.arrow_growable.proofs.UnionTypeLemmas.{FitsPlaces, fits_variants, ids_apart}
-use Rattle.arrow_growable.proofs.VariantColumns.{AreApart, own_column}
-use Rattle.arrow_take.specs.SparseUnions.{HasPart, HaveParts}
 
 -- one row of a union, by its type id and its place
 pub item_at : (ids : _) (columns : List (List Slot)) (types : List ℤ) (places : List ℕ) (i : ℕ) (d : ℤ) → i < length types → i < length places → get_or (union_items ids columns types places) i Null ≡ variant_at ids columns (get_or types i d) (get_or places i 0)

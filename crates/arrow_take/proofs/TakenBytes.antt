@@ -1,34 +1,5 @@
 -- Texts and bytes by index: where the rows end, their bytes, and when there are too many.
-use Rattle.std.proofs.Common.{arith, ◌≡◌, ◌+◌, ◌-◌, ℕ, zero, suc, ◌<◌, ◌≤◌, ◌^◌, Bool, true, false, not, Option, Some, None, List, [], ◌∷◌, length, map, take, get_or, slice_index, if◌then◌else◌, refl, ap, sym, subst, ◌∙◌}
-use Rattle.std.specs.Prelude.{option_map, slice_get, sum, sum_by}
-use Rattle.std.specs.List.{All, concat}
-use Rattle.std.proofs.lemmas.List.{length-map}
-use Rattle.std.proofs.lemmas.List.Elements.{All-map}
-use Rattle.std.proofs.lemmas.Simd.{map-map}
-use Rattle.std.proofs.lemmas.List.Sums.{sum-map, sum_by-cons}
-use Rattle.std.proofs.lemmas.Option.{slice_get-map}
-use Rattle.arrow_types.specs.declared.datatypes.physical_type.PhysicalType.{PhysicalType}
-use Rattle.arrow_types.specs.ArrowType.{ArrowType}
-use Rattle.arrow_types.specs.Fits.{Fits, byte_count}
-use Rattle.arrow_types.specs.Greatest.{greatest_offset}
-use Rattle.arrow_types.specs.Physical.{physical_type_of}
-use Rattle.arrow_types.specs.Rows.{gather, mask, masked, valid_at}
-use Rattle.arrow_types.specs.Slot.{Slot, Null}
-use Rattle.arrow_memory.specs.Offsets.{IsOffsets, last_of, with_row}
-use Rattle.arrow_memory.specs.Sliced.{sliced}
-use Rattle.arrow_memory.proofs.OffsetLemmas.{at_most_last, offsets_rise}
-use Rattle.arrow_memory.proofs.SlicedLemmas.{length-sliced}
-use Rattle.arrow_flat.specs.Parts.{FitsRows}
-use Rattle.arrow_flat.specs.Pieces.{pieces}
-use Rattle.arrow_flat.proofs.PieceLemmas.{holds_at, length-pieces, piece_at}
-use Rattle.arrow_arrays.specs.KeyedParts.{AreKeys, IsKey}
-use Rattle.arrow_flat_growable.specs.ByteLaws.{fits_rows, fits_stored, null_of, slots_fit, slots_pass}
-use Rattle.arrow_flat_growable.specs.Bytes.{IsBytesType, SparesBytes}
-use Rattle.arrow_flat_growable.specs.GrownRows.{total}
-use Rattle.arrow_take.specs.Spans.{IsSpanWithin, span_bytes, spanned}
-use Rattle.arrow_take.specs.Taken.{MarksTaken, is_taken_valid, span_length, taken_bytes, taken_span}
-use Rattle.arrow_memory.specs.Ends.{ends_from}
-use Rattle.arrow_flat_growable.proofs.EndLemmas.{as_concatenated, concatenated_length, ends_last, ends_next, length-ends, rows_between}
+use Rattle.arrow_take.proofs.Common.{arith, ◌≡◌, ◌+◌, ◌-◌, ℕ, zero, suc, ◌<◌, ◌≤◌, ◌^◌, Bool, true, false, not, Option, Some, None, List, [], ◌∷◌, length, map, take, get_or, slice_index, if◌then◌else◌, refl, ap, sym, subst, ◌∙◌, option_map, slice_get, sum, sum_by, All, concat, length-map, All-map, map-map, sum-map, sum_by-cons, slice_get-map, PhysicalType, ArrowType, Fits, byte_count, greatest_offset, physical_type_of, gather, mask, masked, valid_at, Slot, Null, IsOffsets, last_of, with_row, sliced, at_most_last, offsets_rise, length-sliced, FitsRows, pieces, holds_at, length-pieces, piece_at, AreKeys, IsKey, fits_rows, fits_stored, null_of, slots_fit, slots_pass, IsBytesType, SparesBytes, total, IsSpanWithin, span_bytes, spanned, MarksTaken, is_taken_valid, span_length, taken_bytes, taken_span, ends_from, as_concatenated, concatenated_length, ends_last, ends_next, length-ends, rows_between}
 use Rattle.arrow_take.proofs.IndexLemmas.{Stores, each_index, fits_taken, gives_next, map-agree, mask-map, named_valid, rows_taken}
 
 -- where the rows so far end, and one more

@@ -1,24 +1,6 @@
 -- Structs by index: each column by index, under the validity by index.
-use Rattle.std.proofs.Common.{arith, ◌≡◌, ℕ, ◌<◌, ◌^◌, pos, Bool, true, false, Option, Some, None, List, [], ◌∷◌, length, map, get_or, replicate, if◌then◌else◌, refl, ap, sym, subst, ◌∙◌}
-use Rattle.std.specs.Prelude.{slice_index_or, unwrap_or}
-use Rattle.std.specs.List.{All}
-use Rattle.std.proofs.lemmas.List.{get_or-map, length-map}
-use Rattle.std.proofs.lemmas.List.Elements.{All-map}
-use Rattle.std.proofs.lemmas.Option.{get_or_from_slice_get, slice_get-get_or, slice_get_within}
-use Rattle.std.proofs.lemmas.Simd.{map-map}
-use Rattle.arrow_types.specs.ArrowType.{ArrowType}
-use Rattle.arrow_types.specs.Fits.{Fits, part_in}
-use Rattle.arrow_types.specs.Rows.{gather, gathered, masked, valid_at}
-use Rattle.arrow_types.specs.Slot.{Slot, Slots, Null, Number, Parts as fields, more_slots, no_slots, null_slot, to_slots}
-use Rattle.arrow_flat.specs.Parts.{FitsRows}
-use Rattle.arrow_arrays.specs.Any.{any_array_rows, any_array_type, layout_of}
-use Rattle.arrow_arrays.specs.KeyedParts.{AreKeys, IsKey}
-use Rattle.arrow_arrays.specs.Layout.{across, columns_of, rows, stacked, struct_items, to_layouts}
-use Rattle.arrow_arrays.specs.StructParts.{FitsColumns, HaveRows, IsStruct, StructParts, row_count, row_of, struct_rows}
-use Rattle.arrow_arrays.specs.declared.array.any.AnyArray.{AnyArray}
-use Rattle.arrow_arrays.proofs.StructLemmas.{columns_of-to_layouts, length-struct_rows, struct_row_null, struct_row_valid}
-use Rattle.arrow_take.specs.Taken.{MarksTaken, SomeDoNotFit, is_taken_valid, taken_rows, valid_index}
-use Rattle.arrow_growable.proofs.FieldColumns.{column_long, column_of_fits, columns_fit, first_long, part_at, some_column}
+use Rattle.arrow_take.proofs.Common.{arith, ◌≡◌, ℕ, ◌<◌, ◌^◌, pos, Bool, true, false, Option, Some, None, List, [], ◌∷◌, length, map, get_or, replicate, if◌then◌else◌, refl, ap, sym, subst, ◌∙◌, slice_index_or, unwrap_or, All, get_or-map, length-map, All-map, get_or_from_slice_get, slice_get-get_or, slice_get_within, map-map, ArrowType, Fits, part_in, gather, gathered, masked, valid_at, Slot, Slots, Null, Number, more_slots, no_slots, null_slot, to_slots, FitsRows, any_array_rows, any_array_type, layout_of, AreKeys, IsKey, across, columns_of, rows, stacked, struct_items, to_layouts, FitsColumns, HaveRows, IsStruct, StructParts, row_count, row_of, struct_rows, AnyArray, columns_of-to_layouts, length-struct_rows, struct_row_null, struct_row_valid, MarksTaken, SomeDoNotFit, is_taken_valid, taken_rows, valid_index, column_long, column_of_fits, columns_fit, first_long, part_at, some_column}
+use Rattle.arrow_types.specs.Slot.{Parts as fields}
 use Rattle.arrow_take.proofs.IndexLemmas.{Stores, each_index, fits_taken, length-gather, map-agree, named_valid, null_is_none, rows_taken}
 
 -- columns of so many rows, read across

@@ -1,14 +1,5 @@
 -- Dictionaries by index: their keys by index, over the same values.
-use Rattle.std.proofs.Common.{◌≡◌, ℕ, Option, Some, None, List, [], ◌∷◌, map, get_or, refl, ap, sym, subst, ◌∙◌}
-use Rattle.std.specs.Prelude.{slice_get, unwrap_or}
-use Rattle.std.proofs.lemmas.List.Elements.{All-map}
-use Rattle.std.proofs.lemmas.Option.{get_or_from_slice_get, slice_get_within}
-use Rattle.std.proofs.lemmas.Simd.{map-map}
-use Rattle.arrow_types.specs.ArrowType.{ArrowType, null, plain}
-use Rattle.arrow_types.specs.Rows.{gather, gathered}
-use Rattle.arrow_types.specs.Slot.{Slot, Null, null_slot}
-use Rattle.arrow_arrays.specs.KeyedParts.{AreKeys, IsKey, key_in, keys_in}
-use Rattle.arrow_arrays.specs.Layout.{keyed_item}
+use Rattle.arrow_take.proofs.Common.{◌≡◌, ℕ, Option, Some, None, List, [], ◌∷◌, map, get_or, refl, ap, sym, subst, ◌∙◌, slice_get, unwrap_or, All-map, get_or_from_slice_get, slice_get_within, map-map, ArrowType, null, plain, gather, gathered, Slot, Null, null_slot, AreKeys, IsKey, key_in, keys_in, keyed_item}
 use Rattle.arrow_take.proofs.IndexLemmas.{by_key, gather-map, row_by}
 
 -- rows by index, where the null slot of the type is null

@@ -1,32 +1,5 @@
 -- Dense unions by index: what each field has of the rows that are named, by their places in its child.
-use Rattle.std.proofs.Common.{arith, ◌≡◌, ◌+◌, ◌<◌, ◌≤◌, ◌⊎◌, inl, inr, ℕ, ℤ, pos, negsuc, Bool, false, true, if◌then◌else◌, ◌++◌, Some, None, Option, List, [], ◌∷◌, length, map, get_or, refl, ap, sym, subst, ◌∙◌}
-use Rattle.std.specs.Prelude.{IfSome, unwrap_or}
-use Rattle.std.specs.Ordering.{int_eq}
-use Rattle.std.proofs.lemmas.Bool.Decides.{Decides-int_eq}
-use Rattle.std.proofs.lemmas.List.{get_or-map, get_or_append_left, get_or_default, length-map}
-use Rattle.std.proofs.Math.Nat.{eq-or-lt_of_le}
-use Rattle.std.proofs.Math.Seq.{get_or-append_seam}
-use Rattle.std.proofs.lemmas.Option.{slice_get-get_or}
-use Rattle.arrow_types.specs.declared.datatypes.UnionMode.TheVariants.{Dense}
-use Rattle.arrow_types.specs.ArrowType.{ArrowType, null, plain}
-use Rattle.arrow_types.specs.Rows.{gather, gathered, masked, valid_at}
-use Rattle.arrow_types.specs.Slot.{Slot, Null, Number, Variant, id_at, null_slot}
-use Rattle.arrow_flat.specs.Parts.{FitsRows}
-use Rattle.arrow_flat.proofs.PartsLemmas.{length-masked, row_at}
-use Rattle.arrow_arrays.specs.declared.array.any.AnyArray.{AnyArray}
-use Rattle.arrow_arrays.specs.Any.{any_array_rows, any_array_type, layout_of}
-use Rattle.arrow_arrays.specs.KeyedParts.{AreKeys, IsKey, key_in}
-use Rattle.arrow_arrays.specs.Layout.{Layout, depth, depth_of_all, field_ids, rows, to_layouts, type_of_layout}
-use Rattle.arrow_arrays.specs.TypeParts.{field_types, mode_in}
-use Rattle.arrow_arrays.specs.UnionParts.{IsKnown, UnionParts, mode_by, row_in, rows_of_field, union_rows}
-use Rattle.arrow_arrays.proofs.DepthLemmas.{depth_at}
-use Rattle.arrow_arrays.proofs.UnionLemmas.{field_rows}
-use Rattle.arrow_growable.specs.Variants.{field_part, part_of_id, variant_type}
-use Rattle.arrow_growable.proofs.UnionTypeLemmas.{ids_apart, null_variant}
-use Rattle.arrow_growable.proofs.VariantColumns.{AreApart}
-use Rattle.arrow_take.specs.DenseUnions.{ArePlaces, HasUnionParts, IsPlace, NamesPart, NamesRows, kept}
-use Rattle.arrow_take.specs.SparseUnions.{taken_id}
-use Rattle.arrow_growable.specs.Variants.{have_id}
+use Rattle.arrow_take.proofs.Common.{arith, ◌≡◌, ◌+◌, ◌<◌, ◌≤◌, ◌⊎◌, inl, inr, ℕ, ℤ, pos, negsuc, Bool, false, true, if◌then◌else◌, ◌++◌, Some, None, Option, List, [], ◌∷◌, length, map, get_or, refl, ap, sym, subst, ◌∙◌, IfSome, unwrap_or, int_eq, Decides-int_eq, get_or-map, get_or_append_left, get_or_default, length-map, eq-or-lt_of_le, get_or-append_seam, slice_get-get_or, Dense, ArrowType, null, plain, gather, gathered, masked, valid_at, Slot, Null, Number, Variant, id_at, null_slot, FitsRows, length-masked, row_at, AnyArray, any_array_rows, any_array_type, layout_of, AreKeys, IsKey, key_in, Layout, depth, depth_of_all, field_ids, rows, to_layouts, type_of_layout, field_types, mode_in, IsKnown, UnionParts, mode_by, row_in, rows_of_field, union_rows, depth_at, field_rows, field_part, part_of_id, variant_type, ids_apart, null_variant, AreApart, ArePlaces, HasUnionParts, IsPlace, NamesPart, NamesRows, kept, taken_id, have_id}
 use Rattle.arrow_take.proofs.KeptLemmas.{kept_all, kept_gathered}
 use Rattle.arrow_take.proofs.TakenVariants.{union_depth}
 

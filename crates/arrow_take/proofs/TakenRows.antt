@@ -1,32 +1,6 @@
 -- Bytes of a fixed size by index: the rows, one behind the other, and that they fit where their bytes can be counted.
-use Rattle.std.proofs.Common.{arith, ◌≡◌, ◌+◌, ◌-◌, ◌*◌, ◌/◌, ◌%◌, ℕ, suc, ◌<◌, ◌≤◌, ◌^◌, Bool, Option, List, [], ◌∷◌, ◌++◌, length, map, take, drop, get_or, replicate, refl, ap, sym, subst, ◌∙◌, append_assoc}
-use Rattle.std.specs.Prelude.{IfSome, option_map}
-use Rattle.std.specs.List.{All, concat}
-use Rattle.std.proofs.lemmas.List.{append-nil, drop-replicate, length-append, length-map, length-replicate, length-take-le, map-append, take-replicate, take_all}
-use Rattle.std.proofs.lemmas.List.Elements.{All-map, All-take}
-use Rattle.std.proofs.lemmas.List.Folds.{concat-append}
-use Rattle.std.proofs.lemmas.Option.{slice_get-get_or, slice_get-map}
-use Rattle.std.proofs.lemmas.Simd.{map-map}
-use Rattle.std.proofs.Math.Nat.{mul-le-mul_right}
-use Rattle.std.proofs.Math.Seq.{drop-append-add, drop-append_seam, take-append_seam}
+use Rattle.arrow_take.proofs.Common.{arith, ◌≡◌, ◌+◌, ◌-◌, ◌*◌, ◌/◌, ◌%◌, ℕ, suc, ◌<◌, ◌≤◌, ◌^◌, Bool, Option, List, [], ◌∷◌, ◌++◌, length, map, take, drop, get_or, replicate, refl, ap, sym, subst, ◌∙◌, append_assoc, IfSome, option_map, All, concat, append-nil, drop-replicate, length-append, length-map, length-replicate, length-take-le, map-append, take-replicate, take_all, All-map, All-take, concat-append, slice_get-get_or, slice_get-map, map-map, mul-le-mul_right, drop-append-add, drop-append_seam, take-append_seam, ArrowType, Fits, physical_type_of, gather, masked, Slot, Null, Bytes, take_at_read, sliced, length-sliced, FitsBytes, FixedParts, fixed_row_bytes, fixed_size_in, fixed_slots, FitsRows, Parts, rows_by, chunks, chunk_at, length-fixed_slots, length-masked, AreKeys, IsKey, key_in, bytes_fit, whole_product, fits_counted, is_counted, null_of_counted, MarksTaken, taken_row}
 use Rattle.arrow_types.specs.declared.datatypes.physical_type.PhysicalType.TheVariants as physical
-use Rattle.arrow_types.specs.ArrowType.{ArrowType}
-use Rattle.arrow_types.specs.Fits.{Fits}
-use Rattle.arrow_types.specs.Physical.{physical_type_of}
-use Rattle.arrow_types.specs.Rows.{gather, masked}
-use Rattle.arrow_types.specs.Slot.{Slot, Null, Bytes}
-use Rattle.arrow_types.proofs.RowsLemmas.{take_at_read}
-use Rattle.arrow_memory.specs.Sliced.{sliced}
-use Rattle.arrow_memory.proofs.SlicedLemmas.{length-sliced}
-use Rattle.arrow_flat.specs.FixedRows.{FitsBytes, FixedParts, fixed_row_bytes, fixed_size_in, fixed_slots}
-use Rattle.arrow_flat.specs.Parts.{FitsRows, Parts, rows_by}
-use Rattle.arrow_flat.specs.Pieces.{chunks}
-use Rattle.arrow_flat.proofs.FixedLemmas.{chunk_at, length-fixed_slots}
-use Rattle.arrow_flat.proofs.PartsLemmas.{length-masked}
-use Rattle.arrow_arrays.specs.KeyedParts.{AreKeys, IsKey, key_in}
-use Rattle.arrow_arrays.proofs.FitNullLemmas.{bytes_fit, whole_product}
-use Rattle.arrow_flat_growable.specs.FlatLaws.{fits_counted, is_counted, null_of_counted}
-use Rattle.arrow_take.specs.Taken.{MarksTaken, taken_row}
 use Rattle.arrow_take.proofs.IndexLemmas.{Stores, each_index, fits_taken, length-gather, rows_taken}
 
 -- rows of so many bytes, one behind the other

@@ -1,18 +1,5 @@
 -- Runs of indices, and the rows that they name.
-use Rattle.std.proofs.Common.{arith, ◌≡◌, ◌+◌, ℕ, zero, suc, ◌<◌, ◌≤◌, pos, Some, None, List, [], ◌∷◌, ◌++◌, length, take, drop, get_or, replicate, refl, ap, sym, ◌∙◌}
-use Rattle.std.specs.Prelude.{unwrap_or}
-use Rattle.std.proofs.lemmas.List.{map-append, take-append-drop}
-use Rattle.std.proofs.lemmas.List.FromFn.{map-range_with_len_more}
-use Rattle.std.proofs.lemmas.Option.{slice_get-get_or}
-use Rattle.arrow_types.specs.ArrowType.{ArrowType}
-use Rattle.arrow_types.specs.Rows.{gather, gathered}
-use Rattle.arrow_types.specs.Slot.{Slot, Null, Number, null_slot}
-use Rattle.arrow_types.proofs.RowsLemmas.{drop_at_read}
-use Rattle.arrow_memory.specs.Sliced.{sliced}
-use Rattle.arrow_memory.proofs.SlicedLemmas.{sliced-cut}
-use Rattle.arrow_arrays.proofs.EqualLemmas.{one_row}
-use Rattle.arrow_arrays.specs.KeyedParts.{AreKeys, IsKey, key_in}
-use Rattle.arrow_take.specs.Taken.{run_of}
+use Rattle.arrow_take.proofs.Common.{arith, ◌≡◌, ◌+◌, ℕ, zero, suc, ◌<◌, ◌≤◌, pos, Some, None, List, [], ◌∷◌, ◌++◌, length, take, drop, get_or, replicate, refl, ap, sym, ◌∙◌, unwrap_or, map-append, take-append-drop, map-range_with_len_more, slice_get-get_or, ArrowType, gather, gathered, Slot, Null, Number, null_slot, drop_at_read, sliced, sliced-cut, one_row, AreKeys, IsKey, key_in, run_of}
 use Rattle.arrow_take.proofs.IndexLemmas.{each_index}
 
 -- the rows of a run of places

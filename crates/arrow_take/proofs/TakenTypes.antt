@@ -1,9 +1,5 @@
 -- Fields are less deep than their type.
-use Rattle.std.proofs.Common.{arith, zero, suc, ℕ, max, ◌<◌, ◌≡◌, List, [], ◌∷◌, length, get_or, refl}
-use Rattle.arrow_types.specs.declared.datatypes.Field.{Field}
-use Rattle.arrow_types.specs.ArrowType.{ArrowField, ArrowFields, field, more_fields, type_in}
-use Rattle.arrow_types.specs.TypeOf.{field_of, fields_of}
-use Rattle.arrow_arrays.specs.TypeDepth.{fields_depth, type_depth}
+use Rattle.arrow_take.proofs.Common.{arith, zero, suc, ℕ, max, ◌<◌, ◌≡◌, List, [], ◌∷◌, length, get_or, refl, Field, ArrowField, ArrowFields, field, more_fields, type_in, field_of, fields_of, fields_depth, type_depth}
 
 -- fields are less deep
 depth_more : (f : ArrowField) (fs : ArrowFields) → fields_depth (more_fields f fs) ≡ max (suc (type_depth (type_in f))) (fields_depth fs)

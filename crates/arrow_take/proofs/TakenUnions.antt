@@ -1,33 +1,6 @@
 -- Unions by index, of either mode: an array of the type ids, the offsets and what each field has of the rows that are named.
-use Rattle.std.proofs.Common.{arith, ◌≡◌, ◌<◌, ◌^◌, ℕ, zero, suc, ℤ, pos, Some, None, Option, List, [], ◌∷◌, length, map, get_or, refl, ap, sym, subst, ◌∙◌}
-use Rattle.std.specs.List.{All}
-use Rattle.std.proofs.lemmas.Int.{ints}
-use Rattle.std.proofs.lemmas.List.{get_or_default, length-map}
-use Rattle.arrow_types.specs.declared.datatypes.UnionMode.{UnionMode}
-use Rattle.arrow_types.specs.declared.datatypes.UnionMode.TheVariants.{Dense, Sparse}
+use Rattle.arrow_take.proofs.Common.{arith, ◌≡◌, ◌<◌, ◌^◌, ℕ, zero, suc, ℤ, pos, Some, None, Option, List, [], ◌∷◌, length, map, get_or, refl, ap, sym, subst, ◌∙◌, All, ints, get_or_default, length-map, UnionMode, Dense, Sparse, ArrowType, plain, list, struct, union, dictionary, extension, from_fields, type_in, AreTypeIds, IsCarried, IsTypeId, Fits, physical_type_of, gather, gathered, Slot, Null, Variant, id_at, sliced, AnyArray, any_array_rows, any_array_type, layout_of, AreKeys, field_ids, slice_of, field_types, mode_in, FitsMode, HoldsUnion, IsKnown, UnionParts, child_rows_of, mode_by, union_rows, list_shaped, plain_shape, variant_fits, naturals_back, ArePlaces, HasOffsets, HasUnionParts, NamesPart, SomeRankPasses, ranks, HasPart, HaveParts, PartDoesNotFit, SomePartDoesNotFit, taken_id, IsSparse, have_id, valid_index}
 use Rattle.arrow_types.specs.declared.datatypes.physical_type.PhysicalType.TheVariants as physical
-use Rattle.arrow_types.specs.ArrowType.{ArrowType, plain, list, struct, union, dictionary, extension, from_fields, type_in}
-use Rattle.arrow_types.specs.Carried.{AreTypeIds, IsCarried, IsTypeId}
-use Rattle.arrow_types.specs.Fits.{Fits}
-use Rattle.arrow_types.specs.Physical.{physical_type_of}
-use Rattle.arrow_types.specs.Rows.{gather, gathered}
-use Rattle.arrow_types.specs.Slot.{Slot, Null, Variant, id_at}
-use Rattle.arrow_memory.specs.Sliced.{sliced}
-use Rattle.arrow_arrays.specs.declared.array.any.AnyArray.{AnyArray}
-use Rattle.arrow_arrays.specs.Any.{any_array_rows, any_array_type, layout_of}
-use Rattle.arrow_arrays.specs.KeyedParts.{AreKeys}
-use Rattle.arrow_arrays.specs.Layout.{field_ids}
-use Rattle.arrow_arrays.specs.SliceOf.{slice_of}
-use Rattle.arrow_arrays.specs.TypeParts.{field_types, mode_in}
-use Rattle.arrow_arrays.specs.UnionParts.{FitsMode, HoldsUnion, IsKnown, UnionParts, child_rows_of, mode_by, union_rows}
-use Rattle.arrow_arrays.proofs.ShapeLemmas.{list_shaped, plain_shape}
-use Rattle.arrow_growable.proofs.UnionTypeLemmas.{variant_fits}
-use Rattle.arrow_growable.proofs.VariantLemmas.{naturals_back}
-use Rattle.arrow_take.specs.DenseUnions.{ArePlaces, HasOffsets, HasUnionParts, NamesPart, SomeRankPasses, ranks}
-use Rattle.arrow_take.specs.SparseUnions.{HasPart, HaveParts, PartDoesNotFit, SomePartDoesNotFit, taken_id}
-use Rattle.arrow_growable.specs.Variants.{IsSparse}
-use Rattle.arrow_growable.specs.Variants.{have_id}
-use Rattle.arrow_take.specs.Taken.{valid_index}
 use Rattle.arrow_take.proofs.DenseRows.{dense_fit, dense_known, dense_placed, dense_rows, dense_typed, ranks_long, ranks_pass}
 use Rattle.arrow_take.proofs.SparseRows.{arrays_fit, arrays_known, arrays_long, arrays_rows, arrays_typed}
 use Rattle.arrow_take.proofs.TakenPlaces.{all_placed}

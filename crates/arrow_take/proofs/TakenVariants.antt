@@ -1,46 +1,7 @@
 -- Sparse unions by index: what each field has of the rows that are named, and the rows by that.
-use Rattle.std.proofs.Common.{arith, ◌≡◌, ◌+◌, ◌*◌, ◌<◌, ◌≤◌, ℕ, suc, max, ℤ, pos, Bool, true, false, not, Option, Some, None, List, [], drop, length, map, get_or, if◌then◌else◌, refl, ap, sym, subst, ◌∙◌}
-use Rattle.std.specs.Prelude.{◌&&◌, option_map, unwrap_or}
-use Rattle.std.specs.List.{All, range_with_len, zip}
-use Rattle.std.specs.Ordering.{int_eq}
-use Rattle.std.proofs.lemmas.Bool.Decides.{Decides-int_eq}
-use Rattle.std.proofs.lemmas.List.{get_or-drop, get_or-map, get_or-take, get_or_default, length-map, same_lists}
-use Rattle.std.proofs.lemmas.List.Elements.{All-map}
-use Rattle.std.proofs.lemmas.List.FromFn.{get_or-range_with_len, length-range_with_len}
-use Rattle.std.proofs.lemmas.Option.{slice_get-get_or}
-use Rattle.std.proofs.lemmas.Simd.{map-map}
-use Rattle.std.proofs.lemmas.Slice.Zip.{length-zip}
-use Rattle.arrow_types.specs.declared.datatypes.DataType.{Union}
+use Rattle.arrow_take.proofs.Common.{arith, ◌≡◌, ◌+◌, ◌*◌, ◌<◌, ◌≤◌, ℕ, suc, max, ℤ, pos, Bool, true, false, not, Option, Some, None, List, [], drop, length, map, get_or, if◌then◌else◌, refl, ap, sym, subst, ◌∙◌, option_map, unwrap_or, All, range_with_len, zip, int_eq, Decides-int_eq, get_or-drop, get_or-map, get_or-take, get_or_default, length-map, same_lists, All-map, get_or-range_with_len, length-range_with_len, slice_get-get_or, map-map, length-zip, Union, ArrowType, null, plain, union, sparse_part, is_null, gather, gathered, valid_at, Slot, Null, Number, Variant, id_at, null_slot, type_of, AnswersBits, sliced, length-sliced, marked_row, MarksNulls, AnyArray, any_array_rows, any_array_type, layout_of, AreKeys, IsKey, Layout, Layouts, column_of_id, dense, depth, depth_of_all, field_ids, fielded, fixed, flat, keyed, listed, more_layouts, no_layouts, rows, sparse, to_layouts, type_of_layout, union_items, variant_at, slice_of, slices_of, field_types, IsKnown, SpansRows, UnionParts, child_rows_by, union_layout, union_layout_by, union_rows, depth_at, type_of_part, field_rows, field_part, part_of_id, variant_type, rows_are, ids_apart, null_variant, AreApart, own_column, named_bit, valid_index, taken_id, IsSparse, have_id}
+use Rattle.std.specs.Prelude.{◌&&◌}
 use Rattle.arrow_types.specs.declared.datatypes.physical_type.PhysicalType.TheVariants as physical
-use Rattle.arrow_types.specs.ArrowType.{ArrowType, null, plain, union}
-use Rattle.arrow_types.specs.Fits.{sparse_part}
-use Rattle.arrow_types.specs.Relation.{is_null}
-use Rattle.arrow_types.specs.Rows.{gather, gathered, valid_at}
-use Rattle.arrow_types.specs.Slot.{Slot, Null, Number, Variant, id_at, null_slot}
-use Rattle.arrow_types.specs.TypeOf.{type_of}
-use Rattle.arrow_memory.specs.Gathered.{AnswersBits}
-use Rattle.arrow_memory.specs.Sliced.{sliced}
-use Rattle.arrow_memory.proofs.SlicedLemmas.{length-sliced}
-use Rattle.arrow_flat.specs.Laws.{marked_row}
-use Rattle.arrow_flat.specs.Parts.{MarksNulls}
-use Rattle.arrow_arrays.specs.declared.array.any.AnyArray.{AnyArray}
-use Rattle.arrow_arrays.specs.Any.{any_array_rows, any_array_type, layout_of}
-use Rattle.arrow_arrays.specs.KeyedParts.{AreKeys, IsKey}
-use Rattle.arrow_arrays.specs.Layout.{Layout, Layouts, column_of_id, dense, depth, depth_of_all, field_ids, fielded, fixed, flat, keyed, listed, more_layouts, no_layouts, rows, sparse, to_layouts, type_of_layout, union_items, variant_at}
-use Rattle.arrow_arrays.specs.SliceOf.{slice_of, slices_of}
-use Rattle.arrow_arrays.specs.TypeParts.{field_types}
-use Rattle.arrow_arrays.specs.UnionParts.{IsKnown, SpansRows, UnionParts, child_rows_by, union_layout, union_layout_by, union_rows}
-use Rattle.arrow_arrays.proofs.DepthLemmas.{depth_at}
-use Rattle.arrow_arrays.proofs.PartLemmas.{type_of_part}
-use Rattle.arrow_arrays.proofs.UnionLemmas.{field_rows}
-use Rattle.arrow_growable.specs.Variants.{field_part, part_of_id, variant_type}
-use Rattle.arrow_growable.proofs.UnionRunLemmas.{rows_are}
-use Rattle.arrow_growable.proofs.UnionTypeLemmas.{ids_apart, null_variant}
-use Rattle.arrow_growable.proofs.VariantColumns.{AreApart, own_column}
-use Rattle.arrow_take.specs.Taken.{named_bit, valid_index}
-use Rattle.arrow_take.specs.SparseUnions.{taken_id}
-use Rattle.arrow_growable.specs.Variants.{IsSparse}
-use Rattle.arrow_growable.specs.Variants.{have_id}
 use Rattle.arrow_take.proofs.IndexLemmas.{each_index, map-agree}
 use Rattle.arrow_take.proofs.SparseRows.{item_at}
 use Rattle.arrow_take.proofs.TakenFields.{valid_keys}

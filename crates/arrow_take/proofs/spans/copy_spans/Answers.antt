@@ -1,6 +1,4 @@
-use Rattle.std.proofs.Common.{◌≡◌, ◌+◌, ◌++◌, ◌∙◌, ap, arith, get_or, suc, sym, take}
-use Rattle.std.proofs.Math.Seq.{take-suc}
-use Rattle.arrow_take.specs.Spans.{span_bytes}
+use Rattle.arrow_take.proofs.Common.{◌≡◌, ◌+◌, ◌++◌, ◌∙◌, ap, arith, get_or, suc, sym, take, take-suc, span_bytes}
 use Rattle.arrow_take.proofs.SpanLemmas.{spanned_more}
 use Rattle.arrow_take.proofs.spans.copy_spans.Goals as goal
 

@@ -1,5 +1,4 @@
-use Rattle.std.proofs.Common.{◌≡◌, take}
-use Rattle.arrow_take.specs.Spans.{spanned}
+use Rattle.arrow_take.proofs.Common.{◌≡◌, take, spanned}
 use Rattle.arrow_take.proofs.spans.copy_spans.Given as goal
 
 -- the bytes of the spans so far

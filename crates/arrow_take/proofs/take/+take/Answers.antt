@@ -1,37 +1,7 @@
-use Rattle.std.proofs.Common.{◌≡◌, ◌+◌, ◌<◌, ◌^◌, ◌∙◌, [], ◌∷◌, Err, arith, ap, length, map, refl, rules, subst, sym}
-use Rattle.std.specs.Prelude.{option_map}
-use Rattle.std.specs.List.{All}
-use Rattle.std.proofs.lemmas.List.{length-append, length-map, take_all}
-use Rattle.std.proofs.lemmas.List.Elements.{All-more, All-same}
-use Rattle.std.proofs.lemmas.Option.{slice_get_read}
-use Rattle.arrow_types.specs.declared.datatypes.physical_type.PhysicalType.{PhysicalType}
+use Rattle.arrow_take.proofs.Common.{◌≡◌, ◌+◌, ◌<◌, ◌^◌, ◌∙◌, [], ◌∷◌, Err, arith, ap, length, map, refl, rules, subst, sym, option_map, All, length-append, length-map, take_all, All-more, All-same, slice_get_read, PhysicalType, Dense, IsTypeId, Fits, physical_type_of, gather, type_of, null_slot-no_union, rows_by, passed_on, any_array_rows, any_array_type, layout_of, AreKeys, depth, depth_of_all, to_layouts, type_of_layout, FitsColumns, IsStruct, struct_rows, field_types, mode_in, HoldsUnion, child_rows_of, union_rows, depth_at, type_of_structs, union_type, type_of_unions, MarksTaken, SomeDoNotFit, taken_rows, valid_index, HasPart, HaveParts, taken_id, ArePlaces, HasOffsets, HasUnionParts, SomeRankPasses, map-map, makes_next}
 use Rattle.arrow_types.specs.declared.datatypes.physical_type.PhysicalType.TheVariants as physical
-use Rattle.arrow_types.specs.declared.datatypes.UnionMode.TheVariants.{Dense}
-use Rattle.arrow_types.specs.Carried.{IsTypeId}
-use Rattle.arrow_types.specs.Fits.{Fits}
-use Rattle.arrow_types.specs.Physical.{physical_type_of}
-use Rattle.arrow_types.specs.Rows.{gather}
-use Rattle.arrow_types.specs.TypeOf.{type_of}
-use Rattle.arrow_types.proofs.SlotLemmas.{null_slot-no_union}
-use Rattle.arrow_flat.specs.Parts.{rows_by}
-use Rattle.arrow_flat_growable.proofs.ResultLemmas.{passed_on}
-use Rattle.arrow_arrays.specs.Any.{any_array_rows, any_array_type, layout_of}
-use Rattle.arrow_arrays.specs.KeyedParts.{AreKeys}
-use Rattle.arrow_arrays.specs.Layout.{depth, depth_of_all, to_layouts, type_of_layout}
-use Rattle.arrow_arrays.specs.StructParts.{FitsColumns, IsStruct, struct_rows}
-use Rattle.arrow_arrays.specs.TypeParts.{field_types, mode_in}
-use Rattle.arrow_arrays.specs.UnionParts.{HoldsUnion, child_rows_of, union_rows}
-use Rattle.arrow_arrays.proofs.DepthLemmas.{depth_at}
-use Rattle.arrow_growable.proofs.KindLemmas.{type_of_structs}
-use Rattle.arrow_growable.proofs.UnionLoopLemmas.{union_type}
-use Rattle.arrow_growable.proofs.UnionMakeLemmas.{type_of_unions}
-use Rattle.arrow_take.specs.Taken.{MarksTaken, SomeDoNotFit, taken_rows, valid_index}
-use Rattle.arrow_take.specs.SparseUnions.{HasPart, HaveParts, taken_id}
-use Rattle.arrow_take.specs.DenseUnions.{ArePlaces, HasOffsets, HasUnionParts, SomeRankPasses}
 use Rattle.arrow_take.proofs.AnswerLemmas.{passes_on}
-use Rattle.std.proofs.lemmas.Simd.{map-map}
 use Rattle.arrow_take.proofs.TakenFields.{columns_inside, fields_fit, fields_pass, fields_taken, taken_fits}
-use Rattle.arrow_growable.proofs.FieldColumns.{makes_next}
 use Rattle.arrow_take.proofs.IndexLemmas.{length-gather}
 use Rattle.arrow_take.proofs.SparseRows.{no_parts, parts_next}
 use Rattle.arrow_take.proofs.TakenUnions.{ids_counted, part_passes, part_taken, parts_pass, union_made, union_passes}

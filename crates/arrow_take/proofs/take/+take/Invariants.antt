@@ -1,14 +1,4 @@
-use Rattle.std.proofs.Common.{◌≡◌, ◌+◌, ◌*◌, length, map, take}
-use Rattle.std.specs.List.{All}
-use Rattle.arrow_types.specs.Fits.{Fits}
-use Rattle.arrow_types.specs.Rows.{gather}
-use Rattle.arrow_arrays.specs.Any.{any_array_rows, any_array_type, layout_of}
-use Rattle.arrow_arrays.specs.Layout.{depth, depth_of_all, to_layouts}
-use Rattle.arrow_arrays.specs.StructParts.{struct_layout}
-use Rattle.arrow_arrays.specs.UnionParts.{union_layout, union_rows}
-use Rattle.arrow_flat.specs.Parts.{rows_by}
-use Rattle.arrow_take.specs.Taken.{taken_rows}
-use Rattle.arrow_take.specs.SparseUnions.{HaveParts}
+use Rattle.arrow_take.proofs.Common.{◌≡◌, ◌+◌, ◌*◌, length, map, take, All, Fits, gather, any_array_rows, any_array_type, layout_of, depth, depth_of_all, to_layouts, struct_layout, union_layout, union_rows, rows_by, taken_rows, HaveParts}
 use Rattle.arrow_take.proofs.take.+take.Given as goal
 
 -- each call goes to a less deep array, or comes nearer to one

@@ -1,9 +1,4 @@
-use Rattle.std.proofs.Common.{◌≡◌, ◌∙◌, arith, ap, map, replicate, rules, subst, sym}
-use Rattle.arrow_types.specs.Fits.{Fits}
-use Rattle.arrow_types.specs.Slot.{Null}
-use Rattle.arrow_flat.specs.NullParts.{null_rows}
-use Rattle.arrow_flat.specs.Parts.{rows_by}
-use Rattle.arrow_flat_growable.proofs.NullLemmas.{null_is_null, nulls_fit}
+use Rattle.arrow_take.proofs.Common.{◌≡◌, ◌∙◌, arith, ap, map, replicate, rules, subst, sym, Fits, Null, null_rows, rows_by, null_is_null, nulls_fit}
 use Rattle.arrow_take.proofs.IndexLemmas.{nulls_taken}
 use Rattle.arrow_take.proofs.take.any.take_nulls.Goals as goal
 

@@ -1,5 +1,4 @@
-use Rattle.std.proofs.Common.{Err, ap}
-use Rattle.arrow_flat_growable.proofs.ResultLemmas.{passed_on}
+use Rattle.arrow_take.proofs.Common.{Err, ap, passed_on}
 use Rattle.arrow_take.proofs.take.any.take_one.Goals as goal
 
 pub returns-in_err-take-in-Utf8-clause-overflow : goal.returns-in_err-take-in-Utf8-clause-overflow

@@ -1,14 +1,4 @@
-use Rattle.std.proofs.Common.{◌≡◌, ◌+◌, ◌≤◌, ◌∙◌, [], ◌∷◌, Err, ap, arith, length, map, replicate, subst, sym, take}
-use Rattle.std.specs.Prelude.{IfSome}
-use Rattle.arrow_types.specs.Rows.{gather, masked}
-use Rattle.arrow_types.specs.Slot.{null_slot}
-use Rattle.arrow_memory.specs.Sliced.{sliced}
-use Rattle.arrow_flat.specs.Parts.{rows_by}
-use Rattle.arrow_flat_growable.proofs.ResultLemmas.{passed_on}
-use Rattle.arrow_arrays.specs.Layout.{rows, type_of_layout}
-use Rattle.arrow_growable.specs.Growing.{HasAppended}
-use Rattle.arrow_growable.proofs.GrowLemmas.{holds_none, holds_more, named, nulls, refuses_whole, too_many_first}
-use Rattle.arrow_take.specs.Taken.{first_bound, run_of}
+use Rattle.arrow_take.proofs.Common.{◌≡◌, ◌+◌, ◌≤◌, ◌∙◌, [], ◌∷◌, Err, ap, arith, length, map, replicate, subst, sym, take, IfSome, gather, masked, null_slot, sliced, rows_by, passed_on, rows, type_of_layout, HasAppended, holds_none, holds_more, named, nulls, refuses_whole, too_many_first, first_bound, run_of}
 use Rattle.arrow_take.proofs.TakenRuns.{gather_all, gather_more, run_appends, run_of_nulls}
 use Rattle.arrow_take.proofs.take.append.append_taken.Goals as goal
 use Rattle.arrow_take.proofs.take.append.append_taken.Goals.{in-Some+in_ok-extend-in-Some, in-None+in_ok-extend_validity-in-None}

@@ -1,9 +1,4 @@
-use Rattle.std.proofs.Common.{◌-◌, ◌≤◌, [], ◌∷◌, length, map, take}
-use Rattle.arrow_types.specs.Rows.{gather}
-use Rattle.arrow_flat.specs.Parts.{rows_by}
-use Rattle.arrow_arrays.specs.Layout.{rows, type_of_layout}
-use Rattle.arrow_growable.specs.Growing.{HasAppended}
-use Rattle.arrow_take.specs.Taken.{first_bound}
+use Rattle.arrow_take.proofs.Common.{◌-◌, ◌≤◌, [], ◌∷◌, length, map, take, gather, rows_by, rows, type_of_layout, HasAppended, first_bound}
 use Rattle.arrow_take.proofs.take.append.append_taken.Given as goal
 
 -- the rows of the indices so far are held

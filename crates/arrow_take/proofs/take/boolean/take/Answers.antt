@@ -1,11 +1,4 @@
-use Rattle.std.proofs.Common.{◌≡◌, ◌∙◌, arith, ap, false, length, map, rules, sym, subst}
-use Rattle.std.proofs.lemmas.Option.{slice_get-get_or}
-use Rattle.arrow_types.specs.Fits.{Fits}
-use Rattle.arrow_types.specs.Slot.{Boolean}
-use Rattle.arrow_flat.specs.Parts.{boolean_rows, rows_by}
-use Rattle.arrow_flat_growable.specs.FlatLaws.{is_counted, null_of_counted}
-use Rattle.arrow_flat_growable.proofs.FitsLemmas.{fits_only_counted, is_only_counted}
-use Rattle.arrow_take.specs.Taken.{MarksTaken, named_bit}
+use Rattle.arrow_take.proofs.Common.{◌≡◌, ◌∙◌, arith, ap, false, length, map, rules, sym, subst, slice_get-get_or, Fits, Boolean, boolean_rows, rows_by, is_counted, null_of_counted, fits_only_counted, is_only_counted, MarksTaken, named_bit}
 use Rattle.arrow_take.proofs.IndexLemmas.{length-gather, values_taken}
 use Rattle.arrow_take.proofs.take.boolean.take.Goals as goal
 

@@ -1,19 +1,4 @@
-use Rattle.std.proofs.Common.{◌≡◌, ◌∙◌, ◌-◌, Err, List, ℕ, ◌∷◌, ap, arith, length, map, refl, rules, subst, sym}
-use Rattle.std.specs.List.{All, concat}
-use Rattle.std.proofs.lemmas.List.{length-map}
-use Rattle.arrow_types.specs.Fits.{Fits}
-use Rattle.arrow_types.specs.Rows.{masked}
-use Rattle.arrow_types.specs.Slot.{Slot}
-use Rattle.arrow_memory.specs.Offsets.{IsOffsets}
-use Rattle.arrow_flat.specs.ByteRows.{ByteParts, byte_slots}
-use Rattle.arrow_flat.specs.Parts.{FitsRows, Parts, rows_by}
-use Rattle.arrow_flat.specs.Pieces.{pieces}
-use Rattle.arrow_flat.proofs.PartsLemmas.{length-masked}
-use Rattle.arrow_flat.proofs.PieceLemmas.{length-pieces}
-use Rattle.arrow_flat_growable.proofs.ResultLemmas.{passed_on}
-use Rattle.arrow_arrays.specs.KeyedParts.{AreKeys}
-use Rattle.arrow_take.specs.Taken.{MarksTaken, span_length, taken_bytes}
-use Rattle.arrow_memory.specs.Ends.{ends_from}
+use Rattle.arrow_take.proofs.Common.{◌≡◌, ◌∙◌, ◌-◌, Err, List, ℕ, ◌∷◌, ap, arith, length, map, refl, rules, subst, sym, All, concat, length-map, Fits, masked, Slot, IsOffsets, ByteParts, byte_slots, FitsRows, Parts, rows_by, pieces, length-masked, length-pieces, passed_on, AreKeys, MarksTaken, span_length, taken_bytes, ends_from}
 use Rattle.arrow_take.proofs.TakenBytes.{allowed_by_index, bytes_end, bytes_fit, bytes_pass, bytes_taken, offsets_fit, pieces_are, rows_fit}
 use Rattle.arrow_take.proofs.take.bytes.take.Goals as goal
 

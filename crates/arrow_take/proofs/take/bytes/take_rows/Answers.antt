@@ -1,11 +1,4 @@
-use Rattle.std.proofs.Common.{◌∙◌, ap, arith, length, map, subst, sym}
-use Rattle.std.specs.List.{All}
-use Rattle.std.proofs.lemmas.Int.{ints}
-use Rattle.arrow_memory.specs.Offsets.{IsOffsets, last_of}
-use Rattle.arrow_flat.specs.Parts.{rows_by}
-use Rattle.arrow_take.specs.Spans.{IsSpanWithin, spanned}
-use Rattle.arrow_take.specs.Taken.{span_length}
-use Rattle.arrow_flat_growable.proofs.EndLemmas.{ends_last}
+use Rattle.arrow_take.proofs.Common.{◌∙◌, ap, arith, length, map, subst, sym, All, ints, IsOffsets, last_of, rows_by, IsSpanWithin, spanned, span_length, ends_last}
 use Rattle.arrow_take.proofs.TakenBytes.{spanned_by_index, spans_within}
 use Rattle.arrow_take.proofs.take.bytes.take_rows.Goals as goal
 

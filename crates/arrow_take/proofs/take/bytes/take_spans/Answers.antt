@@ -1,15 +1,4 @@
-use Rattle.std.proofs.Common.{◌≡◌, ◌+◌, ◌-◌, ◌*◌, ◌/◌, ◌<◌, ◌∷◌, ◌++◌, ◌∙◌, ℕ, [], Err, arith, ap, drop, get_or, length, map, replicate, subst, sym, take}
-use Rattle.std.proofs.lemmas.List.{get_or-drop, get_or-map, get_or-take, length-drop, length-map, length-replicate, length-take}
-use Rattle.arrow_types.specs.Rows.{masked}
-use Rattle.arrow_types.specs.Slot.{Null}
-use Rattle.arrow_memory.specs.Offsets.{IsOffsets, last_of}
-use Rattle.arrow_memory.specs.Sliced.{sliced}
-use Rattle.arrow_flat.specs.Parts.{rows_by}
-use Rattle.arrow_flat.proofs.PartsLemmas.{length-masked}
-use Rattle.arrow_flat_growable.proofs.ResultLemmas.{passed_on}
-use Rattle.arrow_memory.specs.Ends.{ends_from}
-use Rattle.arrow_take.specs.Spans.{IsSpanWithin}
-use Rattle.arrow_take.specs.Taken.{span_length, taken_span}
+use Rattle.arrow_take.proofs.Common.{◌≡◌, ◌+◌, ◌-◌, ◌*◌, ◌/◌, ◌<◌, ◌∷◌, ◌++◌, ◌∙◌, ℕ, [], Err, arith, ap, drop, get_or, length, map, replicate, subst, sym, take, get_or-drop, get_or-map, get_or-take, length-drop, length-map, length-replicate, length-take, masked, Null, IsOffsets, last_of, sliced, rows_by, length-masked, passed_on, ends_from, IsSpanWithin, span_length, taken_span}
 use Rattle.arrow_take.proofs.IndexLemmas.{gives_more}
 use Rattle.arrow_take.proofs.TakenBytes.{offsets_next, passes_all, rows_fit, spans_within}
 use Rattle.arrow_take.proofs.take.bytes.take_spans.Goals as goal

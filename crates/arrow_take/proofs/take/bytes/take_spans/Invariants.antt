@@ -1,8 +1,4 @@
-use Rattle.std.proofs.Common.{◌≡◌, ◌+◌, ◌-◌, ◌%◌, ◌<◌, ◌≤◌, ◌∷◌, length, map, take}
-use Rattle.std.specs.Vec.{vec_len, vec_capacity}
-use Rattle.arrow_flat.specs.Parts.{rows_by}
-use Rattle.arrow_memory.specs.Ends.{ends_from}
-use Rattle.arrow_take.specs.Taken.{span_length, taken_span}
+use Rattle.arrow_take.proofs.Common.{◌≡◌, ◌+◌, ◌-◌, ◌%◌, ◌<◌, ◌≤◌, ◌∷◌, length, map, take, vec_len, vec_capacity, rows_by, ends_from, span_length, taken_span}
 use Rattle.arrow_take.proofs.take.bytes.take_spans.Given as goal
 
 -- where the rows so far lie, which are whole words of indices where some are left, and where they end

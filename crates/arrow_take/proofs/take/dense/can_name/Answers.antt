@@ -1,9 +1,4 @@
-use Rattle.std.proofs.Common.{◌≤◌, arith, length, rules, subst, sym}
-use Rattle.std.proofs.lemmas.List.{take_all}
-use Rattle.std.proofs.lemmas.List.Elements.{All-map, All-more, All-same}
-use Rattle.arrow_arrays.specs.Any.{any_array_rows, layout_of}
-use Rattle.arrow_arrays.specs.Layout.{rows}
-use Rattle.arrow_take.specs.DenseUnions.{NamesRows}
+use Rattle.arrow_take.proofs.Common.{◌≤◌, arith, length, rules, subst, sym, take_all, All-map, All-more, All-same, any_array_rows, layout_of, rows, NamesRows}
 use Rattle.arrow_take.proofs.TakenPlaces.{if_dense}
 use Rattle.arrow_take.proofs.take.dense.can_name.Goals as goal
 

@@ -1,6 +1,4 @@
-use Rattle.std.proofs.Common.{◌≤◌, length, take}
-use Rattle.std.specs.List.{All}
-use Rattle.arrow_arrays.specs.Any.{any_array_rows}
+use Rattle.arrow_take.proofs.Common.{◌≤◌, length, take, All, any_array_rows}
 use Rattle.arrow_take.proofs.take.dense.can_name.Given as goal
 
 -- the children so far

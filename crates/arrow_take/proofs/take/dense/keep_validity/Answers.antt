@@ -1,11 +1,4 @@
-use Rattle.std.proofs.Common.{◌≡◌, ◌+◌, ◌<◌, ◌++◌, ◌∷◌, [], ◌∙◌, Bool, true, false, arith, ap, get_or, length, of_z, subst, sym, take, to_z, w8}
-use Rattle.std.specs.Prelude.{option_copied}
-use Rattle.std.specs.Ordering.{int_eq}
-use Rattle.std.proofs.lemmas.List.{append-nil, get_or-map, get_or_default, length-append, length-map}
-use Rattle.std.proofs.lemmas.Option.{get_or_from_slice_get}
-use Rattle.arrow_flat.specs.Parts.{FitsRows}
-use Rattle.arrow_take.specs.DenseUnions.{kept}
-use Rattle.arrow_growable.specs.Variants.{have_id}
+use Rattle.arrow_take.proofs.Common.{◌≡◌, ◌+◌, ◌<◌, ◌++◌, ◌∷◌, [], ◌∙◌, Bool, true, false, arith, ap, get_or, length, of_z, subst, sym, take, to_z, w8, option_copied, int_eq, append-nil, get_or-map, get_or_default, length-append, length-map, get_or_from_slice_get, FitsRows, kept, have_id}
 use Rattle.arrow_take.proofs.KeptLemmas.{kept-more, one_kept}
 use Rattle.arrow_take.proofs.take.dense.keep_validity.Goals as goal
 use Rattle.arrow_take.proofs.take.dense.keep_validity.Goals.{then-has_id+in_ok-push, else-has_id}

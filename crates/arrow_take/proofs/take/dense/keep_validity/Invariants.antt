@@ -1,6 +1,4 @@
-use Rattle.std.proofs.Common.{◌≡◌, ◌≤◌, length, take}
-use Rattle.arrow_take.specs.DenseUnions.{kept}
-use Rattle.arrow_growable.specs.Variants.{have_id}
+use Rattle.arrow_take.proofs.Common.{◌≡◌, ◌≤◌, length, take, kept, have_id}
 use Rattle.arrow_take.proofs.take.dense.keep_validity.Given as goal
 
 -- the bits so far that are kept

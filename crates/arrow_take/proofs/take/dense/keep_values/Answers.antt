@@ -1,8 +1,4 @@
-use Rattle.std.proofs.Common.{◌≡◌, ◌+◌, ◌<◌, ◌∙◌, arith, ap, get_or, length, of_z, set, sym, take, to_z, w8}
-use Rattle.std.specs.Prelude.{cond}
-use Rattle.std.specs.Ordering.{int_eq}
-use Rattle.std.proofs.lemmas.List.{get_or-map, length-map, length-set}
-use Rattle.arrow_growable.specs.Variants.{have_id}
+use Rattle.arrow_take.proofs.Common.{◌≡◌, ◌+◌, ◌<◌, ◌∙◌, arith, ap, get_or, length, of_z, set, sym, take, to_z, w8, cond, int_eq, get_or-map, length-map, length-set, have_id}
 use Rattle.arrow_take.proofs.KeptLemmas.{byte_of, kept-more, kept_written, one_more}
 use Rattle.arrow_take.proofs.take.dense.keep_values.Goals as goal
 

@@ -1,11 +1,4 @@
-use Rattle.std.proofs.Common.{◌≡◌, ◌∙◌, arith, ap, length, map, of_z, subst, sym, to_z, w8}
-use Rattle.std.specs.Prelude.{option_map}
-use Rattle.std.proofs.lemmas.Int.{ints, to_z-of_z}
-use Rattle.std.proofs.lemmas.List.{length-map}
-use Rattle.arrow_flat.specs.Parts.{FitsRows, rows_by}
-use Rattle.arrow_flat.proofs.PartsLemmas.{length-masked}
-use Rattle.arrow_take.specs.DenseUnions.{kept}
-use Rattle.arrow_growable.specs.Variants.{have_id}
+use Rattle.arrow_take.proofs.Common.{◌≡◌, ◌∙◌, arith, ap, length, map, of_z, subst, sym, to_z, w8, option_map, ints, to_z-of_z, length-map, FitsRows, rows_by, length-masked, kept, have_id}
 use Rattle.arrow_take.proofs.KeptLemmas.{kept_fits, kept_rows}
 use Rattle.arrow_take.proofs.take.dense.own_places.Goals as goal
 

@@ -1,4 +1,4 @@
-use Rattle.std.proofs.Common.{arith}
+use Rattle.arrow_take.proofs.Common.{arith}
 use Rattle.arrow_take.proofs.TakenPlaces.{field_named}
 use Rattle.arrow_take.proofs.take.dense.place_of.Goals as goal
 

@@ -1,10 +1,4 @@
-use Rattle.std.proofs.Common.{◌≡◌, ◌+◌, ◌<◌, ◌∙◌, arith, ap, get_or, of_z, pos, subst, sym, to_z, w8, w32}
-use lib.IntN.{nat_abs}
-use mir.Val.{SFits}
-use Rattle.std.proofs.lemmas.Int.{ints, to_z-of_z}
-use Rattle.std.proofs.lemmas.List.{get_or_default, length-set}
-use Rattle.arrow_types.specs.Carried.{IsTypeId}
-use Rattle.arrow_take.specs.DenseUnions.{rank_at}
+use Rattle.arrow_take.proofs.Common.{◌≡◌, ◌+◌, ◌<◌, ◌∙◌, arith, ap, get_or, of_z, pos, subst, sym, to_z, w8, w32, nat_abs, SFits, ints, to_z-of_z, get_or_default, length-set, IsTypeId, rank_at}
 use Rattle.arrow_take.proofs.RankLemmas.{all_few, counts_next, few_next, id_placed, rank_is, ranks_next}
 use Rattle.arrow_take.proofs.take.dense.rank.Goals as goal
 

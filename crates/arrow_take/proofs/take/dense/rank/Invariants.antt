@@ -1,9 +1,4 @@
-use Rattle.std.proofs.Common.{◌≡◌, ◌<◌, ◌≤◌, ◌^◌, ℕ, ℤ, pos, get_or, length, map, take}
-use Rattle.std.specs.Prelude.{count_by}
-use Rattle.std.specs.List.{range_with_len}
-use Rattle.std.specs.Ordering.{int_eq}
-use Rattle.std.specs.Vec.{vec_len, vec_capacity}
-use Rattle.arrow_take.specs.DenseUnions.{rank_at}
+use Rattle.arrow_take.proofs.Common.{◌≡◌, ◌<◌, ◌≤◌, ◌^◌, ℕ, ℤ, pos, get_or, length, map, take, count_by, range_with_len, int_eq, vec_len, vec_capacity, rank_at}
 use Rattle.arrow_take.proofs.take.dense.rank.Given as goal
 
 -- the rows of each id so far

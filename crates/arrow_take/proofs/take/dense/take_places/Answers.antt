@@ -1,11 +1,4 @@
-use Rattle.std.proofs.Common.{◌≡◌, ◌<◌, ◌∙◌, ◌∷◌, [], ℕ, ℤ, Some, arith, ap, get_or, length, map, pos, subst, sym}
-use Rattle.std.specs.Prelude.{IfSome, option_map}
-use Rattle.std.proofs.lemmas.List.{get_or-map, length-append, length-map, map-append}
-use Rattle.arrow_types.specs.Rows.{masked}
-use Rattle.arrow_types.specs.Slot.{Null, Number}
-use Rattle.arrow_flat.specs.Parts.{rows_by}
-use Rattle.arrow_arrays.specs.KeyedParts.{key_in}
-use Rattle.arrow_take.specs.DenseUnions.{ArePlaces, IsPlace}
+use Rattle.arrow_take.proofs.Common.{◌≡◌, ◌<◌, ◌∙◌, ◌∷◌, [], ℕ, ℤ, Some, arith, ap, get_or, length, map, pos, subst, sym, IfSome, option_map, get_or-map, length-append, length-map, map-append, masked, Null, Number, rows_by, key_in, ArePlaces, IsPlace}
 use Rattle.arrow_take.proofs.TakenPlaces.{are_places, dense_by, of_dense, place_next}
 use Rattle.arrow_take.proofs.take.dense.take_places.Goals as goal
 

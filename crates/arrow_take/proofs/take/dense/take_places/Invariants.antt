@@ -1,10 +1,4 @@
-use Rattle.std.proofs.Common.{◌≡◌, ◌<◌, ◌≤◌, ℕ, Some, get_or, length, map}
-use Rattle.std.specs.Prelude.{IfSome}
-use Rattle.std.specs.Vec.{vec_len, vec_capacity}
-use Rattle.arrow_types.specs.Slot.{Null}
-use Rattle.arrow_flat.specs.Parts.{rows_by}
-use Rattle.arrow_arrays.specs.KeyedParts.{key_in}
-use Rattle.arrow_take.specs.DenseUnions.{IsPlace}
+use Rattle.arrow_take.proofs.Common.{◌≡◌, ◌<◌, ◌≤◌, ℕ, Some, get_or, length, map, IfSome, vec_len, vec_capacity, Null, rows_by, key_in, IsPlace}
 use Rattle.arrow_take.proofs.take.dense.take_places.Given as goal
 
 -- the places of the indices so far

@@ -1,15 +1,4 @@
-use Rattle.std.proofs.Common.{◌≡◌, ◌∙◌, arith, ap, length, map, rules, subst, sym}
-use Rattle.arrow_types.specs.Fits.{Fits}
-use Rattle.arrow_types.specs.Physical.{physical_type_of}
-use Rattle.arrow_types.specs.Rows.{gather}
-use Rattle.arrow_flat.specs.Parts.{rows_by}
-use Rattle.arrow_arrays.specs.Any.{layout_of}
-use Rattle.arrow_arrays.specs.AnyKeys.{key_rows}
-use Rattle.arrow_arrays.specs.KeyedParts.{AreKeys, keyed_rows, keys_in}
-use Rattle.arrow_arrays.specs.Layout.{keyed_item, rows}
-use Rattle.arrow_arrays.proofs.ShapeLemmas.{dictionary_shape, null_slot-shape}
-use Rattle.arrow_growable.proofs.DictionaryLemmas.{counted_fit}
-use Rattle.arrow_growable.proofs.KindLemmas.{shape_of_dictionaries}
+use Rattle.arrow_take.proofs.Common.{◌≡◌, ◌∙◌, arith, ap, length, map, rules, subst, sym, Fits, physical_type_of, gather, rows_by, layout_of, key_rows, AreKeys, keyed_rows, keys_in, keyed_item, rows, dictionary_shape, null_slot-shape, counted_fit, shape_of_dictionaries}
 use Rattle.arrow_take.proofs.IndexLemmas.{length-gather}
 use Rattle.arrow_take.proofs.TakenKeys.{keyed_taken, keys_taken}
 use Rattle.arrow_take.proofs.take.dict.take.Goals as goal

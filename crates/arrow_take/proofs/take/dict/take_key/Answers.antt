@@ -1,7 +1,4 @@
-use Rattle.std.proofs.Common.{◌≡◌, ap, map, subst}
-use Rattle.std.specs.Prelude.{IfOk}
-use Rattle.arrow_flat.specs.Parts.{rows_by}
-use Rattle.arrow_flat_growable.specs.FlatLaws.{is_counted, null_of_counted}
+use Rattle.arrow_take.proofs.Common.{◌≡◌, ap, map, subst, IfOk, rows_by, is_counted, null_of_counted}
 use Rattle.arrow_take.proofs.TakenKeys.{gather_null}
 use Rattle.arrow_take.proofs.take.dict.take_key.Goals as goal
 

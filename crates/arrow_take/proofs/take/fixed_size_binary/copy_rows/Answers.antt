@@ -1,12 +1,4 @@
-use Rattle.std.proofs.Common.{◌≡◌, ◌+◌, ◌*◌, ◌<◌, ◌∙◌, ◌++◌, arith, ap, drop, get_or, length, map, replicate, sym, take}
-use Rattle.std.specs.List.{concat}
-use Rattle.std.proofs.lemmas.List.{length-map}
-use Rattle.arrow_types.specs.Rows.{masked}
-use Rattle.arrow_types.specs.Slot.{Null}
-use Rattle.arrow_flat.specs.Parts.{rows_by}
-use Rattle.arrow_flat.proofs.PartsLemmas.{length-masked}
-use Rattle.arrow_arrays.specs.KeyedParts.{key_in}
-use Rattle.arrow_take.specs.Taken.{fixed_row, taken_row}
+use Rattle.arrow_take.proofs.Common.{◌≡◌, ◌+◌, ◌*◌, ◌<◌, ◌∙◌, ◌++◌, arith, ap, drop, get_or, length, map, replicate, sym, take, concat, length-map, masked, Null, rows_by, length-masked, key_in, fixed_row, taken_row}
 use Rattle.arrow_take.proofs.TakenRows.{has_room, has_zeros, place_inside, row_written, rows_of_all, rows_of_none}
 use Rattle.arrow_take.proofs.take.fixed_size_binary.copy_rows.Goals as goal
 

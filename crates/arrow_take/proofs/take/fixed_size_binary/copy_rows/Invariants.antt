@@ -1,5 +1,4 @@
-use Rattle.std.proofs.Common.{map}
-use Rattle.arrow_flat.specs.Parts.{rows_by}
+use Rattle.arrow_take.proofs.Common.{map, rows_by}
 use Rattle.arrow_take.proofs.TakenRows.{RowsUpTo}
 use Rattle.arrow_take.proofs.take.fixed_size_binary.copy_rows.Given as goal
 

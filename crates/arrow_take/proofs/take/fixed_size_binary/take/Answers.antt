@@ -1,9 +1,4 @@
-use Rattle.std.proofs.Common.{◌≡◌, ◌∙◌, ◌<◌, ◌^◌, Err, ap, arith, length, map, rules, subst, sym}
-use Rattle.std.specs.List.{concat}
-use Rattle.arrow_types.specs.TypeOf.{type_of}
-use Rattle.arrow_flat.specs.FixedRows.{fixed_size_in, fixed_slots}
-use Rattle.arrow_flat.specs.Parts.{rows_by}
-use Rattle.arrow_take.specs.Taken.{MarksTaken, taken_row}
+use Rattle.arrow_take.proofs.Common.{◌≡◌, ◌∙◌, ◌<◌, ◌^◌, Err, ap, arith, length, map, rules, subst, sym, concat, type_of, fixed_size_in, fixed_slots, rows_by, MarksTaken, taken_row}
 use Rattle.arrow_take.proofs.AnswerLemmas.{passes_on}
 use Rattle.arrow_take.proofs.TakenRows.{bytes_are_rows, fits_product, fixed_rows_fit, fixed_rows_taken, keys_of_fixed}
 use Rattle.arrow_take.proofs.take.fixed_size_binary.take.Goals as goal

@@ -1,7 +1,4 @@
-use Rattle.std.proofs.Common.{◌≡◌, ◌*◌, ◌≤◌, map}
-use Rattle.arrow_memory.specs.Sliced.{sliced}
-use Rattle.arrow_memory.specs.Words.{word_of}
-use Rattle.arrow_take.specs.Taken.{named_bit}
+use Rattle.arrow_take.proofs.Common.{◌≡◌, ◌*◌, ◌≤◌, map, sliced, word_of, named_bit}
 use Rattle.arrow_take.proofs.take.indices.all_bits_at.Given as goal
 
 -- the word holds the bits of the indices so far

@@ -1,9 +1,4 @@
-use Rattle.std.proofs.Common.{◌≡◌, ◌+◌, ◌*◌, ◌/◌, ◌++◌, ◌∙◌, arith, ap, length, map, take, take-add, sym}
-use Rattle.std.specs.Prelude.{option_copied}
-use Rattle.std.proofs.lemmas.List.{map-append, take_all}
-use Rattle.arrow_types.specs.Rows.{masked}
-use Rattle.arrow_memory.specs.Sliced.{sliced}
-use Rattle.arrow_take.specs.Taken.{named_bit}
+use Rattle.arrow_take.proofs.Common.{◌≡◌, ◌+◌, ◌*◌, ◌/◌, ◌++◌, ◌∙◌, arith, ap, length, map, take, take-add, sym, option_copied, map-append, take_all, masked, sliced, named_bit}
 use Rattle.arrow_take.proofs.IndexLemmas.{length-masked_slots}
 use Rattle.arrow_take.proofs.take.indices.append_bits.Goals as goal
 

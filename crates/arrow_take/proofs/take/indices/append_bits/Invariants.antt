@@ -1,7 +1,4 @@
-use Rattle.std.proofs.Common.{◌≡◌, ◌-◌, ◌%◌, ◌<◌, ◌≤◌, length, map, take}
-use Rattle.std.specs.Prelude.{option_copied}
-use Rattle.arrow_types.specs.Rows.{masked}
-use Rattle.arrow_take.specs.Taken.{named_bit}
+use Rattle.arrow_take.proofs.Common.{◌≡◌, ◌-◌, ◌%◌, ◌<◌, ◌≤◌, length, map, take, option_copied, masked, named_bit}
 use Rattle.arrow_take.proofs.take.indices.append_bits.Given as goal
 
 -- the bits of the indices so far, which are whole words of them where some are left

@@ -1,6 +1,4 @@
-use Rattle.std.proofs.Common.{◌≡◌, ◌*◌, ◌/◌, ◌∙◌, arith, map}
-use Rattle.std.specs.Prelude.{option_copied}
-use Rattle.arrow_types.specs.Rows.{masked}
+use Rattle.arrow_take.proofs.Common.{◌≡◌, ◌*◌, ◌/◌, ◌∙◌, arith, map, option_copied, masked}
 use Rattle.arrow_take.proofs.IndexLemmas.{gives_all, gives_more, length-masked_slots}
 use Rattle.arrow_take.proofs.take.indices.append_named.Goals as goal
 

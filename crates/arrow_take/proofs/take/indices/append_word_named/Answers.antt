@@ -1,9 +1,4 @@
-use Rattle.std.proofs.Common.{◌≡◌, ◌+◌, ◌*◌, ◌<◌, ◌∙◌, arith, ap, drop, length, map, get_or, subst, sym}
-use Rattle.std.specs.Prelude.{option_copied}
-use Rattle.std.proofs.lemmas.List.{get_or-drop, length-drop}
-use Rattle.arrow_types.specs.Rows.{masked}
-use Rattle.arrow_types.specs.Slot.{Null}
-use Rattle.arrow_arrays.specs.KeyedParts.{IsKey}
+use Rattle.arrow_take.proofs.Common.{◌≡◌, ◌+◌, ◌*◌, ◌<◌, ◌∙◌, arith, ap, drop, length, map, get_or, subst, sym, option_copied, get_or-drop, length-drop, masked, Null, IsKey}
 use Rattle.arrow_take.proofs.IndexLemmas.{gives_next, row_by_bit, row_within}
 use Rattle.arrow_take.proofs.take.indices.append_word_named.Goals as goal
 

@@ -1,7 +1,4 @@
-use Rattle.std.proofs.Common.{◌≡◌, ◌+◌, ◌*◌, ◌++◌, map, take, drop}
-use Rattle.std.specs.Prelude.{option_copied}
-use Rattle.std.specs.Vec.{vec_len, vec_capacity}
-use Rattle.arrow_types.specs.Rows.{masked}
+use Rattle.arrow_take.proofs.Common.{◌≡◌, ◌+◌, ◌*◌, ◌++◌, map, take, drop, option_copied, vec_len, vec_capacity, masked}
 use Rattle.arrow_take.proofs.take.indices.append_word_named.Given as goal
 
 -- the values of the indices so far

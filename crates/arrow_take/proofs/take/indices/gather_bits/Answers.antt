@@ -1,10 +1,4 @@
-use Rattle.std.proofs.Common.{◌≡◌, ◌∙◌, ap, false, length, map, replicate, subst, sym}
-use Rattle.std.specs.Prelude.{IfOk}
-use Rattle.std.proofs.lemmas.List.{length-map}
-use Rattle.arrow_flat.specs.Parts.{rows_by}
-use Rattle.arrow_flat.proofs.PartsLemmas.{length-masked}
-use Rattle.arrow_arrays.specs.KeyedParts.{AreKeys}
-use Rattle.arrow_take.specs.Taken.{named_bit}
+use Rattle.arrow_take.proofs.Common.{◌≡◌, ◌∙◌, ap, false, length, map, replicate, subst, sym, IfOk, length-map, rows_by, length-masked, AreKeys, named_bit}
 use Rattle.arrow_take.proofs.IndexLemmas.{no_bits}
 use Rattle.arrow_take.proofs.take.indices.gather_bits.Goals as goal
 

@@ -1,9 +1,4 @@
-use Rattle.std.proofs.Common.{◌≡◌, ◌∙◌, [], ap, length, map, replicate, rules, subst, sym}
-use Rattle.std.specs.Prelude.{IfOk}
-use Rattle.std.proofs.lemmas.List.{length-map}
-use Rattle.arrow_flat.specs.Parts.{rows_by}
-use Rattle.arrow_flat.proofs.PartsLemmas.{length-masked}
-use Rattle.arrow_take.specs.Taken.{picked}
+use Rattle.arrow_take.proofs.Common.{◌≡◌, ◌∙◌, [], ap, length, map, replicate, rules, subst, sym, IfOk, length-map, rows_by, length-masked, picked}
 use Rattle.arrow_take.proofs.IndexLemmas.{nil_of, picked_none}
 use Rattle.arrow_take.proofs.take.indices.gather_values.Goals as goal
 

@@ -1,7 +1,4 @@
-use Rattle.std.proofs.Common.{ap, sym, ◌∙◌}
-use Rattle.arrow_types.specs.Slot.{Number}
-use Rattle.arrow_arrays.specs.KeyedParts.{key_in}
-use Rattle.arrow_arrays.proofs.KeyLemmas.{not_negative}
+use Rattle.arrow_take.proofs.Common.{ap, sym, ◌∙◌, Number, key_in, not_negative}
 use Rattle.arrow_take.proofs.IndexLemmas.{null_at, number_at}
 use Rattle.arrow_take.proofs.take.indices.index_at.Goals as goal
 

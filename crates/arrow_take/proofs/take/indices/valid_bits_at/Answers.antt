@@ -1,14 +1,4 @@
-use Rattle.std.proofs.Common.{◌≡◌, ◌+◌, ◌*◌, ◌<◌, ◌∙◌, arith, ap, drop, get_or, length, map, take, refl, subst, sym, []}
-use Rattle.std.specs.Prelude.{option_copied}
-use Rattle.std.proofs.lemmas.List.{get_or-drop, length-drop, length-map, length-take}
-use Rattle.arrow_types.specs.Rows.{masked}
-use Rattle.arrow_types.specs.Slot.{Null}
-use Rattle.arrow_memory.specs.Sliced.{sliced}
-use Rattle.arrow_memory.specs.Words.{word_of}
-use Rattle.arrow_memory.proofs.SlicedLemmas.{length-sliced}
-use Rattle.arrow_memory.proofs.BitLemmas.{bits_of_word, word_more}
-use Rattle.arrow_arrays.specs.KeyedParts.{IsKey}
-use Rattle.arrow_take.specs.Taken.{named_bit}
+use Rattle.arrow_take.proofs.Common.{◌≡◌, ◌+◌, ◌*◌, ◌<◌, ◌∙◌, arith, ap, drop, get_or, length, map, take, refl, subst, sym, [], option_copied, get_or-drop, length-drop, length-map, length-take, masked, Null, sliced, word_of, length-sliced, bits_of_word, word_more, IsKey, named_bit}
 use Rattle.arrow_take.proofs.IndexLemmas.{gives_next, length-masked_slots, row_by_bit, row_within}
 use Rattle.arrow_take.proofs.take.indices.valid_bits_at.Goals as goal
 

@@ -1,9 +1,4 @@
-use Rattle.std.proofs.Common.{◌≡◌, ◌*◌, ◌≤◌, map}
-use Rattle.std.specs.Prelude.{option_copied}
-use Rattle.arrow_types.specs.Rows.{masked}
-use Rattle.arrow_memory.specs.Sliced.{sliced}
-use Rattle.arrow_memory.specs.Words.{word_of}
-use Rattle.arrow_take.specs.Taken.{named_bit}
+use Rattle.arrow_take.proofs.Common.{◌≡◌, ◌*◌, ◌≤◌, map, option_copied, masked, sliced, word_of, named_bit}
 use Rattle.arrow_take.proofs.take.indices.valid_bits_at.Given as goal
 
 -- the word holds the bits of the indices so far

@@ -1,6 +1,4 @@
-use Rattle.std.proofs.Common.{◌≡◌, ◌∙◌, ap, map, rules}
-use Rattle.std.specs.Prelude.{option_copied}
-use Rattle.arrow_flat.specs.Parts.{rows_by, with_bits}
+use Rattle.arrow_take.proofs.Common.{◌≡◌, ◌∙◌, ap, map, rules, option_copied, rows_by, with_bits}
 use Rattle.arrow_take.proofs.IndexLemmas.{indices_valid}
 use Rattle.arrow_take.proofs.take.indices.valid_indices.Goals as goal
 

@@ -1,5 +1,4 @@
-use Rattle.std.proofs.Common.{◌≡◌}
-use Rattle.arrow_arrays.proofs.NullLemmas.{grown_copies}
+use Rattle.arrow_take.proofs.Common.{◌≡◌, grown_copies}
 use Rattle.arrow_take.proofs.take.indices.zeros.Goals as goal
 
 pub returns-clause-ok : goal.returns-clause-ok

@@ -1,11 +1,4 @@
-use Rattle.std.proofs.Common.{[], ◌∷◌, Err, ap, map, subst, sym}
-use Rattle.arrow_types.specs.Fits.{Fits}
-use Rattle.arrow_types.specs.Rows.{gather}
-use Rattle.arrow_flat.specs.Parts.{rows_by}
-use Rattle.arrow_arrays.specs.Layout.{rows, type_of_layout}
-use Rattle.arrow_flat_growable.proofs.ResultLemmas.{passed_on}
-use Rattle.arrow_growable.specs.Growing.{HasAppended}
-use Rattle.arrow_take.specs.Taken.{first_bound}
+use Rattle.arrow_take.proofs.Common.{[], ◌∷◌, Err, ap, map, subst, sym, Fits, gather, rows_by, rows, type_of_layout, passed_on, HasAppended, first_bound}
 use Rattle.arrow_take.proofs.AnswerLemmas.{hands_out, rows_of}
 use Rattle.arrow_take.proofs.take.nested.grown.Goals as goal
 

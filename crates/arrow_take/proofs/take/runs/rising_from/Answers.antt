@@ -1,6 +1,4 @@
-use Rattle.std.proofs.Common.{◌≡◌, ◌+◌, Some, arith, map, rules, ◌∙◌, sym}
-use Rattle.std.specs.Prelude.{option_copied}
-use Rattle.arrow_types.specs.Rows.{masked}
+use Rattle.arrow_take.proofs.Common.{◌≡◌, ◌+◌, Some, arith, map, rules, ◌∙◌, sym, option_copied, masked}
 use Rattle.arrow_take.proofs.IndexLemmas.{length-masked_slots}
 use Rattle.arrow_take.proofs.TakenRuns.{place_more}
 use Rattle.arrow_take.proofs.take.runs.rising_from.Goals as goal

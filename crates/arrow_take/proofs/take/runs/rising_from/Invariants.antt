@@ -1,8 +1,4 @@
-use Rattle.std.proofs.Common.{◌≡◌, ◌+◌, ◌-◌, ◌<◌, ◌≤◌, Some, length, map}
-use Rattle.std.specs.Prelude.{option_copied}
-use Rattle.arrow_types.specs.Rows.{masked}
-use Rattle.arrow_memory.specs.Sliced.{sliced}
-use Rattle.arrow_take.specs.Taken.{run_of}
+use Rattle.arrow_take.proofs.Common.{◌≡◌, ◌+◌, ◌-◌, ◌<◌, ◌≤◌, Some, length, map, option_copied, masked, sliced, run_of}
 use Rattle.arrow_take.proofs.take.runs.rising_from.Given as goal
 
 -- those so far name the places from the first one on

@@ -1,7 +1,4 @@
-use Rattle.std.proofs.Common.{arith, ap}
-use Rattle.arrow_types.specs.ArrowType.{type_in}
-use Rattle.arrow_types.specs.TypeOf.{field_of}
-use Rattle.arrow_arrays.specs.TypeDepth.{type_depth}
+use Rattle.arrow_take.proofs.Common.{arith, ap, type_in, field_of, type_depth}
 use Rattle.arrow_take.proofs.TakenTypes.{field_below}
 use Rattle.arrow_take.proofs.take.types.+is_taken.Goals as goal
 

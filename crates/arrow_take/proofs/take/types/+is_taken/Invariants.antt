@@ -1,7 +1,4 @@
-use Rattle.std.proofs.Common.{◌↔◌, ◌+◌, ◌*◌, drop}
-use Rattle.arrow_types.specs.TypeOf.{fields_of, type_of}
-use Rattle.arrow_arrays.specs.TypeDepth.{fields_depth, type_depth}
-use Rattle.arrow_take.specs.Taken.{AreTaken}
+use Rattle.arrow_take.proofs.Common.{◌↔◌, ◌+◌, ◌*◌, drop, fields_of, type_of, fields_depth, type_depth, AreTaken}
 use Rattle.arrow_take.proofs.take.types.+is_taken.Given as goal
 
 -- the depth of the type, and that of all fields just below it

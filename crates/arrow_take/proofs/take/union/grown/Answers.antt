@@ -1,13 +1,4 @@
-use Rattle.std.proofs.Common.{[], ◌∷◌, Err, ap, map, subst, sym}
-use Rattle.arrow_types.specs.Fits.{Fits}
-use Rattle.arrow_types.specs.Rows.{gather}
-use Rattle.arrow_flat.specs.Parts.{rows_by}
-use Rattle.arrow_arrays.specs.Layout.{rows, type_of_layout}
-use Rattle.arrow_arrays.specs.UnionParts.{union_layout, union_rows}
-use Rattle.arrow_growable.specs.Growing.{HasAppended}
-use Rattle.arrow_growable.proofs.UnionLoopLemmas.{union_type}
-use Rattle.arrow_take.specs.Answers.{Answers}
-use Rattle.arrow_take.specs.Taken.{first_bound}
+use Rattle.arrow_take.proofs.Common.{[], ◌∷◌, Err, ap, map, subst, sym, Fits, gather, rows_by, rows, type_of_layout, union_layout, union_rows, HasAppended, union_type, Answers, first_bound}
 use Rattle.arrow_take.proofs.AnswerLemmas.{hands_out, passes_on}
 use Rattle.arrow_take.proofs.take.union.grown.Goals as goal
 

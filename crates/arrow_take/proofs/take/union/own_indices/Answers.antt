@@ -1,11 +1,4 @@
-use Rattle.std.proofs.Common.{arith, ◌≡◌, ◌<◌, ◌&&◌, ◌∙◌, ℕ, Some, ap, get_or, length, map, rules}
-use Rattle.std.specs.Prelude.{option_copied}
-use Rattle.std.specs.Ordering.{int_eq}
-use Rattle.std.proofs.lemmas.List.{length-map}
-use Rattle.arrow_types.specs.Rows.{valid_at}
-use Rattle.arrow_flat.specs.Parts.{rows_by, with_bits}
-use Rattle.arrow_take.specs.SparseUnions.{taken_id}
-use Rattle.arrow_growable.specs.Variants.{have_id}
+use Rattle.arrow_take.proofs.Common.{arith, ◌≡◌, ◌<◌, ◌&&◌, ◌∙◌, ℕ, Some, ap, get_or, length, map, rules, option_copied, int_eq, length-map, valid_at, rows_by, with_bits, taken_id, have_id}
 use Rattle.arrow_take.proofs.IndexLemmas.{indices_valid}
 use Rattle.arrow_take.proofs.TakenVariants.{answered_bit, own_bits}
 use Rattle.arrow_take.proofs.take.union.own_indices.Goals as goal

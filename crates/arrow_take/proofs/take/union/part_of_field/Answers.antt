@@ -1,17 +1,4 @@
-use Rattle.std.proofs.Common.{◌≡◌, ◌<◌, ◌∙◌, Some, None, arith, ap, length, map, of_z, rules, subst, sym, to_z, w8}
-use Rattle.std.specs.Prelude.{option_copied, option_map}
-use Rattle.std.proofs.lemmas.Int.{ints, to_z-of_z}
-use Rattle.std.proofs.lemmas.List.{length-map}
-use Rattle.arrow_types.specs.Slot.{id_at}
-use Rattle.arrow_memory.specs.Sliced.{sliced}
-use Rattle.arrow_flat.specs.Parts.{rows_by}
-use Rattle.arrow_arrays.specs.Any.{any_array_rows, layout_of}
-use Rattle.arrow_arrays.specs.Layout.{field_ids}
-use Rattle.arrow_arrays.specs.SliceOf.{slice_of}
-use Rattle.arrow_take.specs.DenseUnions.{ArePlaces, NamesPart, kept}
-use Rattle.arrow_take.specs.SparseUnions.{taken_id}
-use Rattle.arrow_growable.specs.Variants.{have_id}
-use Rattle.arrow_take.specs.Taken.{valid_index}
+use Rattle.arrow_take.proofs.Common.{◌≡◌, ◌<◌, ◌∙◌, Some, None, arith, ap, length, map, of_z, rules, subst, sym, to_z, w8, option_copied, option_map, ints, to_z-of_z, length-map, id_at, sliced, rows_by, any_array_rows, layout_of, field_ids, slice_of, ArePlaces, NamesPart, kept, taken_id, have_id, valid_index}
 use Rattle.arrow_take.proofs.TakenPlaces.{places_name}
 use Rattle.arrow_take.proofs.TakenUnions.{sliced_names, sparse_by}
 use Rattle.arrow_take.proofs.TakenVariants.{spans_rows}

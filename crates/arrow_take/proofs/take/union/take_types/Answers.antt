@@ -1,14 +1,4 @@
-use Rattle.std.proofs.Common.{◌≡◌, ◌<◌, ◌∙◌, [], arith, ap, get_or, length, map, of_z, sym, to_z, w8}
-use Rattle.std.specs.Prelude.{IfSome}
-use Rattle.std.proofs.lemmas.Int.{ints, to_z-of_z}
-use Rattle.std.proofs.lemmas.List.{length-map}
-use Rattle.arrow_types.specs.Rows.{masked}
-use Rattle.arrow_types.specs.Slot.{Null, id_at}
-use Rattle.arrow_flat.specs.Parts.{rows_by}
-use Rattle.arrow_flat.proofs.PartsLemmas.{length-masked}
-use Rattle.arrow_arrays.specs.KeyedParts.{key_in}
-use Rattle.arrow_arrays.specs.Layout.{field_ids}
-use Rattle.arrow_take.specs.SparseUnions.{id_or, taken_id}
+use Rattle.arrow_take.proofs.Common.{◌≡◌, ◌<◌, ◌∙◌, [], arith, ap, get_or, length, map, of_z, sym, to_z, w8, IfSome, ints, to_z-of_z, length-map, masked, Null, id_at, rows_by, length-masked, key_in, field_ids, id_or, taken_id}
 use Rattle.arrow_take.proofs.IndexLemmas.{each_index, gives_all, gives_next}
 use Rattle.arrow_take.proofs.take.union.take_types.Goals as goal
 

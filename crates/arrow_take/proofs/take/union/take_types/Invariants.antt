@@ -1,7 +1,4 @@
-use Rattle.std.proofs.Common.{◌≡◌, ◌≤◌, length, map, take}
-use Rattle.std.specs.Vec.{vec_len, vec_capacity}
-use Rattle.arrow_flat.specs.Parts.{rows_by}
-use Rattle.arrow_take.specs.SparseUnions.{taken_id}
+use Rattle.arrow_take.proofs.Common.{◌≡◌, ◌≤◌, length, map, take, vec_len, vec_capacity, rows_by, taken_id}
 use Rattle.arrow_take.proofs.take.union.take_types.Given as goal
 
 -- the type ids of the indices so far
