@@ -1,22 +1,5 @@
 -- Rows that a predicate chooses from two lists, a run of equal rows of the predicate at a time.
-use Rattle.std.proofs.Common.{arith, ◌≡◌, ◌+◌, ◌-◌, ◌≤◌, ◌<◌, ℕ, zero, suc, Bool, true, false, Option, Some, None, List, [], ◌∷◌, ◌++◌, length, replicate, take, drop, get_or, refl, ap, sym, subst, inl, inr, ◌∙◌, append_assoc, length-drop}
-use Rattle.std.specs.Prelude.{slice_get}
-use Rattle.std.proofs.Math.Seq.{drop-append_seam, take-append_seam}
-use Rattle.std.proofs.lemmas.List.{append-nil, drop-drop, get_or-drop, get_or-replicate, get_or-take, length-append, length-replicate}
-use Rattle.std.proofs.lemmas.Option.{slice_get-get_or}
-use Rattle.arrow_types.specs.ArrowType.{ArrowType}
-use Rattle.arrow_types.specs.Rows.{chosen, choice}
-use Rattle.arrow_types.specs.Slot.{Slot, Null, Boolean, null_slot}
-use Rattle.arrow_memory.specs.Sliced.{sliced}
-use Rattle.arrow_memory.proofs.SlicedLemmas.{length-sliced}
-use Rattle.arrow_arrays.specs.Any.{layout_of}
-use Rattle.arrow_arrays.specs.Layout.{Layout, rows, type_of_layout}
-use Rattle.arrow_arrays.specs.declared.array.any.AnyArray.{AnyArray}
-use Rattle.arrow_flat_growable.specs.Grown.{Grown, CannotHold, FitsWith, NamesRows, named_rows}
-use Rattle.arrow_growable.specs.Growing.{HasAppended}
-use Rattle.arrow_growable.proofs.GrowLemmas.{named, nulls, refuses_whole, too_many_first}
-use Rattle.arrow_choice.specs.Runs.{TakesRun}
-use Rattle.arrow_choice.specs.Choice.{AreOneLength, CannotAppendChosen, CannotChoose, CannotHoldRun, ChosenDoNotFit, run_rows, truth_slot}
+use Rattle.arrow_choice.proofs.Common.{arith, ◌≡◌, ◌+◌, ◌-◌, ◌≤◌, ◌<◌, ℕ, zero, suc, Bool, true, false, Option, Some, None, List, [], ◌∷◌, ◌++◌, length, replicate, take, drop, get_or, refl, ap, sym, subst, inl, inr, ◌∙◌, append_assoc, length-drop, slice_get, drop-append_seam, take-append_seam, append-nil, drop-drop, get_or-drop, get_or-replicate, get_or-take, length-append, length-replicate, slice_get-get_or, ArrowType, chosen, choice, Slot, Null, Boolean, null_slot, sliced, length-sliced, layout_of, Layout, rows, type_of_layout, AnyArray, Grown, CannotHold, FitsWith, NamesRows, named_rows, HasAppended, named, nulls, refuses_whole, too_many_first, TakesRun, AreOneLength, CannotAppendChosen, CannotChoose, CannotHoldRun, ChosenDoNotFit, run_rows, truth_slot}
 
 -- what a run of equal rows of the predicate chooses
 

@@ -1,23 +1,6 @@
 -- Texts and bytes that a predicate chooses: which they are, and when there are too many.
-use Rattle.std.proofs.Common.{arith, ◌≡◌, ◌<◌, ◌≤◌, ◌^◌, ℕ, suc, Bool, true, false, Option, Some, None, List, [], ◌∷◌, length, map, get_or, if◌then◌else◌, refl, ap, sym, subst}
-use Rattle.std.specs.Prelude.{sum_by}
-use Rattle.std.specs.List.{All, range_with_len}
-use Rattle.std.proofs.lemmas.List.Elements.{All-map}
-use Rattle.std.proofs.lemmas.List.FromFn.{get_or-range_with_len, length-range_with_len}
-use Rattle.std.proofs.lemmas.List.Sums.{sum_by-cons}
-use Rattle.arrow_types.specs.declared.datatypes.physical_type.PhysicalType.{PhysicalType}
-use Rattle.arrow_types.specs.ArrowType.{ArrowType}
-use Rattle.arrow_types.specs.Fits.{Fits, byte_count}
-use Rattle.arrow_types.specs.Greatest.{greatest_offset}
-use Rattle.arrow_types.specs.Physical.{physical_type_of}
-use Rattle.arrow_types.specs.Rows.{chosen, mask, masked, valid_at}
-use Rattle.arrow_types.specs.Slot.{Slot, Null}
-use Rattle.arrow_flat.specs.ByteRows.{ByteParts, byte_slots, row_bytes}
-use Rattle.arrow_flat.specs.Parts.{FitsRows, Parts, boolean_rows, rows_by}
-use Rattle.arrow_flat_growable.specs.ByteLaws.{counts_of, fit_by, null_of}
-use Rattle.arrow_flat_growable.specs.Bytes.{IsBytesType}
-use Rattle.arrow_flat_growable.specs.GrownRows.{total}
-use Rattle.arrow_choice.specs.Choice.{all_chosen, chosen_by, row_chosen}
+use Rattle.arrow_choice.proofs.Common.{arith, ◌≡◌, ◌<◌, ◌≤◌, ◌^◌, ℕ, suc, Bool, true, false, Option, Some, None, List, [], ◌∷◌, length, map, get_or, if◌then◌else◌, refl, ap, sym, subst, sum_by, range_with_len, All-map, get_or-range_with_len, length-range_with_len, sum_by-cons, PhysicalType, ArrowType, Fits, byte_count, greatest_offset, physical_type_of, chosen, mask, masked, valid_at, Slot, Null, ByteParts, byte_slots, row_bytes, FitsRows, Parts, boolean_rows, rows_by, counts_of, fit_by, null_of, IsBytesType, total, all_chosen, chosen_by, row_chosen}
+use Rattle.std.specs.List.{All}
 use Rattle.arrow_choice.proofs.ChosenLemmas.{Chooses}
 use Rattle.arrow_choice.proofs.ChosenRows.{length-made, long_made, made_fits, made_rows, spared}
 

@@ -1,34 +1,9 @@
 -- Structs of two arrays as a predicate chooses: each field by the predicate, null where the chosen row is.
-use Rattle.std.proofs.Common.{arith, ◌≡◌, ◌+◌, ◌<◌, ◌^◌, ℕ, zero, suc, Bool, true, false, Option, Some, None, List, [], ◌∷◌, ◌++◌, length, map, take, get_or, if◌then◌else◌, inl, inr, refl, ap, sym, subst, ◌∙◌}
-use Rattle.std.specs.Prelude.{◌&&◌, slice_get}
+use Rattle.arrow_choice.proofs.Common.{arith, ◌≡◌, ◌+◌, ◌<◌, ◌^◌, ℕ, zero, suc, Bool, true, false, Option, Some, None, List, [], ◌∷◌, ◌++◌, length, map, take, get_or, if◌then◌else◌, inl, inr, refl, ap, sym, subst, ◌∙◌, ◌&&◌, slice_get, get_or-map, get_or_default, length-map, same_lists, get_or_from_slice_get, slice_get-get_or, slice_get_within, map-map, ArrowType, Fits, part_in, choice, chosen, masked, valid_at, Slot, Null, Boolean, null_slot, to_slots, length-chosen, sliced, FitsRows, Parts, bits_of_slice, boolean_rows, length-masked, row_at, any_array_rows, any_array_type, layout_of, CrowdedRow, Unjoined, Layout, from_layouts, rows, to_layouts, FitsColumns, HaveRows, IsStruct, StructParts, row_count, row_of, struct_layout, struct_rows, AnyArray, length-struct_rows, struct_row_null, struct_row_valid, source_at, LiesIn, by_fields, IsOfForm, children_in, no_child, nth_child, crowded_named, child_unjoined, AreAsLong, AreOneLength, CannotChoose, ChosenIsCrowded, MarksChosen, SomeCannotChoose, chosen_columns, column_long, column_of_fits, columns_fit, first_long, part_at, some_column}
 use Rattle.std.specs.List.{All}
-use Rattle.std.proofs.lemmas.List.{get_or-map, get_or_default, length-map, same_lists}
-use Rattle.std.proofs.lemmas.Option.{get_or_from_slice_get, slice_get-get_or, slice_get_within}
-use Rattle.std.proofs.lemmas.Simd.{map-map}
-use Rattle.arrow_types.specs.ArrowType.{ArrowType}
-use Rattle.arrow_types.specs.Fits.{Fits, part_in}
-use Rattle.arrow_types.specs.Rows.{choice, chosen, masked, valid_at}
-use Rattle.arrow_types.specs.Slot.{Slot, Null, Boolean, Parts as fields, null_slot, to_slots}
-use Rattle.arrow_types.proofs.SelectLemmas.{length-chosen}
-use Rattle.arrow_memory.specs.Sliced.{sliced}
-use Rattle.arrow_flat.specs.Parts.{FitsRows, Parts, bits_of_slice, boolean_rows}
-use Rattle.arrow_flat.proofs.PartsLemmas.{length-masked, row_at}
-use Rattle.arrow_arrays.specs.Any.{any_array_rows, any_array_type, layout_of}
-use Rattle.arrow_arrays.specs.Crowded.{CrowdedRow, Unjoined}
-use Rattle.arrow_arrays.specs.Layout.{Layout, from_layouts, rows, to_layouts}
-use Rattle.arrow_arrays.specs.StructParts.{FitsColumns, HaveRows, IsStruct, StructParts, row_count, row_of, struct_layout, struct_rows}
-use Rattle.arrow_arrays.specs.declared.array.any.AnyArray.{AnyArray}
-use Rattle.arrow_arrays.proofs.StructLemmas.{length-struct_rows, struct_row_null, struct_row_valid}
-use Rattle.arrow_flat_growable.specs.Grown.{source_at}
-use Rattle.arrow_growable.specs.Child.{LiesIn}
-use Rattle.arrow_growable.specs.Form.{by_fields}
-use Rattle.arrow_growable.specs.Source.{IsOfForm, children_in, no_child, nth_child}
-use Rattle.arrow_growable.proofs.CrowdLemmas.{crowded_named}
-use Rattle.arrow_growable.proofs.UnjoinedLemmas.{child_unjoined}
-use Rattle.arrow_choice.specs.Choice.{AreAsLong, AreOneLength, CannotChoose, ChosenIsCrowded, MarksChosen, SomeCannotChoose, chosen_columns}
+use Rattle.arrow_types.specs.Slot.{Parts as fields}
 use Rattle.arrow_choice.proofs.ChosenLemmas.{get_or-chosen}
 use Rattle.arrow_choice.proofs.SideLemmas.{only_valid}
-use Rattle.arrow_growable.proofs.FieldColumns.{column_long, column_of_fits, columns_fit, first_long, part_at, some_column}
 
 -- ---- columns that are chosen
 

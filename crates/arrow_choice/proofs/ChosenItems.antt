@@ -1,20 +1,5 @@
 -- Lists of two arrays as a predicate chooses: a run of valid rows of one side, or of null ones, behind those so far.
-use Rattle.std.proofs.Common.{arith, ◌≡◌, ◌+◌, ◌-◌, ◌<◌, ◌≤◌, ℕ, Bool, false, Option, Some, None, List, [], ◌∷◌, ◌++◌, length, map, replicate, get_or, slice_index, if◌then◌else◌, ap, sym, subst, ◌∙◌}
-use Rattle.std.proofs.lemmas.List.{get_or-map, length-map}
-use Rattle.std.proofs.lemmas.Option.{get_or_from_slice_get}
-use Rattle.arrow_types.specs.Rows.{masked, valid_at}
-use Rattle.arrow_types.specs.Slot.{Slot, Null, Boolean}
-use Rattle.arrow_memory.specs.Offsets.{IsOffsets, last_of, with_rows}
-use Rattle.arrow_memory.specs.Sliced.{sliced}
-use Rattle.arrow_memory.proofs.OffsetLemmas.{at_most_last, offsets_rise}
-use Rattle.arrow_flat.specs.Parts.{FitsRows}
-use Rattle.arrow_flat.specs.Pieces.{pieces}
-use Rattle.arrow_flat.proofs.PartsLemmas.{length-masked, row_at}
-use Rattle.arrow_arrays.specs.Layout.{Layout, rows}
-use Rattle.arrow_flat_growable.specs.Grown.{Grown, FitsItself, NamesRows, appended, named_rows, source_at}
-use Rattle.arrow_growable.specs.Growing.{HasAppended}
-use Rattle.arrow_growable.proofs.GrowLemmas.{holds_more, named}
-use Rattle.arrow_choice.specs.Choice.{AppendsRows, row_chosen, row_under, rows_from, truth_slot}
+use Rattle.arrow_choice.proofs.Common.{arith, ◌≡◌, ◌+◌, ◌-◌, ◌<◌, ◌≤◌, ℕ, Bool, false, Option, Some, None, List, [], ◌∷◌, ◌++◌, length, map, replicate, get_or, slice_index, if◌then◌else◌, ap, sym, subst, ◌∙◌, get_or-map, length-map, get_or_from_slice_get, masked, valid_at, Slot, Null, Boolean, IsOffsets, last_of, with_rows, sliced, at_most_last, offsets_rise, FitsRows, pieces, length-masked, row_at, Layout, rows, Grown, FitsItself, NamesRows, appended, named_rows, source_at, HasAppended, holds_more, named, AppendsRows, row_chosen, row_under, rows_from, truth_slot}
 use Rattle.arrow_choice.proofs.ChoiceLemmas.{IsTaken, read_run}
 use Rattle.arrow_choice.proofs.ChosenRuns.{nulls_appended, run_appended, run_more, valid_side}
 use Rattle.arrow_choice.proofs.SideLemmas.{only_null, only_valid}

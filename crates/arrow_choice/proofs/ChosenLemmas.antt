@@ -1,25 +1,7 @@
 -- Rows that a predicate chooses, by what is stored and validities, a word at a time.
-use Rattle.std.proofs.Common.{arith, ◌≡◌, ◌+◌, ◌-◌, ◌*◌, ◌/◌, ◌%◌, ◌^◌, ◌<◌, ◌≤◌, min, ℕ, zero, suc, Bool, true, false, Option, Some, None, List, [], ◌∷◌, ◌++◌, length, map, replicate, take, drop, get_or, slice_index, refl, ap, sym, subst, ◌∙◌, if◌then◌else◌, zero-add, append_assoc, w64, not}
-use Rattle.std.specs.Prelude.{◌==◌, ◌&&◌, ◌||◌, bit_and, bit_or, slice_get, IfOk, Result, Ok, Err}
-use Rattle.std.specs.Int.{bit_at, bit_not}
-use Rattle.std.proofs.lemmas.List.{drop-drop, get_or-map, get_or-replicate, get_or_default, length-drop, length-map, length-replicate, length-take, same_lists, take_min}
-use Rattle.std.proofs.lemmas.List.FromFn.{get_or-map-range_with_len}
-use Rattle.std.proofs.lemmas.Nat.Bits.{bit_at-zero, bit_at_ones}
-use Rattle.std.proofs.lemmas.Option.{slice_get-get_or}
-use Rattle.arrow_types.specs.ArrowType.{ArrowType}
-use Rattle.arrow_types.specs.Rows.{choice, chosen, masked, valid_at}
-use Rattle.arrow_types.specs.Slot.{Slot, Null, Boolean, null_slot}
-use Rattle.arrow_types.proofs.RowsLemmas.{take_at_read}
-use Rattle.arrow_types.proofs.SelectLemmas.{length-chosen}
-use Rattle.arrow_memory.specs.Gathered.{AnswersWords}
-use Rattle.arrow_memory.specs.Sliced.{sliced}
-use Rattle.arrow_memory.specs.Words.{is_set, low_bits, word_of}
-use Rattle.arrow_memory.proofs.BitLemmas.{bits_of_word}
-use Rattle.arrow_memory.proofs.LogicLemmas.{and_each, not_each, or_each}
-use Rattle.arrow_memory.proofs.WordLemmas.{get_or-bits_in, length-bits_in, length-low_bits}
-use Rattle.arrow_flat.specs.Parts.{Parts, FitsRows, boolean_rows, rows_by}
-use Rattle.arrow_flat.proofs.PartsLemmas.{length-masked, row_at}
-use Rattle.arrow_choice.specs.Choice.{AreOneLength, MarksChosen, chosen_by, valid_chosen}
+use Rattle.arrow_choice.proofs.Common.{arith, ◌≡◌, ◌+◌, ◌-◌, ◌*◌, ◌/◌, ◌%◌, ◌^◌, ◌<◌, ◌≤◌, min, ℕ, zero, suc, Bool, true, false, Option, Some, None, List, [], ◌∷◌, ◌++◌, length, map, replicate, take, drop, get_or, slice_index, refl, ap, sym, subst, ◌∙◌, if◌then◌else◌, zero-add, append_assoc, w64, not, ◌==◌, ◌&&◌, ◌||◌, bit_and, bit_or, slice_get, IfOk, Result, Ok, bit_at, bit_not, drop-drop, get_or-map, get_or-replicate, get_or_default, length-map, length-replicate, length-take, same_lists, take_min, get_or-map-range_with_len, bit_at-zero, bit_at_ones, slice_get-get_or, ArrowType, choice, chosen, masked, valid_at, Slot, Null, Boolean, null_slot, take_at_read, length-chosen, AnswersWords, sliced, is_set, low_bits, word_of, bits_of_word, and_each, not_each, or_each, get_or-bits_in, length-bits_in, length-low_bits, Parts, FitsRows, boolean_rows, rows_by, length-masked, row_at, AreOneLength, MarksChosen, chosen_by, valid_chosen}
+use Rattle.std.specs.Prelude.{Err}
+use Rattle.std.proofs.lemmas.List.{length-drop}
 
 -- ---- members of two lists
 

@@ -1,30 +1,7 @@
 -- Arrays of the lists that a predicate chooses: their rows, and that they fit.
-use Rattle.std.proofs.Common.{arith, ◌≡◌, ◌+◌, ◌-◌, ◌<◌, ◌≤◌, ◌^◌, ℕ, suc, Bool, true, false, Option, Some, None, List, [], ◌∷◌, ◌++◌, length, map, get_or, refl, ap, sym, subst, ◌∙◌}
-use Rattle.std.proofs.lemmas.List.{length-map}
-use Rattle.arrow_types.specs.ArrowType.{ArrowType, plain, list, struct, union, dictionary, extension, field, small, large, fixed_size, mapped}
-use Rattle.arrow_types.specs.Fits.{Fits, all_items}
-use Rattle.arrow_types.specs.Physical.{physical_type_of}
-use Rattle.arrow_types.specs.Rows.{chosen, mask, masked, valid_at}
-use Rattle.arrow_types.specs.Slot.{Slot, null_slot, Null}
-use Rattle.arrow_types.proofs.SlotLemmas.{from_slots-to_slots, null_slot-no_union}
-use Rattle.arrow_memory.specs.Offsets.{last_of}
-use Rattle.arrow_flat.specs.Parts.{FitsRows, Parts, boolean_rows}
-use Rattle.arrow_flat.specs.Pieces.{pieces}
-use Rattle.arrow_flat.proofs.PieceLemmas.{length-pieces}
-use Rattle.arrow_arrays.specs.AnyOffsetsBuffer.{lists_of}
-use Rattle.arrow_arrays.specs.declared.array.list.AnyOffsetsBuffer.{AnyOffsetsBuffer}
-use Rattle.arrow_arrays.specs.declared.array.list.AnyOffsetsBuffer.TheVariants.{Large, Small}
-use Rattle.arrow_arrays.specs.Layout.{items_row, list_items, rows}
-use Rattle.arrow_arrays.specs.ListParts.{ListParts, list_rows}
-use Rattle.arrow_arrays.specs.TypeParts.{item_type}
-use Rattle.arrow_growable.specs.Lists.{IsListType, greatest_in}
-use Rattle.arrow_growable.proofs.KindLemmas.{no_plain}
-use Rattle.arrow_choice.specs.Choice.{AreOneLength, MarksChosen, chosen_by, chosen_lists}
-use Rattle.arrow_memory.specs.Ends.{ends_from}
-use Rattle.arrow_flat_growable.specs.Ends.{concatenated}
+use Rattle.arrow_choice.proofs.Common.{arith, ◌≡◌, ◌+◌, ◌-◌, ◌<◌, ◌≤◌, ◌^◌, ℕ, suc, Bool, true, false, Option, Some, None, List, [], ◌∷◌, ◌++◌, length, map, get_or, refl, ap, sym, subst, ◌∙◌, length-map, ArrowType, plain, list, struct, union, dictionary, extension, field, small, large, fixed_size, mapped, Fits, all_items, physical_type_of, chosen, mask, masked, valid_at, Slot, null_slot, Null, from_slots-to_slots, null_slot-no_union, last_of, FitsRows, Parts, boolean_rows, pieces, length-pieces, lists_of, AnyOffsetsBuffer, Large, Small, items_row, list_items, rows, ListParts, list_rows, item_type, IsListType, greatest_in, no_plain, AreOneLength, MarksChosen, chosen_by, chosen_lists, ends_from, concatenated, concatenated_length, ends_last}
 use Rattle.arrow_choice.proofs.ChosenLemmas.{Chooses, chooses}
 use Rattle.arrow_choice.proofs.ChosenRows.{length-made, long_made, made_fits, made_rows, rows_are, rows_end, rows_long, spared}
-use Rattle.arrow_flat_growable.proofs.EndLemmas.{concatenated_length, ends_last}
 
 -- ---- the items of rows, of which none lies beneath a null
 

@@ -1,23 +1,6 @@
 -- Rows of bytes or items that a predicate chooses: those of a side by its bits, and nothing where the validity says null.
-use Rattle.std.proofs.Common.{arith, ◌≡◌, ◌+◌, ◌-◌, ◌<◌, ◌≤◌, ℕ, Bool, true, false, Option, List, [], ◌∷◌, length, map, get_or, slice_index, if◌then◌else◌, refl, ap, sym, subst, ◌∙◌}
-use Rattle.std.proofs.lemmas.List.{get_or-map, get_or_default, length-map, same_lists}
-use Rattle.std.proofs.lemmas.List.FromFn.{get_or-map-range_with_len, length-map-range_with_len}
-use Rattle.std.proofs.lemmas.Option.{get_or_from_slice_get}
-use Rattle.arrow_types.specs.ArrowType.{ArrowType}
-use Rattle.arrow_types.specs.Rows.{chosen, masked, valid_at}
-use Rattle.arrow_types.specs.Slot.{Slot, Null, null_slot}
-use Rattle.arrow_memory.specs.Offsets.{last_of}
-use Rattle.arrow_memory.specs.Sliced.{sliced}
-use Rattle.arrow_memory.proofs.SlicedLemmas.{length-sliced}
-use Rattle.arrow_flat.specs.Parts.{FitsRows, Parts, boolean_rows, rows_by}
-use Rattle.arrow_flat.specs.Pieces.{pieces}
-use Rattle.arrow_flat.proofs.PartsLemmas.{length-masked, row_at}
-use Rattle.arrow_flat.proofs.PieceLemmas.{length-pieces, piece_at}
-use Rattle.arrow_choice.specs.Choice.{all_chosen, chosen_by, row_chosen}
-use Rattle.arrow_memory.specs.Ends.{ends_from}
-use Rattle.arrow_flat_growable.specs.Ends.{concatenated}
+use Rattle.arrow_choice.proofs.Common.{arith, ◌≡◌, ◌+◌, ◌-◌, ◌<◌, ◌≤◌, ℕ, Bool, true, false, Option, List, [], ◌∷◌, length, map, get_or, slice_index, if◌then◌else◌, refl, ap, sym, subst, ◌∙◌, get_or-map, get_or_default, length-map, same_lists, get_or-map-range_with_len, length-map-range_with_len, get_or_from_slice_get, ArrowType, chosen, masked, valid_at, Slot, Null, null_slot, last_of, sliced, length-sliced, FitsRows, Parts, boolean_rows, rows_by, pieces, length-masked, row_at, length-pieces, piece_at, all_chosen, chosen_by, row_chosen, ends_from, concatenated, concatenated_length, ends_last, length-ends, rows_between}
 use Rattle.arrow_choice.proofs.ChosenLemmas.{Chooses, get_or-chosen_by, long_values, rows_chosen}
-use Rattle.arrow_flat_growable.proofs.EndLemmas.{concatenated_length, ends_last, length-ends, rows_between}
 
 -- a row as what its offsets name, of which nothing is taken where it is not valid
 module _ {A : Type 0} (os : List ℕ) (xs : List A) (row first end : ℕ) (within : row < length (pieces os xs)) (begins : first ≡ slice_index os row) (ends : end ≡ slice_index os (row + 1)) where

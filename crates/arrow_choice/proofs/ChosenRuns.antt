@@ -1,27 +1,5 @@
 -- Rows of bytes or items that come behind others: a row, a run of rows of one side, or those that a word of bits chooses.
-use Rattle.std.proofs.Common.{arith, ◌≡◌, ◌+◌, ◌-◌, ◌*◌, ◌<◌, ◌≤◌, min, ℕ, zero, suc, Bool, true, false, Option, Some, None, List, [], ◌∷◌, ◌++◌, length, map, take, replicate, get_or, slice_index, if◌then◌else◌, refl, ap, sym, subst, ◌∙◌, inl, inr, append_assoc}
-use Rattle.std.specs.Prelude.{slice_index_or, sum}
-use Rattle.std.specs.List.{range_with_len}
-use Rattle.std.proofs.lemmas.Bool.{cases_lt}
-use Rattle.std.proofs.lemmas.List.{append-nil, get_or-drop, get_or-replicate, get_or-take, get_or_default, length-replicate, map-append, take_all}
-use Rattle.std.proofs.lemmas.List.FromFn.{length-map-range_with_len, map-range_with_len_more, take-map-range_with_len}
-use Rattle.std.proofs.lemmas.List.Sums.{sum-map, sum_by-append, sum_by-cons, sum_by-take-le}
-use Rattle.std.proofs.lemmas.Option.{get_or_from_slice_get}
-use Rattle.arrow_types.specs.Rows.{valid_at}
-use Rattle.arrow_memory.specs.Offsets.{IsOffsets, counted_on, last_of, valid_ends, valid_items, valid_length}
-use Rattle.arrow_memory.specs.Sliced.{sliced}
-use Rattle.arrow_memory.proofs.OffsetLemmas.{at_most_last, offsets_rise}
-use Rattle.arrow_memory.proofs.SlicedLemmas.{length-sliced}
-use Rattle.arrow_flat.specs.Pieces.{pieces}
-use Rattle.arrow_flat.proofs.PieceLemmas.{piece_at}
-use Rattle.arrow_flat_growable.specs.GrownRows.{total, valid_values}
-use Rattle.arrow_flat_growable.proofs.ValidRowLemmas.{set_run}
-use Rattle.arrow_choice.specs.Choice.{AppendsRows, row_chosen, row_under, rows_from}
-use Rattle.arrow_memory.specs.Ends.{ends_from}
-use Rattle.arrow_flat_growable.specs.Ends.{concatenated, row_length}
-use Rattle.arrow_flat_growable.proofs.EndLemmas.{concatenated-append, ends_append, last_ends}
-use Rattle.arrow_flat_growable.specs.Ends.{row_in}
-use Rattle.arrow_flat_growable.proofs.EndLemmas.{counted_ends, counted_sum}
+use Rattle.arrow_choice.proofs.Common.{arith, ◌≡◌, ◌+◌, ◌-◌, ◌*◌, ◌<◌, ◌≤◌, min, ℕ, zero, suc, Bool, true, false, Option, Some, None, List, [], ◌∷◌, ◌++◌, length, map, take, replicate, get_or, slice_index, if◌then◌else◌, refl, ap, sym, subst, ◌∙◌, inl, inr, append_assoc, slice_index_or, sum, range_with_len, cases_lt, append-nil, get_or-drop, get_or-replicate, get_or-take, get_or_default, length-replicate, map-append, take_all, length-map-range_with_len, map-range_with_len_more, take-map-range_with_len, sum-map, sum_by-append, sum_by-cons, sum_by-take-le, get_or_from_slice_get, valid_at, IsOffsets, counted_on, last_of, valid_ends, valid_items, valid_length, sliced, at_most_last, offsets_rise, length-sliced, pieces, piece_at, total, valid_values, set_run, AppendsRows, row_chosen, row_under, rows_from, ends_from, concatenated, row_length, concatenated-append, ends_append, last_ends, row_in, counted_ends, counted_sum}
 
 -- ---- rows behind others
 

@@ -1,25 +1,8 @@
 -- Arrays that hold no dictionary: no row of theirs is crowded, and none are to be joined.
-use Rattle.std.proofs.Common.{arith, ◌≡◌, ◌+◌, ℕ, ℤ, inl, inr, suc, List, [], ◌∷◌, ◌++◌, Option, Some, None, map, refl, ap, sym, subst, ◌∙◌, slice_index}
+use Rattle.arrow_choice.proofs.Common.{arith, ◌≡◌, ◌+◌, ℕ, ℤ, inl, inr, suc, List, [], ◌∷◌, ◌++◌, Option, Some, None, map, refl, ap, sym, subst, ◌∙◌, slice_index, All-cons, PhysicalType, ArrowType, ArrowFields, PlainType, plain, list, struct, union, dictionary, extension, field, no_fields, more_fields, from_fields, type_in, mapped, small, large, fixed_size, null, physical_type_of, plain_physical_type, Slot, kind_in, kind_of, layout_of, any_array_type, dictionary_kind, CrowdedAmong, CrowdedRow, CrowdedPart, CrowdedVariant, Unjoined, UnjoinedBy, UnjoinedPart, child_at, child_of, Layout, Layouts, flat, listed, fixed, fielded, sparse, dense, keyed, no_layouts, more_layouts, to_layouts, field_ids, type_of_layout, field_types, item_type, UnionParts, union_layout, union_layout_by, list_shape, plain_shape, shape_in, types_of_layouts, AnyArray, Primitive, Utf8, LargeUtf8, Binary, LargeBinary, FixedSizeBinary, FixedSizeList, Struct, Union, Map, Dictionary, AreOfOneType, first_type, CannotJoin, DoNotFit, CannotChoose, ChosenDoNotFit, HasNoDictionary, HasNoKeys, HaveNoDictionary, HaveNoKeys}
 use Rattle.std.specs.List.{All}
-use Rattle.std.proofs.lemmas.List.Elements.{All-cons}
-use Rattle.arrow_types.specs.declared.datatypes.physical_type.PhysicalType.{PhysicalType}
 use Rattle.arrow_types.specs.declared.datatypes.physical_type.PhysicalType.TheVariants as physical
-use Rattle.arrow_types.specs.ArrowType.{ArrowType, ArrowFields, PlainType, plain, list, struct, union, dictionary, extension, field, no_fields, more_fields, from_fields, type_in, mapped, small, large, fixed_size, null}
-use Rattle.arrow_types.specs.Physical.{physical_type_of, plain_physical_type}
-use Rattle.arrow_types.specs.Slot.{Slot}
-use Rattle.arrow_arrays.specs.Any.{kind_in, kind_of, layout_of, any_array_type, dictionary_kind}
-use Rattle.arrow_arrays.specs.Crowded.{CrowdedAmong, CrowdedRow, CrowdedPart, CrowdedVariant, Unjoined, UnjoinedBy, UnjoinedPart, child_at, child_of}
-use Rattle.arrow_arrays.specs.Layout.{Layout, Layouts, flat, listed, fixed, fielded, sparse, dense, keyed, no_layouts, more_layouts, to_layouts, field_ids, type_of_layout}
-use Rattle.arrow_arrays.specs.TypeParts.{field_types, item_type}
-use Rattle.arrow_arrays.specs.UnionParts.{UnionParts, union_layout, union_layout_by}
-use Rattle.arrow_arrays.proofs.ShapeLemmas.{list_shape, plain_shape, shape_in}
-use Rattle.arrow_arrays.proofs.TypeLemmas.{types_of_layouts}
-use Rattle.arrow_arrays.specs.declared.array.any.AnyArray.{AnyArray}
-use Rattle.arrow_arrays.specs.declared.array.any.AnyArray.TheVariants.{Null, Boolean, Primitive, Utf8, LargeUtf8, Binary, LargeBinary, FixedSizeBinary, List as ListOf, FixedSizeList, Struct, Union, Map, Dictionary}
-use Rattle.arrow_flat_growable.specs.Grown.{AreOfOneType, first_type}
-use Rattle.arrow_growable.specs.Join.{CannotJoin, DoNotFit}
-use Rattle.arrow_choice.specs.Choice.{CannotChoose, ChosenDoNotFit}
-use Rattle.arrow_choice.specs.Keys.{HasNoDictionary, HasNoKeys, HaveNoDictionary, HaveNoKeys}
+use Rattle.arrow_arrays.specs.declared.array.any.AnyArray.TheVariants.{Null, Boolean, List as ListOf}
 
 mutual
   uncrowded : (before : List Layout) (l : Layout) (i : ℕ) → HasNoKeys l → CrowdedRow before l i → ⊥

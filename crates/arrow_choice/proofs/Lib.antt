@@ -1,3 +1,4 @@
+pub mod Common
 pub mod ChoiceLemmas
 pub mod ChosenBytes
 pub mod ChosenFields

@@ -1,10 +1,7 @@
 -- Ranges of rows, each with a side: no list of them has fewer members than there are rows that do not come right behind the row
 -- before them on its side, and a walk that ends a range where the side turns has as many.
-use Rattle.std.proofs.Common.{arith, ◌≡◌, ◌+◌, ◌<◌, ◌≤◌, ℕ, zero, suc, Bool, true, false, Option, Some, None, List, [], ◌∷◌, ◌++◌, length, map, replicate, if◌then◌else◌, refl, ap, sym, subst, ◌∙◌, append_assoc}
-use Rattle.std.specs.Prelude.{◌==◌, ◌&&◌, slice_get}
-use Rattle.std.proofs.lemmas.Bool.Decides.{nat_tests}
-use Rattle.std.proofs.lemmas.List.{append-nil, length-append, length-map, map-append}
-use Rattle.arrow_types.specs.Ranges.{IsShortest, IsShortestOfSides, named, named_sides, rows_from, true_rows}
+use Rattle.arrow_choice.proofs.Common.{arith, ◌≡◌, ◌+◌, ◌<◌, ◌≤◌, ℕ, zero, suc, Bool, true, false, Option, Some, None, List, [], ◌∷◌, ◌++◌, length, map, replicate, if◌then◌else◌, refl, ap, sym, subst, ◌∙◌, append_assoc, ◌==◌, ◌&&◌, slice_get, nat_tests, append-nil, length-append, length-map, map-append, IsShortest, IsShortestOfSides, named_sides, true_rows}
+use Rattle.arrow_types.specs.Ranges.{named, rows_from}
 
 -- ---- rows that have a label: a kept row 0 and a dropped one none, or a row of a predicate its side
 

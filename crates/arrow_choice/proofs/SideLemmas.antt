@@ -1,23 +1,6 @@
 -- Rows of a predicate by words of 64, and in runs.
-use Rattle.std.proofs.Common.{arith, ◌≡◌, ◌+◌, ◌-◌, ◌*◌, ◌/◌, ◌%◌, ◌^◌, ◌<◌, ◌≤◌, ℕ, zero, suc, Bool, true, false, Option, Some, None, List, [], ◌∷◌, ◌++◌, length, map, replicate, drop, get_or, refl, ap, sym, subst, inl, inr, ◌∙◌, w64, not, if◌then◌else◌}
-use Rattle.std.specs.Prelude.{◌==◌, ◌&&◌, bit_and, slice_get, IfSome}
-use Rattle.std.specs.Int.{bit_at, bit_not}
-use Rattle.std.proofs.lemmas.Bool.{cases_lt, not-false, not-true}
-use Rattle.std.proofs.lemmas.List.{drop-drop, ext_get_or, get_or-drop, get_or-map, get_or-replicate, get_or-take, length-drop, length-map, length-replicate, length-take, take-append-drop}
-use Rattle.std.proofs.lemmas.Nat.{and_le_l}
-use Rattle.std.proofs.lemmas.Option.{slice_get_within, get_or_from_slice_get}
-use Rattle.arrow_types.specs.Ranges.{IsShortestOfSides, named_sides}
-use Rattle.arrow_types.specs.Rows.{masked, valid_at}
-use Rattle.arrow_types.specs.Slot.{Slot, Null, Boolean}
-use Rattle.arrow_memory.specs.Sliced.{sliced}
-use Rattle.arrow_memory.specs.Words.{IsLowRun}
-use Rattle.arrow_memory.proofs.AppendLemmas.{bit_at-shr}
-use Rattle.arrow_memory.proofs.LogicLemmas.{and_each, and_not_each, not_each}
-use Rattle.arrow_flat.specs.Parts.{FitsRows}
-use Rattle.arrow_flat.proofs.PartsLemmas.{length-masked, row_at}
-use Rattle.arrow_choice.specs.Choice.{truth_slot}
-use Rattle.arrow_choice.specs.Sides.{side_of, sides_from}
-use Rattle.arrow_choice.specs.Runs.{AreRowsOf, IsRunIn, IsRunTo, TakesRun, is_truth, truth_by}
+use Rattle.arrow_choice.proofs.Common.{arith, ◌≡◌, ◌+◌, ◌-◌, ◌*◌, ◌/◌, ◌%◌, ◌^◌, ◌<◌, ◌≤◌, ℕ, zero, suc, Bool, true, false, Option, Some, None, List, [], ◌∷◌, ◌++◌, length, map, replicate, drop, get_or, refl, ap, sym, subst, inl, inr, ◌∙◌, w64, not, if◌then◌else◌, ◌==◌, ◌&&◌, bit_and, slice_get, IfSome, bit_at, bit_not, cases_lt, not-false, not-true, drop-drop, ext_get_or, get_or-drop, get_or-map, get_or-replicate, get_or-take, length-map, length-replicate, length-take, take-append-drop, and_le_l, slice_get_within, get_or_from_slice_get, IsShortestOfSides, named_sides, masked, valid_at, Slot, Null, Boolean, sliced, IsLowRun, bit_at-shr, and_each, and_not_each, not_each, FitsRows, length-masked, row_at, truth_slot, side_of, sides_from, AreRowsOf, IsRunIn, IsRunTo, TakesRun, is_truth, truth_by}
+use Rattle.std.proofs.lemmas.List.{length-drop}
 use Rattle.arrow_choice.proofs.RangeLemmas.{NamesUpTo, all_named, all_shortest, labelled, names_run}
 
 -- ---- a row by two bits

@@ -1,17 +1,6 @@
 -- What the kernels that select rows make of batches of rows that are joined.
-use Rattle.std.proofs.Common.{arith, ◌≡◌, ◌∙◌, ℕ, zero, suc, ◌+◌, ◌-◌, ◌<◌, ◌≤◌, ℤ, pos, negsuc, List, [], ◌∷◌, ◌++◌, drop, length, map, replicate, take, refl, ap, sym, append_assoc}
-use Rattle.std.specs.Prelude.{slice_get, unsigned_abs, unwrap_or}
-use Rattle.std.proofs.lemmas.List.{drop-append-le, length-append, length-map, map-append, take-append-drop}
-use Rattle.std.proofs.lemmas.Simd.{map-map}
-use Rattle.arrow_types.specs.ArrowType.{ArrowType}
-use Rattle.arrow_types.specs.Rows.{chosen, gather, gathered, joined, mask_of, select, selects, shifted}
-use Rattle.arrow_types.specs.Slot.{Slot, null_slot}
-use Rattle.arrow_types.proofs.SelectLemmas.{chosen-append, gather-append, select-append}
-use Rattle.arrow_flat.specs.RowByRow.{AreAlikeLong}
-use Rattle.arrow_arrays.specs.KeyedParts.{IsKey}
-use Rattle.arrow_select.specs.Batches.{AreIndicesByBatch, chosen_by_batch, kept_by_batch, moved_by_batch, moved_index, shifted_by_edge, taken_by_batch}
-use Rattle.arrow_take.specs.Taken.{AreIndices}
-use Rattle.arrow_take.proofs.IndexLemmas.{each_index, map-agree}
+use Rattle.arrow_select.proofs.Common.{arith, ◌≡◌, ◌∙◌, ℕ, zero, suc, ◌+◌, ◌-◌, ◌<◌, ◌≤◌, ℤ, pos, negsuc, List, [], ◌∷◌, ◌++◌, drop, length, map, replicate, take, refl, ap, sym, append_assoc, slice_get, unwrap_or, drop-append-le, length-append, length-map, map-append, take-append-drop, map-map, ArrowType, chosen, gather, gathered, joined, mask_of, select, selects, shifted, Slot, null_slot, chosen-append, gather-append, select-append, AreAlikeLong, IsKey, AreIndicesByBatch, chosen_by_batch, kept_by_batch, moved_by_batch, moved_index, shifted_by_edge, taken_by_batch, AreIndices, each_index, map-agree}
+use Rattle.std.specs.Prelude.{unsigned_abs}
 
 -- filter: each batch by its predicate
 pub kept_joined : (filters batches : List (List Slot)) → AreAlikeLong filters batches → select (mask_of (joined filters)) (joined batches) ≡ joined (kept_by_batch filters batches)

@@ -1,14 +1,6 @@
 -- The shortest ranges of a mask behind another one: those of both, with two that touch made one.
-use Rattle.std.proofs.Common.{arith, ◌≡◌, ◌∙◌, ℕ, zero, suc, ◌+◌, ◌<◌, ◌≤◌, Bool, true, false, Some, None, List, [], ◌∷◌, ◌++◌, length, map, if◌then◌else◌, refl, ap, sym, append_assoc}
-use Rattle.std.specs.Prelude.{◌==◌}
+use Rattle.arrow_select.proofs.Common.{arith, ◌≡◌, ◌∙◌, ℕ, zero, suc, ◌+◌, ◌<◌, ◌≤◌, Bool, true, false, Some, None, List, [], ◌∷◌, ◌++◌, length, map, if◌then◌else◌, refl, ap, sym, append_assoc, ◌==◌, nat_tests, append-nil, length-append, length-map, map-append, All-cons, All-head, All-map, All-nil, All-tail, All-weaker, IsShortest, named, rows_from, true_rows, met, moved_ranges, with_range, IsRangesOf, cuts, cuts_on, goes_on, least, named_on_side, on_side, plain_shortest, shortest}
 use Rattle.std.specs.List.{All}
-use Rattle.std.proofs.lemmas.Bool.Decides.{nat_tests}
-use Rattle.std.proofs.lemmas.List.{append-nil, length-append, length-map, map-append}
-use Rattle.std.proofs.lemmas.List.Elements.{All-cons, All-head, All-map, All-nil, All-tail, All-weaker}
-use Rattle.arrow_types.specs.Ranges.{IsShortest, named, rows_from, true_rows}
-use Rattle.arrow_select.specs.Batches.{met, moved_ranges, with_range}
-use Rattle.arrow_select.specs.Ranges.{IsRangesOf}
-use Rattle.arrow_choice.proofs.RangeLemmas.{cuts, cuts_on, goes_on, least, named_on_side, on_side, plain_shortest, shortest}
 
 -- ---- the rows that are named
 

@@ -1,11 +1,6 @@
 -- Which types `can_take` lists, by their fields.
-use Rattle.std.proofs.Common.{arith, ◌↔◌, suc, map}
+use Rattle.arrow_select.proofs.Common.{arith, ◌↔◌, suc, map, All-cons, ArrowType, ArrowFields, plain, list, struct, union, dictionary, extension, field, no_fields, more_fields, from_fields, type_in, AreCarried, CanTakeByFields, IsStructOrUnion, AreTaken, CanTake}
 use Rattle.std.specs.List.{All}
-use Rattle.std.proofs.lemmas.List.Elements.{All-cons}
-use Rattle.arrow_types.specs.ArrowType.{ArrowType, ArrowFields, plain, list, struct, union, dictionary, extension, field, no_fields, more_fields, from_fields, type_in}
-use Rattle.arrow_types.specs.Carried.{AreCarried}
-use Rattle.arrow_select.specs.Laws.{CanTakeByFields, IsStructOrUnion}
-use Rattle.arrow_take.specs.Taken.{AreTaken, CanTake}
 
 -- fields that are carried are listed where each is
 fields_by : (fs : ArrowFields) → AreCarried fs → AreTaken fs ↔ All CanTake (map type_in (from_fields fs))

@@ -1,19 +1,6 @@
 -- Columns of one length, each by the same mask.
-use Rattle.std.proofs.Common.{arith, ◌≡◌, ◌+◌, ℕ, ◌<◌, Bool, List, [], ◌∷◌, ◌++◌, length, map, take, get_or, ap, sym, subst, ◌∙◌}
-use Rattle.std.specs.Prelude.{count_by}
+use Rattle.arrow_select.proofs.Common.{arith, ◌≡◌, ◌+◌, ℕ, ◌<◌, Bool, List, [], ◌∷◌, ◌++◌, length, map, take, get_or, ap, sym, subst, ◌∙◌, count_by, get_or-map, length-map, map-append, All-map, get_or_from_slice_get, slice_get_within, Fits, take_at_read, length-select, any_array_rows, layout_of, Layout, rows, type_of_layout, AreColumns, HaveRows, AnyArray, slice_get-map_read, FirstDoesNotFit, selected_rows}
 use Rattle.std.specs.List.{All}
-use Rattle.std.proofs.lemmas.List.{get_or-map, length-map, map-append}
-use Rattle.std.proofs.lemmas.List.Elements.{All-map}
-use Rattle.std.proofs.lemmas.Option.{get_or_from_slice_get, slice_get_within}
-use Rattle.arrow_types.specs.Fits.{Fits}
-use Rattle.arrow_types.proofs.RowsLemmas.{take_at_read}
-use Rattle.arrow_types.proofs.SelectLemmas.{length-select}
-use Rattle.arrow_arrays.specs.Any.{any_array_rows, layout_of}
-use Rattle.arrow_arrays.specs.Layout.{Layout, rows, type_of_layout}
-use Rattle.arrow_arrays.specs.StructParts.{AreColumns, HaveRows}
-use Rattle.arrow_arrays.specs.declared.array.any.AnyArray.{AnyArray}
-use Rattle.arrow_growable.proofs.JoinedLemmas.{slice_get-map_read}
-use Rattle.arrow_select.specs.Selected.{FirstDoesNotFit, selected_rows}
 
 -- each has so many rows, where all do
 pub column_long : (n : ℕ) (columns : List AnyArray) (i : ℕ) (item : AnyArray) → HaveRows n (map layout_of columns) → i < length columns → item ≡ get_or columns i item → n ≡ length (any_array_rows item)

@@ -1,9 +1,5 @@
 -- Rows of a dense union at its edge: which numbers of rows of one id fit.
-use Rattle.std.proofs.Common.{arith, ◌≡◌, ◌<◌, ◌≤◌, ◌^◌, ℕ, zero, suc, pos, ◌∷◌, replicate, refl, ap}
-use Rattle.std.proofs.lemmas.List.{length-replicate}
-use Rattle.arrow_types.specs.Fits.{Fits, dense_part}
-use Rattle.arrow_types.specs.Slot.{Null, Variant}
-use Rattle.arrow_select.specs.Laws.{dense_nulls, dense_rows}
+use Rattle.arrow_select.proofs.Common.{arith, ◌≡◌, ◌<◌, ◌≤◌, ◌^◌, ℕ, zero, suc, pos, ◌∷◌, replicate, refl, ap, length-replicate, Fits, dense_part, Null, Variant, dense_nulls, dense_rows}
 
 of_first : (n : ℕ) → dense_part (pos 0) (dense_rows n) ≡ replicate n Null
 of_first zero = refl

@@ -1,17 +1,6 @@
 -- Rows of a bound array by ranges, which are those by the mask, and a growable that is extended by them, range after range.
-use Rattle.std.proofs.Common.{arith, ◌≡◌, ◌+◌, ◌<◌, ℕ, suc, Bool, true, Option, Some, None, List, [], ◌∷◌, ◌++◌, length, replicate, take, drop, drop-cons, get_or, Result, Err, refl, ap, sym, subst, ◌∙◌}
+use Rattle.arrow_select.proofs.Common.{arith, ◌≡◌, ◌+◌, ◌<◌, ℕ, suc, Bool, true, Option, Some, None, List, [], ◌∷◌, ◌++◌, length, replicate, take, drop, drop-cons, get_or, Result, Err, refl, ap, sym, subst, ◌∙◌, length-append, replicate-append-replicate, take-append-drop, Error, Failed, Overflow, named, rows_from, true_rows, select, Slot, Null, sliced, Layout, rows, CannotHold, Grown, HasFailed, source_at, HasRowsAt, RefusesRange, extended, kept_among, ranged_among, with_kept, with_ranges, IsRangesOf}
 use Rattle.std.specs.Prelude.{flat_map}
-use Rattle.std.proofs.lemmas.List.{length-append, replicate-append-replicate, take-append-drop}
-use Rattle.arrow_types.specs.declared.error.Error.{Error}
-use Rattle.arrow_types.specs.declared.error.Error.TheVariants.{Failed, Overflow}
-use Rattle.arrow_types.specs.Ranges.{named, rows_from, true_rows}
-use Rattle.arrow_types.specs.Rows.{select}
-use Rattle.arrow_types.specs.Slot.{Slot, Null}
-use Rattle.arrow_memory.specs.Sliced.{sliced}
-use Rattle.arrow_arrays.specs.Layout.{Layout, rows}
-use Rattle.arrow_flat_growable.specs.Grown.{CannotHold, Grown, HasFailed, source_at}
-use Rattle.arrow_select.specs.Extended.{HasRowsAt, RefusesRange, extended, kept_among, ranged_among, with_kept, with_ranges}
-use Rattle.arrow_select.specs.Ranges.{IsRangesOf}
 use Rattle.arrow_select.proofs.FilterLemmas.{select_is}
 use Rattle.arrow_select.proofs.PlanLemmas.{length-true_rows}
 use Rattle.arrow_select.proofs.RangedLemmas.{length-rows_from, ranged_set}

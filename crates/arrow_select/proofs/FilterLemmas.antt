@@ -1,15 +1,5 @@
 -- The mask that a predicate stands for, and the rows that a mask selects, a run at a time.
-use Rattle.std.proofs.Common.{arith, ◌≡◌, ◌+◌, ℕ, zero, suc, Bool, true, false, Option, Some, None, List, [], ◌∷◌, ◌++◌, length, map, replicate, take, drop, cond, if◌then◌else◌, refl, ap, sym, subst, ◌∙◌, append_assoc}
-use Rattle.std.specs.Prelude.{count_by, option_map}
-use Rattle.std.proofs.lemmas.List.{append-nil, drop-drop}
-use Rattle.std.proofs.lemmas.List.Sums.{count_by-le-length, sum_by-cons}
-use Rattle.arrow_types.specs.Rows.{mask, mask_of, masked, select}
-use Rattle.arrow_types.specs.Slot.{Slot, Boolean, Null}
-use Rattle.arrow_types.proofs.RowsLemmas.{select-nil}
-use Rattle.arrow_memory.specs.Bits.{both_bits}
-use Rattle.arrow_memory.specs.Sliced.{sliced}
-use Rattle.arrow_flat.specs.Parts.{FitsRows}
-use Rattle.arrow_select.specs.Selected.{at_set}
+use Rattle.arrow_select.proofs.Common.{arith, ◌≡◌, ◌+◌, ℕ, zero, suc, Bool, true, false, Option, Some, None, List, [], ◌∷◌, ◌++◌, length, map, replicate, take, drop, cond, if◌then◌else◌, refl, ap, sym, subst, ◌∙◌, append_assoc, count_by, option_map, append-nil, drop-drop, count_by-le-length, sum_by-cons, mask, mask_of, masked, select, Slot, Boolean, Null, select-nil, both_bits, sliced, FitsRows, at_set}
 use Rattle.arrow_select.proofs.SetLemmas.{length-at_set}
 
 -- the mask of truth values, none of which is null

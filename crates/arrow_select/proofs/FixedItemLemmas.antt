@@ -1,29 +1,7 @@
 -- Items of fixed-size lists at which a mask of the rows is set, each bit for as many items, and the lists of those that are kept.
-use Rattle.std.proofs.Common.{arith, ◌≡◌, ◌*◌, ◌/◌, ◌%◌, ◌+◌, ◌<◌, ◌≤◌, ◌^◌, ℕ, zero, suc, Bool, true, false, Option, Some, None, List, [], ◌∷◌, ◌++◌, length, map, replicate, take, drop, refl, ap, sym, subst, ◌∙◌}
-use Rattle.std.specs.Prelude.{option_map, slice_index_or}
+use Rattle.arrow_select.proofs.Common.{arith, ◌≡◌, ◌*◌, ◌/◌, ◌%◌, ◌+◌, ◌<◌, ◌≤◌, ◌^◌, ℕ, zero, suc, Bool, true, false, Option, Some, None, List, [], ◌∷◌, ◌++◌, length, map, replicate, take, drop, refl, ap, sym, subst, ◌∙◌, option_map, slice_index_or, drop_at, length-append, length-drop, length-map, length-replicate, length-take, take-append-drop, take_at, flat_map-cons, add-mul, mul-div_cancel, mul-mod_left, mul_comm, ArrowType, null, plain, Fits, fixed_items_in, physical_type_of, mask, masked, select, Slot, Null, null_slot, from_slots-to_slots, FitsRows, length-chunks, chunks, length-masked, FitsItems, FixedListParts, fixed_list_rows, fixed_items, items_row, rows, item_type, list_size, shape_of, child_type, column_in, fits_sized, list_child_types, sized_column, nil_of, at_set, kept_rows_under}
 use Rattle.std.specs.List.{flat_map}
-use Rattle.std.proofs.lemmas.List.{drop_at, length-append, length-drop, length-map, length-replicate, length-take, take-append-drop, take_at}
-use Rattle.std.proofs.lemmas.List.Concat.{flat_map-cons}
-use Rattle.std.proofs.Math.Nat.{add-mul, mul-div_cancel, mul-mod_left, mul_comm}
 use Rattle.arrow_types.specs.declared.datatypes.physical_type.PhysicalType.TheVariants as physical
-use Rattle.arrow_types.specs.ArrowType.{ArrowType, null, plain}
-use Rattle.arrow_types.specs.Fits.{Fits, fixed_items_in}
-use Rattle.arrow_types.specs.Physical.{physical_type_of}
-use Rattle.arrow_types.specs.Rows.{mask, masked, select}
-use Rattle.arrow_types.specs.Slot.{Slot, Null, null_slot}
-use Rattle.arrow_types.proofs.SlotLemmas.{from_slots-to_slots}
-use Rattle.arrow_flat.specs.Parts.{FitsRows}
-use Rattle.arrow_flat.specs.PieceLaws.{length-chunks}
-use Rattle.arrow_flat.specs.Pieces.{chunks}
-use Rattle.arrow_flat.proofs.PartsLemmas.{length-masked}
-use Rattle.arrow_arrays.specs.FixedListParts.{FitsItems, FixedListParts, fixed_list_rows}
-use Rattle.arrow_arrays.specs.Layout.{fixed_items, items_row, rows}
-use Rattle.arrow_arrays.specs.TypeParts.{item_type, list_size}
-use Rattle.arrow_arrays.proofs.ShapeLemmas.{shape_of}
-use Rattle.arrow_growable.specs.Form.{child_type, column_in}
-use Rattle.arrow_growable.proofs.ColumnLemmas.{fits_sized, list_child_types, sized_column}
-use Rattle.arrow_take.proofs.IndexLemmas.{nil_of}
-use Rattle.arrow_select.specs.Selected.{at_set, kept_rows_under}
 use Rattle.arrow_select.proofs.FilterLemmas.{at_set-mask, select_is, set_fits, set_rows}
 use Rattle.arrow_select.proofs.ItemLemmas.{set_run, unset_run}
 use Rattle.arrow_select.proofs.SetLemmas.{at_set-short}

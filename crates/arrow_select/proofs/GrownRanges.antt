@@ -1,17 +1,5 @@
 -- A growable over one array that has no row yet, extended by the ranges of a mask: what it holds then, and why it refuses.
-use Rattle.std.proofs.Common.{◌≡◌, ℕ, Bool, false, true, List, ◌∷◌, ◌++◌, length, Result, Ok, Err, IfErr, Some, refl, ap, sym, subst, ◌∙◌, append_assoc}
-use Rattle.std.specs.Prelude.{OnOk}
-use Rattle.std.proofs.lemmas.Grind.{flat_map-append}
-use Rattle.arrow_types.specs.declared.error.Error.{Error}
-use Rattle.arrow_types.specs.declared.error.Error.TheVariants.{Failed, InvalidArgumentError, NotYetImplemented, OutOfMemory, OutOfSpec, Overflow}
-use Rattle.arrow_types.specs.Fits.{Fits}
-use Rattle.arrow_types.proofs.FitsLemmas.{Fits-beginning, Fits-nil}
-use Rattle.arrow_memory.specs.Grown.{IsGrowthError}
-use Rattle.arrow_arrays.specs.Layout.{Layout}
-use Rattle.arrow_flat_growable.specs.Grown.{CannotHold, FitsItself, Grown, IsRefusal, bound_to, first_type, rows_among}
-use Rattle.arrow_growable.specs.Growing.{HasAppended}
-use Rattle.arrow_growable.proofs.GrowLemmas.{refuses_whole, too_many_first}
-use Rattle.arrow_select.specs.Extended.{HasRowsAt, RefusesRange, kept_among, ranged_among, with_kept, with_ranges}
+use Rattle.arrow_select.proofs.Common.{◌≡◌, ℕ, Bool, false, true, List, ◌∷◌, ◌++◌, length, Result, Ok, Err, IfErr, Some, refl, ap, sym, subst, ◌∙◌, append_assoc, OnOk, flat_map-append, Error, Failed, InvalidArgumentError, NotYetImplemented, OutOfMemory, OutOfSpec, Overflow, Fits, Fits-beginning, Fits-nil, IsGrowthError, Layout, CannotHold, FitsItself, Grown, IsRefusal, bound_to, first_type, rows_among, HasAppended, refuses_whole, too_many_first, HasRowsAt, RefusesRange, kept_among, ranged_among, with_kept, with_ranges}
 use Rattle.arrow_select.proofs.ExtendLemmas.{ranged_is_kept}
 
 module _ (layouts : List Layout) (old : Grown) (mask : List Bool) (bound : old ≡ bound_to layouts) where

@@ -1,28 +1,5 @@
 -- Items of lists at which a mask of the rows is set: a bit for each item, a run of rows at a time, and the lists of those that are kept.
-use Rattle.std.proofs.Common.{arith, ◌≡◌, ◌+◌, ◌-◌, ◌<◌, ◌≤◌, ◌^◌, ℕ, zero, suc, Bool, true, false, Option, Some, None, List, [], ◌∷◌, ◌++◌, length, map, replicate, take, drop, slice_index, refl, ap, sym, subst, ◌∙◌, append_assoc}
-use Rattle.std.specs.Prelude.{option_map}
-use Rattle.std.proofs.lemmas.List.{drop-drop, length-append, length-map, length-replicate, replicate-append-replicate}
-use Rattle.arrow_types.specs.ArrowType.{ArrowType, plain, list, struct, union, dictionary, extension, field, small, large, fixed_size, mapped}
-use Rattle.arrow_types.specs.Fits.{Fits, IsCounted, all_items, items_in}
-use Rattle.arrow_types.specs.Physical.{physical_type_of}
-use Rattle.arrow_types.specs.Rows.{mask, masked, select}
-use Rattle.arrow_types.specs.Slot.{Slot}
-use Rattle.arrow_memory.specs.Offsets.{IsOffsets, last_of}
-use Rattle.arrow_memory.proofs.OffsetLemmas.{offsets_rise}
-use Rattle.arrow_flat.specs.Parts.{FitsRows}
-use Rattle.arrow_flat.specs.Pieces.{pieces}
-use Rattle.arrow_flat.proofs.PieceLemmas.{length-pieces}
-use Rattle.arrow_arrays.specs.Layout.{items_row, list_items, rows}
-use Rattle.arrow_arrays.specs.ListParts.{ListParts, list_rows}
-use Rattle.arrow_arrays.specs.TypeParts.{item_type}
-use Rattle.arrow_memory.specs.Ends.{ends_from}
-use Rattle.arrow_flat_growable.specs.Ends.{row_length}
-use Rattle.arrow_flat_growable.specs.GrownRows.{valid_values}
-use Rattle.arrow_growable.specs.Lists.{IsListType, greatest_in}
-use Rattle.arrow_growable.proofs.KindLemmas.{no_plain}
-use Rattle.arrow_choice.proofs.ChosenLists.{all_kept, lists_fit}
-use Rattle.arrow_select.specs.Laws.{places_from}
-use Rattle.arrow_select.specs.Selected.{at_set, item_bits, item_mask}
+use Rattle.arrow_select.proofs.Common.{arith, ◌≡◌, ◌+◌, ◌-◌, ◌<◌, ◌≤◌, ◌^◌, ℕ, zero, suc, Bool, true, false, Option, Some, None, List, [], ◌∷◌, ◌++◌, length, map, replicate, take, drop, slice_index, refl, ap, sym, subst, ◌∙◌, append_assoc, option_map, drop-drop, length-append, length-map, length-replicate, replicate-append-replicate, ArrowType, plain, list, struct, union, dictionary, extension, field, small, large, fixed_size, mapped, Fits, IsCounted, all_items, items_in, physical_type_of, mask, masked, select, Slot, IsOffsets, last_of, offsets_rise, FitsRows, pieces, length-pieces, items_row, list_items, rows, ListParts, list_rows, item_type, ends_from, row_length, valid_values, IsListType, greatest_in, no_plain, all_kept, lists_fit, places_from, at_set, item_bits, item_mask}
 use Rattle.arrow_select.proofs.FilterLemmas.{select_is, set_rows}
 use Rattle.arrow_select.proofs.KeptLemmas.{Fits-kept}
 use Rattle.arrow_select.proofs.SetBytes.{kept_bits, kept_end, kept_items, kept_pieces}

@@ -1,40 +1,7 @@
 -- Rows that a mask keeps of structs and of sparse unions: each field by itself, null where a row is not its own.
-use Rattle.std.proofs.Common.{arith, ◌≡◌, ◌+◌, ◌<◌, ◌≤◌, ◌^◌, ℕ, pos, Bool, true, false, Option, Some, None, List, [], ◌∷◌, ◌++◌, length, map, get_or, if◌then◌else◌, refl, ap, sym, subst, ◌∙◌, append_assoc}
-use Rattle.std.specs.Prelude.{option_map, unwrap_or}
+use Rattle.arrow_select.proofs.Common.{arith, ◌≡◌, ◌+◌, ◌<◌, ◌≤◌, ◌^◌, ℕ, pos, Bool, true, false, Option, Some, None, List, [], ◌∷◌, ◌++◌, length, map, get_or, if◌then◌else◌, refl, ap, sym, subst, ◌∙◌, append_assoc, option_map, unwrap_or, int_eq, length-append, length-map, All-cons, All-map, All-nil, slice_get-get_or, map-map, get_or-append_seam, ArrowType, Fits, physical_type_of, null_slot-no_union, gather, gathered, mask, masked, select, Slot, Null, Number, id_at, null_slot, FitsRows, IsValue, length-masked, AnyArray, Kind, any_array_rows, any_array_type, kind_in, layout_of, union_kind, AreKeys, IsKey, columns_of, field_ids, rows, struct_items, to_layouts, FitsColumns, IsStruct, StructParts, struct_rows, UnionParts, union_rows, length-struct_rows, variant_type, places_from, true_places, KeptColumns, KeptUnder, at_set, kept_rows_under, HasPart, taken_id, IsSparse, have_id, MarksTaken, is_taken_valid, named_bit, taken_rows, valid_index, column_long, Stores, length-gather, map-agree, row_taken, fields_fit, fields_taken, taken_fits, field_taken, long, part, part_long}
 use Rattle.std.specs.List.{All}
-use Rattle.std.specs.Ordering.{int_eq}
-use Rattle.std.proofs.lemmas.List.{length-append, length-map}
-use Rattle.std.proofs.lemmas.List.Elements.{All-cons, All-map, All-nil}
-use Rattle.std.proofs.lemmas.Option.{slice_get-get_or}
-use Rattle.std.proofs.lemmas.Simd.{map-map}
-use Rattle.std.proofs.Math.Seq.{get_or-append_seam}
-use Rattle.arrow_types.specs.ArrowType.{ArrowType}
-use Rattle.arrow_types.specs.Fits.{Fits}
-use Rattle.arrow_types.specs.Physical.{physical_type_of}
-use Rattle.arrow_types.proofs.SlotLemmas.{null_slot-no_union}
-use Rattle.arrow_types.specs.Rows.{gather, gathered, mask, masked, select}
-use Rattle.arrow_types.specs.Slot.{Slot, Null, Number, id_at, null_slot}
-use Rattle.arrow_flat.specs.Parts.{FitsRows, IsValue}
-use Rattle.arrow_flat.proofs.PartsLemmas.{length-masked}
-use Rattle.arrow_arrays.specs.declared.array.any.AnyArray.{AnyArray}
-use Rattle.arrow_arrays.specs.Any.{Kind, any_array_rows, any_array_type, kind_in, layout_of, union_kind}
-use Rattle.arrow_arrays.specs.KeyedParts.{AreKeys, IsKey}
-use Rattle.arrow_arrays.specs.Layout.{columns_of, field_ids, rows, struct_items, to_layouts}
-use Rattle.arrow_arrays.specs.StructParts.{FitsColumns, IsStruct, StructParts, struct_rows}
-use Rattle.arrow_arrays.specs.UnionParts.{UnionParts, union_rows}
-use Rattle.arrow_arrays.proofs.StructLemmas.{length-struct_rows}
-use Rattle.arrow_growable.specs.Variants.{variant_type}
-use Rattle.arrow_select.specs.Laws.{places_from, true_places}
-use Rattle.arrow_select.specs.Selected.{KeptColumns, KeptUnder, at_set, kept_rows_under}
-use Rattle.arrow_take.specs.SparseUnions.{HasPart, taken_id}
-use Rattle.arrow_growable.specs.Variants.{IsSparse}
-use Rattle.arrow_growable.specs.Variants.{have_id}
-use Rattle.arrow_take.specs.Taken.{MarksTaken, is_taken_valid, named_bit, taken_rows, valid_index}
-use Rattle.arrow_growable.proofs.FieldColumns.{column_long}
-use Rattle.arrow_take.proofs.IndexLemmas.{Stores, length-gather, map-agree, row_taken}
 use Rattle.arrow_select.proofs.LawLemmas.{selected_is_gathered}
-use Rattle.arrow_take.proofs.TakenFields.{fields_fit, fields_taken, taken_fits}
-use Rattle.arrow_take.proofs.TakenVariants.{field_taken, long, part, part_long}
 
 -- the places at which a mask is true are those of rows
 places_below : (i n : ℕ) (mask : List Bool) → i + length mask ≤ n → AreKeys n (map (λ k. Number (pos k)) (places_from i mask))

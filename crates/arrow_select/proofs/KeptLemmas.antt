@@ -1,17 +1,5 @@
 -- Rows that a mask keeps of rows that fit a type fit it.
-use Rattle.std.proofs.Common.{◌≡◌, ℕ, suc, ◌*◌, ◌<◌, ◌≤◌, ◌^◌, ℤ, true, false, Bool, Option, List, [], ◌∷◌, ◌++◌, length, map, sum_by, flat_map, replicate, if◌then◌else◌, refl, ap, sym, subst, ◌∙◌, arith}
-use Rattle.std.proofs.Math.Nat.{mul-le-mul_left}
-use Rattle.std.proofs.lemmas.List.Elements.{All-cons, All-head, All-nil, All-tail}
-use Rattle.std.proofs.lemmas.List.Sums.{sum_by-cons}
-use Rattle.std.proofs.lemmas.Simd.{map-map}
-use Rattle.std.specs.Ordering.{int_eq}
-use Rattle.arrow_types.specs.declared.datatypes.UnionMode.TheVariants.{Dense, Sparse}
-use Rattle.arrow_types.specs.ArrowType.{ArrowType, ArrowFields, PlainType, ListForm, plain, list, struct, union, dictionary, extension, field, no_fields, more_fields, small, large, fixed_size, mapped, binary, large_binary, utf8, large_utf8, fixed_size_binary}
-use Rattle.arrow_types.specs.Fits.{IsCounted, byte_count, items_in, all_items, fixed_items_in, part_in, sparse_part, dense_part, FitsPlain, FitsForm, child_rows, Fits, FitsParts, FitsSparse, FitsDense}
-use Rattle.arrow_types.specs.Rows.{select}
-use Rattle.arrow_types.specs.Slot.{Slot, Variant, id_at}
-use Rattle.arrow_arrays.specs.KeyedParts.{AreKeys, IsKey, key_in, keys_in}
-use Rattle.arrow_arrays.specs.Layout.{keyed_item}
+use Rattle.arrow_select.proofs.Common.{◌≡◌, ℕ, suc, ◌*◌, ◌<◌, ◌≤◌, ◌^◌, ℤ, true, false, Bool, Option, List, [], ◌∷◌, ◌++◌, length, map, sum_by, flat_map, replicate, if◌then◌else◌, refl, ap, sym, subst, ◌∙◌, arith, mul-le-mul_left, All-cons, All-head, All-nil, All-tail, sum_by-cons, map-map, int_eq, Dense, Sparse, ArrowType, ArrowFields, PlainType, ListForm, plain, list, struct, union, dictionary, extension, field, no_fields, more_fields, small, large, fixed_size, mapped, binary, large_binary, utf8, large_utf8, fixed_size_binary, IsCounted, byte_count, items_in, all_items, fixed_items_in, part_in, sparse_part, dense_part, FitsPlain, FitsForm, child_rows, Fits, FitsParts, FitsSparse, FitsDense, select, Slot, Variant, id_at, AreKeys, IsKey, key_in, keys_in, keyed_item}
 
 -- a mask that keeps all rows of a beginning, and one that keeps none
 all_kept : (ys zs : List Slot) (mask : List Bool) → select (replicate (length ys) true ++ mask) (ys ++ zs) ≡ ys ++ select mask zs

@@ -1,17 +1,5 @@
 -- The laws of rows that are selected, taken and joined.
-use Rattle.std.proofs.Common.{arith, ◌≡◌, ◌+◌, ◌-◌, ℕ, ◌≤◌, pos, Bool, true, false, Some, List, [], ◌∷◌, ◌++◌, length, map, take, drop, refl, ap, sym, subst, ◌∙◌, append_assoc}
-use Rattle.std.specs.Prelude.{option_map, slice_get, unwrap_or}
-use Rattle.std.proofs.lemmas.List.{append-nil, length-append, length-drop, take-append-drop, take_all}
-use Rattle.std.proofs.lemmas.Option.{slice_get-get_or, slice_get-map}
-use Rattle.std.proofs.lemmas.Simd.{map-map}
-use Rattle.arrow_types.specs.ArrowType.{ArrowType}
-use Rattle.arrow_types.specs.Rows.{gather, gathered, joined, mask_of, select}
-use Rattle.arrow_types.specs.Slot.{Slot, Null, Number, null_slot}
-use Rattle.arrow_memory.specs.Sliced.{sliced}
-use Rattle.arrow_arrays.specs.KeyedParts.{AreKeys, IsKey}
-use Rattle.arrow_arrays.specs.Layout.{Layout, rows}
-use Rattle.arrow_select.specs.Laws.{RowsFit, kept_columns, places_from, true_places}
-use Rattle.arrow_take.proofs.IndexLemmas.{each_index, map-agree}
+use Rattle.arrow_select.proofs.Common.{arith, ◌≡◌, ◌+◌, ◌-◌, ℕ, ◌≤◌, pos, Bool, true, false, Some, List, [], ◌∷◌, ◌++◌, length, map, take, drop, refl, ap, sym, subst, ◌∙◌, append_assoc, option_map, slice_get, unwrap_or, append-nil, length-append, length-drop, take-append-drop, take_all, slice_get-get_or, slice_get-map, map-map, ArrowType, gather, gathered, joined, mask_of, select, Slot, Null, Number, null_slot, sliced, AreKeys, IsKey, Layout, rows, RowsFit, kept_columns, places_from, true_places, each_index, map-agree}
 
 -- the row behind others
 row_behind : (before xs : List Slot) (x : Slot) → slice_get (before ++ x ∷ xs) (length before) ≡ Some x

@@ -1,3 +1,4 @@
+pub mod Common
 pub mod ArrayLemmas
 pub mod BatchLemmas
 pub mod BatchRanges

@@ -1,19 +1,6 @@
 -- The ranges of a mask: found in a walk over its runs, and the mask that they hold.
-use Rattle.std.proofs.Common.{arith, inl, inr, ◌≡◌, ◌+◌, ◌-◌, ◌<◌, ◌≤◌, ℕ, zero, suc, Bool, true, false, Option, Some, None, List, [], ◌∷◌, ◌++◌, length, map, replicate, drop, get_or, if◌then◌else◌, refl, ap, sym, subst, ◌∙◌, append_assoc}
-use Rattle.std.specs.Prelude.{◌==◌, count_by, nat_eq, slice_get}
-use Rattle.std.specs.Int.{bit_at}
+use Rattle.arrow_select.proofs.Common.{arith, inl, inr, ◌≡◌, ◌+◌, ◌-◌, ◌<◌, ◌≤◌, ℕ, zero, suc, Bool, true, false, Option, Some, None, List, [], ◌∷◌, ◌++◌, length, map, replicate, drop, get_or, if◌then◌else◌, refl, ap, sym, subst, ◌∙◌, append_assoc, ◌==◌, count_by, nat_eq, slice_get, bit_at, cases_lt, nat_tests, append-nil, drop-drop, drop_all, get_or_past, map-append, replicate-append-replicate, take-append-drop, All-push, sum_by-cons, bit_at-zero, named, true_rows, AreAlike, alike_are, IsPlan, IsRangesOf, ended, mask_at, IsLowestRun, NamesUpTo, all_named, all_shortest, kept_label, names_none, names_past, names_run, on_side, plain_named, plain_shortest}
 use Rattle.std.specs.List.{All}
-use Rattle.std.proofs.lemmas.Bool.{cases_lt}
-use Rattle.std.proofs.lemmas.Bool.Decides.{nat_tests}
-use Rattle.std.proofs.lemmas.List.{append-nil, drop-drop, drop_all, get_or_past, map-append, replicate-append-replicate, take-append-drop}
-use Rattle.std.proofs.lemmas.List.Elements.{All-push}
-use Rattle.std.proofs.lemmas.List.Sums.{sum_by-cons}
-use Rattle.std.proofs.lemmas.Nat.Bits.{bit_at-zero}
-use Rattle.arrow_types.specs.Ranges.{named, true_rows}
-use Rattle.arrow_memory.proofs.RunLemmas.{AreAlike, alike_are}
-use Rattle.arrow_select.specs.Ranges.{IsPlan, IsRangesOf, ended, mask_at}
-use Rattle.arrow_select.specs.Selected.{IsLowestRun}
-use Rattle.arrow_choice.proofs.RangeLemmas.{NamesUpTo, all_named, all_shortest, kept_label, names_none, names_past, names_run, on_side, plain_named, plain_shortest}
 
 -- ---- the mask that ranges hold
 

@@ -1,27 +1,8 @@
 -- Members of a list in ranges, which are those at which a mask is set, and the bytes of rows in ranges.
-use Rattle.std.proofs.Common.{arith, ◌≡◌, ◌+◌, ◌-◌, ◌<◌, ◌≤◌, ℕ, zero, suc, Bool, true, false, List, [], ◌∷◌, ◌++◌, length, map, replicate, take, drop, drop-cons, get_or, slice_index, if◌then◌else◌, refl, ap, sym, ◌∙◌, append_assoc}
-use Rattle.std.specs.Prelude.{count_by, flat_map}
-use Rattle.std.specs.List.{concat, range_with_len}
-use Rattle.std.proofs.Math.Seq.{take-append-add, take-suc}
-use Rattle.std.proofs.lemmas.Grind.{flat_map-append}
-use Rattle.std.proofs.lemmas.List.{append-nil, length-append, map-append, take-append-drop, take-take, take_all}
-use Rattle.std.proofs.lemmas.List.Folds.{concat-append}
-use Rattle.arrow_types.specs.Ranges.{named, rows_from, true_rows}
-use Rattle.arrow_memory.specs.Offsets.{IsOffsets, last_of}
-use Rattle.arrow_memory.specs.Sliced.{sliced}
-use Rattle.arrow_memory.proofs.SlicedLemmas.{length-sliced}
-use Rattle.arrow_flat_growable.specs.GrownRows.{valid_values}
-use Rattle.arrow_flat_growable.proofs.ValidRowLemmas.{set_run}
-use Rattle.arrow_select.specs.Laws.{places_from}
-use Rattle.arrow_select.specs.Ranges.{IsRangesOf}
-use Rattle.arrow_select.specs.Selected.{at_set}
-use Rattle.arrow_take.specs.Spans.{spanned}
-use Rattle.arrow_memory.specs.Ends.{ends_from}
-use Rattle.arrow_flat_growable.specs.Ends.{row_length}
+use Rattle.arrow_select.proofs.Common.{arith, ◌≡◌, ◌+◌, ◌-◌, ◌<◌, ◌≤◌, ℕ, zero, suc, Bool, true, false, List, [], ◌∷◌, ◌++◌, length, map, replicate, take, drop, drop-cons, get_or, slice_index, if◌then◌else◌, refl, ap, sym, ◌∙◌, append_assoc, count_by, concat, range_with_len, take-append-add, take-suc, flat_map-append, append-nil, length-append, map-append, take-append-drop, take-take, take_all, concat-append, named, rows_from, true_rows, IsOffsets, last_of, sliced, length-sliced, valid_values, set_run, places_from, IsRangesOf, at_set, spanned, ends_from, row_length, row_in, spanned_more}
+use Rattle.std.specs.Prelude.{flat_map}
 use Rattle.arrow_select.proofs.SetBytes.{EndsUpTo, set_bytes, set_places}
-use Rattle.arrow_flat_growable.specs.Ends.{row_in}
 use Rattle.arrow_select.proofs.SetLemmas.{length-at_set}
-use Rattle.arrow_take.proofs.SpanLemmas.{spanned_more}
 
 -- ---- rows by their places
 

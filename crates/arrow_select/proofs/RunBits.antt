@@ -1,12 +1,6 @@
 -- The lowest run of set bits of a word, found by what a carry does.
-use Rattle.std.proofs.Common.{arith, inl, inr, ◌≡◌, ◌+◌, ◌-◌, ◌/◌, ◌%◌, ◌^◌, ◌<◌, ◌≤◌, max, min, ℕ, zero, suc, ap, sym, subst, ◌∙◌, w64}
+use Rattle.arrow_select.proofs.Common.{arith, inl, inr, ◌≡◌, ◌+◌, ◌-◌, ◌/◌, ◌%◌, ◌^◌, ◌<◌, ◌≤◌, max, min, ℕ, zero, suc, ap, sym, subst, ◌∙◌, w64, bit_at, bit_not, trailing_ones, trailing_zeros, trailing_of_zero, cases_lt, and_le_l, or_lt, bit_at_and, bit_at_lowest, bit_at_or, bit_at-lt, bit_at-suc, bit_at-trailing_ones, bit_at-trailing_zeros, bit_at-zero, bit_at_above, bit_at_ones, IsLowestRun}
 use Rattle.std.specs.Prelude.{bit_and, bit_or}
-use Rattle.std.specs.Int.{bit_at, bit_not, trailing_ones, trailing_zeros}
-use Rattle.std.specs.Int.Count.{trailing_of_zero}
-use Rattle.std.proofs.lemmas.Bool.{cases_lt}
-use Rattle.std.proofs.lemmas.Nat.{and_le_l, or_lt}
-use Rattle.std.proofs.lemmas.Nat.Bits.{bit_at_and, bit_at_lowest, bit_at_or, bit_at-lt, bit_at-suc, bit_at-trailing_ones, bit_at-trailing_zeros, bit_at-zero, bit_at_above, bit_at_ones}
-use Rattle.arrow_select.specs.Selected.{IsLowestRun}
 use Rattle.arrow_select.proofs.SetLemmas.{LosesLowest, one_less}
 
 -- one more than a number that ends in ones: these are zeros then, and the zero above them is a one

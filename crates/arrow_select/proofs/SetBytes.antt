@@ -1,32 +1,6 @@
 -- Rows of bytes or items at which a mask is set: where they end and what they have, a run of rows at a time.
-use Rattle.std.proofs.Common.{arith, ◌≡◌, ◌+◌, ◌-◌, ℕ, zero, suc, pos, ◌<◌, ◌≤◌, ◌^◌, Bool, true, false, Option, Some, None, List, [], ◌∷◌, ◌++◌, length, map, replicate, drop, slice_index, refl, ap, sym, subst, ◌∙◌, append_assoc}
-use Rattle.std.specs.Prelude.{option_map, slice_get, sum}
-use Rattle.std.specs.List.{All, concat, range_with_len}
-use Rattle.std.proofs.lemmas.List.{length-map, map-append}
-use Rattle.std.proofs.lemmas.List.Elements.{All-cons, All-nil}
-use Rattle.std.proofs.lemmas.List.Sums.{sum-map, sum_by-append, sum_by-cons}
-use Rattle.arrow_types.specs.declared.datatypes.physical_type.PhysicalType.{PhysicalType}
-use Rattle.arrow_types.specs.ArrowType.{ArrowType}
-use Rattle.arrow_types.specs.Fits.{Fits, byte_count}
-use Rattle.arrow_types.specs.Greatest.{greatest_offset}
-use Rattle.arrow_types.specs.Physical.{physical_type_of}
-use Rattle.arrow_types.specs.Rows.{masked, select}
-use Rattle.arrow_types.specs.Slot.{Slot}
-use Rattle.arrow_types.proofs.RowsLemmas.{drop_at_read}
-use Rattle.arrow_memory.specs.Offsets.{IsOffsets, last_of}
-use Rattle.arrow_memory.proofs.OffsetLemmas.{at_most_last, offsets_rise}
-use Rattle.arrow_memory.proofs.SlicedLemmas.{length-sliced}
-use Rattle.arrow_flat.specs.Parts.{FitsRows}
-use Rattle.arrow_flat.specs.Pieces.{pieces}
-use Rattle.arrow_flat.proofs.PieceLemmas.{length-pieces, piece_at}
-use Rattle.arrow_flat_growable.specs.ByteLaws.{fits_rows, slots_fit}
-use Rattle.arrow_flat_growable.specs.Bytes.{IsBytesType}
-use Rattle.arrow_flat_growable.specs.GrownRows.{total, valid_values}
-use Rattle.arrow_select.specs.Laws.{places_from}
-use Rattle.arrow_select.specs.Selected.{at_set}
-use Rattle.arrow_memory.specs.Ends.{ends_from}
-use Rattle.arrow_flat_growable.specs.Ends.{concatenated, row_in, row_length}
-use Rattle.arrow_flat_growable.proofs.EndLemmas.{concatenated_length, ends_append, ends_last, last_ends, rows_between}
+use Rattle.arrow_select.proofs.Common.{arith, ◌≡◌, ◌+◌, ◌-◌, ℕ, zero, suc, pos, ◌<◌, ◌≤◌, ◌^◌, Bool, true, false, Option, Some, None, List, [], ◌∷◌, ◌++◌, length, map, replicate, drop, slice_index, refl, ap, sym, subst, ◌∙◌, append_assoc, option_map, slice_get, sum, concat, range_with_len, length-map, map-append, All-cons, All-nil, sum-map, sum_by-append, sum_by-cons, PhysicalType, ArrowType, Fits, byte_count, greatest_offset, physical_type_of, masked, select, Slot, drop_at_read, IsOffsets, last_of, at_most_last, offsets_rise, length-sliced, FitsRows, pieces, length-pieces, piece_at, fits_rows, slots_fit, IsBytesType, total, valid_values, places_from, at_set, ends_from, concatenated, row_in, row_length, concatenated_length, ends_append, ends_last, last_ends, rows_between}
+use Rattle.std.specs.List.{All}
 use Rattle.arrow_select.proofs.FilterLemmas.{set_fits, set_rows}
 use Rattle.arrow_select.proofs.SetLemmas.{at_set-short}
 

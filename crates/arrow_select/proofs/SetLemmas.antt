@@ -1,24 +1,6 @@
 -- Members of lists at which a mask is set: of a word, from the lowest bit on, and of a list, a word at a time.
-use Rattle.std.proofs.Common.{arith, inl, inr, ◌≡◌, ◌+◌, ◌-◌, ◌*◌, ◌/◌, ◌%◌, ◌^◌, ◌<◌, ◌≤◌, min, ℕ, zero, suc, Bool, true, false, cond, if◌then◌else◌, Some, List, [], ◌∷◌, ◌++◌, length, map, take, drop, refl, ap, sym, subst, ◌∙◌, append_assoc, w64}
-use Rattle.std.specs.Prelude.{◌==◌, nat_eq, bit_and, bit_or, count_ones, slice_get}
-use Rattle.std.specs.List.{range_with_len}
-use Rattle.std.specs.Int.{bit_at, from_bool, trailing_zeros}
-use Rattle.std.proofs.Math.Nat.{pow-le-pow_right, mod-eq_of_lt}
-use Rattle.std.proofs.lemmas.Bool.{cases_lt}
-use Rattle.std.proofs.lemmas.List.{append-nil, length-append, drop-drop, drop_all, get_or-drop, get_or-take, length-take, length-drop, same_lists, take_min}
-use Rattle.std.proofs.lemmas.List.FromFn.{get_or-map-range_with_len, length-map-range_with_len}
-use Rattle.std.proofs.lemmas.Option.{slice_get-get_or}
-use Rattle.std.proofs.lemmas.List.Sums.{sum_by-cons}
-use Rattle.std.proofs.lemmas.Nat.{and_le_l, ones_le_self}
-use Rattle.std.proofs.lemmas.Nat.Bits.{bit_at_and, bit_at_lowest, bit_at-suc, bit_at_above, bit_at-trailing_zeros, bit_at-zero, bit_at-lt, bit_at_ones, shr_and_one}
-use Rattle.std.proofs.lemmas.Simd.{mask_l-lt}
-use Rattle.arrow_memory.specs.Sliced.{sliced}
-use Rattle.arrow_memory.specs.Words.{low_bits, set_count, word_of}
-use Rattle.arrow_memory.proofs.AppendLemmas.{bit_at-shr}
-use Rattle.arrow_memory.proofs.WordLemmas.{count_ones-word_of, length-low_bits, word_of-low_bits}
-use Rattle.arrow_select.specs.Selected.{at_set, set_in_word, word_bits, IsRunOf}
-use Rattle.arrow_memory.proofs.BitLemmas.{bits_of_word, word_more}
-use Rattle.arrow_memory.proofs.SlicedLemmas.{length-sliced}
+use Rattle.arrow_select.proofs.Common.{arith, inl, inr, ◌≡◌, ◌+◌, ◌-◌, ◌*◌, ◌/◌, ◌%◌, ◌^◌, ◌<◌, ◌≤◌, min, ℕ, zero, suc, Bool, true, false, cond, if◌then◌else◌, Some, List, [], ◌∷◌, ◌++◌, length, map, take, drop, refl, ap, sym, subst, ◌∙◌, append_assoc, w64, ◌==◌, nat_eq, count_ones, slice_get, range_with_len, bit_at, from_bool, trailing_zeros, pow-le-pow_right, mod-eq_of_lt, cases_lt, append-nil, length-append, drop-drop, drop_all, get_or-drop, get_or-take, length-take, length-drop, same_lists, take_min, get_or-map-range_with_len, length-map-range_with_len, slice_get-get_or, sum_by-cons, and_le_l, ones_le_self, bit_at_and, bit_at_lowest, bit_at-suc, bit_at_above, bit_at-trailing_zeros, bit_at-zero, bit_at-lt, bit_at_ones, shr_and_one, mask_l-lt, sliced, low_bits, set_count, word_of, bit_at-shr, count_ones-word_of, length-low_bits, word_of-low_bits, at_set, set_in_word, word_bits, IsRunOf, bits_of_word, word_more, length-sliced}
+use Rattle.std.specs.Prelude.{bit_and, bit_or}
 
 -- how many members are set
 pub length-at_set : {A : Type 0} (mask : List Bool) (xs : List A) → length mask ≡ length xs → length (at_set mask xs) ≡ set_count mask

@@ -1,12 +1,6 @@
 -- Rows that are moved, by the sign of the offset.
-use Rattle.std.proofs.Common.{arith, ◌≡◌, ◌-◌, ◌<ℤ◌, ℕ, suc, zero, ℤ, pos, negsuc, List, ◌++◌, length, replicate, take, drop, ap, sym, ◌∙◌}
+use Rattle.arrow_select.proofs.Common.{arith, ◌≡◌, ◌-◌, ◌<ℤ◌, ℕ, suc, zero, ℤ, pos, negsuc, List, ◌++◌, length, replicate, take, drop, ap, sym, ◌∙◌, ints, append-nil, length-drop, take_all, ArrowType, shifted, Slot, null_slot, between}
 use Rattle.std.specs.Prelude.{unsigned_abs}
-use Rattle.std.proofs.lemmas.Int.{ints}
-use Rattle.std.proofs.lemmas.List.{append-nil, length-drop, take_all}
-use Rattle.arrow_types.specs.ArrowType.{ArrowType}
-use Rattle.arrow_types.specs.Rows.{shifted}
-use Rattle.arrow_types.specs.Slot.{Slot, null_slot}
-use Rattle.arrow_select.specs.Growing.{between}
 
 back : (xs : List Slot) (k : ℤ) (t : ArrowType) → pos 0 <ℤ k → shifted xs k t ≡ between xs (unsigned_abs k) 0 t
 back xs (pos k) t above =

@@ -1,33 +1,8 @@
-use Rattle.std.proofs.Common.{arith, ◌≡◌, ◌++◌, ◌<◌, ◌∙◌, Err, [], ◌∷◌, ap, get_or, length, map, refl, rules, subst, sym}
-use Rattle.std.specs.Prelude.{option_copied}
+use Rattle.arrow_choice.proofs.Common.{arith, ◌≡◌, ◌++◌, ◌<◌, ◌∙◌, Err, [], ◌∷◌, ap, get_or, length, map, refl, rules, subst, sym, option_copied, get_or-map, get_or_default, length-map, map-append, All-append, All-cons, All-nil, slice_get_read, map-map, PhysicalType, null, plain, Fits, physical_type_of, masked, Boolean, type_of, null_slot-no_union, boolean_rows, passed_on, any_array_rows, any_array_type, layout_of, depth, depth_of_all, to_layouts, type_of_layout, IsStruct, struct_rows, field_types, depth_at, struct_holds, struct_types, type_of_structs, CannotChoose, MarksChosen, SomeCannotChoose, chosen_columns, makes_next}
 use Rattle.std.specs.List.{All}
-use Rattle.std.proofs.lemmas.List.{get_or-map, get_or_default, length-map, map-append}
-use Rattle.std.proofs.lemmas.List.Elements.{All-append, All-cons, All-nil}
-use Rattle.std.proofs.lemmas.Option.{slice_get_read}
-use Rattle.std.proofs.lemmas.Simd.{map-map}
-use Rattle.arrow_types.specs.declared.datatypes.physical_type.PhysicalType.{PhysicalType}
 use Rattle.arrow_types.specs.declared.datatypes.physical_type.PhysicalType.TheVariants as physical
-use Rattle.arrow_types.specs.ArrowType.{null, plain}
-use Rattle.arrow_types.specs.Fits.{Fits}
-use Rattle.arrow_types.specs.Physical.{physical_type_of}
-use Rattle.arrow_types.specs.Rows.{masked}
-use Rattle.arrow_types.specs.Slot.{Boolean}
-use Rattle.arrow_types.specs.TypeOf.{type_of}
-use Rattle.arrow_types.proofs.SlotLemmas.{null_slot-no_union}
-use Rattle.arrow_flat.specs.Parts.{boolean_rows}
-use Rattle.arrow_flat_growable.proofs.ResultLemmas.{passed_on}
-use Rattle.arrow_arrays.specs.Any.{any_array_rows, any_array_type, layout_of}
-use Rattle.arrow_arrays.specs.Layout.{depth, depth_of_all, to_layouts, type_of_layout}
-use Rattle.arrow_arrays.specs.StructParts.{IsStruct, struct_rows}
-use Rattle.arrow_arrays.specs.TypeParts.{field_types}
-use Rattle.arrow_arrays.proofs.DepthLemmas.{depth_at}
-use Rattle.arrow_arrays.proofs.TypeLemmas.{struct_holds}
-use Rattle.arrow_arrays.proofs.StructLemmas.{struct_types}
-use Rattle.arrow_growable.proofs.KindLemmas.{type_of_structs}
-use Rattle.arrow_choice.specs.Choice.{CannotChoose, MarksChosen, SomeCannotChoose, chosen_columns}
 use Rattle.arrow_choice.proofs.ChoiceLemmas.{unfit}
 use Rattle.arrow_choice.proofs.ChosenFields.{columns_more, each_fits, fields_chosen, fields_columns, fields_fit, fields_refused, left_long, right_long}
-use Rattle.arrow_growable.proofs.FieldColumns.{makes_next}
 use Rattle.arrow_choice.proofs.if_then_else.+choose.Goals as goal
 
 no_both : {p : PhysicalType} → p ≡ physical.Struct → p ≡ physical.Union → ⊥

@@ -1,11 +1,5 @@
-use Rattle.std.proofs.Common.{◌≡◌, ◌+◌, ◌*◌, map, take}
+use Rattle.arrow_choice.proofs.Common.{◌≡◌, ◌+◌, ◌*◌, map, take, Fits, boolean_rows, any_array_rows, any_array_type, layout_of, depth, depth_of_all, to_layouts, struct_layout, chosen_columns}
 use Rattle.std.specs.List.{All}
-use Rattle.arrow_types.specs.Fits.{Fits}
-use Rattle.arrow_flat.specs.Parts.{boolean_rows}
-use Rattle.arrow_arrays.specs.Any.{any_array_rows, any_array_type, layout_of}
-use Rattle.arrow_arrays.specs.Layout.{depth, depth_of_all, to_layouts}
-use Rattle.arrow_arrays.specs.StructParts.{struct_layout}
-use Rattle.arrow_choice.specs.Choice.{chosen_columns}
 use Rattle.arrow_choice.proofs.if_then_else.+choose.Given as goal
 
 -- each call goes to less deep arrays, or comes nearer to some

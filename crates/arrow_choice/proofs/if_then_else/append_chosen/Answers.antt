@@ -1,11 +1,5 @@
-use Rattle.std.proofs.Common.{◌≡◌, ◌≤◌, ◌++◌, ℕ, List, [], ◌∷◌, Err, arith, ap, drop, length, refl, subst, sym}
+use Rattle.arrow_choice.proofs.Common.{◌≡◌, ◌≤◌, ◌++◌, ℕ, List, [], ◌∷◌, Err, arith, ap, drop, length, refl, subst, sym, Slot, boolean_rows, any_array_rows, any_array_type, layout_of, passed_on, HasAppended, holds_none, holds_more}
 use Rattle.std.proofs.lemmas.List.{length-drop}
-use Rattle.arrow_types.specs.Slot.{Slot}
-use Rattle.arrow_flat.specs.Parts.{boolean_rows}
-use Rattle.arrow_arrays.specs.Any.{any_array_rows, any_array_type, layout_of}
-use Rattle.arrow_flat_growable.proofs.ResultLemmas.{passed_on}
-use Rattle.arrow_growable.specs.Growing.{HasAppended}
-use Rattle.arrow_growable.proofs.GrowLemmas.{holds_none, holds_more}
 use Rattle.arrow_choice.proofs.ChoiceLemmas.{ChoosesUpTo, chooses_all, chooses_run, names_left, names_right, run_named, run_refused, run_taken, side_rows}
 use Rattle.arrow_choice.proofs.if_then_else.append_chosen.Goals as goal
 

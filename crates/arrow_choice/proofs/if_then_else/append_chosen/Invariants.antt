@@ -1,8 +1,4 @@
-use Rattle.std.proofs.Common.{◌≡◌, List, [], ◌∷◌, drop, length}
-use Rattle.arrow_types.specs.Slot.{Slot}
-use Rattle.arrow_flat.specs.Parts.{boolean_rows}
-use Rattle.arrow_arrays.specs.Any.{any_array_rows, any_array_type, layout_of}
-use Rattle.arrow_growable.specs.Growing.{HasAppended}
+use Rattle.arrow_choice.proofs.Common.{◌≡◌, List, [], ◌∷◌, drop, length, Slot, boolean_rows, any_array_rows, any_array_type, layout_of, HasAppended}
 use Rattle.arrow_choice.proofs.ChoiceLemmas.{ChoosesUpTo}
 use Rattle.arrow_choice.proofs.if_then_else.append_chosen.Given as goal
 

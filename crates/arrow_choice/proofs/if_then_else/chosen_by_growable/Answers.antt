@@ -1,5 +1,4 @@
-use Rattle.arrow_flat.specs.Parts.{boolean_rows}
-use Rattle.arrow_arrays.specs.Any.{layout_of}
+use Rattle.arrow_choice.proofs.Common.{boolean_rows, layout_of}
 use Rattle.arrow_choice.proofs.ChoiceLemmas.{cannot_choose}
 use Rattle.arrow_choice.proofs.if_then_else.chosen_by_growable.Goals as goal
 

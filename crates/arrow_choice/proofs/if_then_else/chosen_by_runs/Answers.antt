@@ -1,5 +1,4 @@
-use Rattle.std.proofs.Common.{Err, ap}
-use Rattle.arrow_flat_growable.proofs.ResultLemmas.{passed_on}
+use Rattle.arrow_choice.proofs.Common.{Err, ap, passed_on}
 use Rattle.arrow_choice.proofs.if_then_else.chosen_by_runs.Goals as goal
 
 pub returns-in_err-append_by_kind-clause-overflow :

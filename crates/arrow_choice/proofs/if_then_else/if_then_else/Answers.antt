@@ -1,5 +1,4 @@
-use Rattle.std.proofs.Common.{Bor}
-use Rattle.arrow_flat.specs.Parts.{boolean_rows}
+use Rattle.arrow_choice.proofs.Common.{Bor, boolean_rows}
 use Rattle.arrow_choice.proofs.KeyLemmas.{chosen_alone}
 use Rattle.arrow_choice.proofs.if_then_else.if_then_else.Goals as goal
 

@@ -1,5 +1,4 @@
-use Rattle.std.proofs.Common.{subst, sym}
-use Rattle.arrow_flat.specs.Parts.{boolean_rows}
+use Rattle.arrow_choice.proofs.Common.{subst, sym, boolean_rows}
 use Rattle.arrow_choice.proofs.RangeLemmas.{NamesUpTo}
 use Rattle.arrow_choice.proofs.SideLemmas.{names_taken, side_labels, sides_named, sides_shortest}
 use Rattle.arrow_choice.proofs.if_then_else.if_then_else_ranges.Goals as goal

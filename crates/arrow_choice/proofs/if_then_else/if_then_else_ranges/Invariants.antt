@@ -1,5 +1,4 @@
-use Rattle.std.proofs.Common.{length}
-use Rattle.arrow_flat.specs.Parts.{boolean_rows}
+use Rattle.arrow_choice.proofs.Common.{length, boolean_rows}
 use Rattle.arrow_choice.proofs.RangeLemmas.{NamesUpTo}
 use Rattle.arrow_choice.proofs.SideLemmas.{side_labels}
 use Rattle.arrow_choice.proofs.if_then_else.if_then_else_ranges.Given as goal

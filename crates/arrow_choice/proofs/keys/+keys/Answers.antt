@@ -1,12 +1,5 @@
-use Rattle.std.proofs.Common.{arith, ap, sym, subst, ◌∙◌}
-use Rattle.arrow_arrays.specs.Any.{layout_of}
-use Rattle.arrow_arrays.specs.Layout.{depth, depth_of_all, to_layouts, type_of_layout}
-use Rattle.arrow_arrays.proofs.DepthLemmas.{depth_at}
-use Rattle.arrow_arrays.proofs.ShapeLemmas.{shape_of}
-use Rattle.arrow_growable.proofs.KindLemmas.{shape_of_lists, type_of_fixed_size_lists, type_of_maps}
-use Rattle.arrow_choice.specs.Keys.{HasNoDictionary, HasNoKeys}
+use Rattle.arrow_choice.proofs.Common.{arith, ap, sym, subst, ◌∙◌, layout_of, depth, depth_of_all, to_layouts, type_of_layout, depth_at, shape_of, shape_of_lists, type_of_fixed_size_lists, type_of_maps, HasNoDictionary, HasNoKeys, union_type}
 use Rattle.arrow_choice.proofs.KeyLemmas.{children_have_none, flat_has_none, items_have_none, union_has_none}
-use Rattle.arrow_growable.proofs.UnionLoopLemmas.{union_type}
 use Rattle.arrow_choice.proofs.keys.+keys.Goals as goal
 
 pub show_no_keys-show_no_keys-requires : goal.show_no_keys-show_no_keys-requires

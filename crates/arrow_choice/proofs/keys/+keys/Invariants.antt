@@ -1,7 +1,4 @@
-use Rattle.std.proofs.Common.{◌+◌, ◌*◌, ◌<◌, get_or, map}
-use Rattle.arrow_arrays.specs.Any.{any_array_type, layout_of}
-use Rattle.arrow_arrays.specs.Layout.{depth, depth_of_all, to_layouts}
-use Rattle.arrow_choice.specs.Keys.{HasNoDictionary, HasNoKeys}
+use Rattle.arrow_choice.proofs.Common.{◌+◌, ◌*◌, ◌<◌, get_or, map, any_array_type, layout_of, depth, depth_of_all, to_layouts, HasNoDictionary, HasNoKeys}
 use Rattle.arrow_choice.proofs.keys.+keys.Given as goal
 
 -- each call goes to a less deep array, or comes nearer to one

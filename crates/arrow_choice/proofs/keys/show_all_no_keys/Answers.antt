@@ -1,8 +1,4 @@
-use Rattle.std.proofs.Common.{arith, Bor, sym, subst}
-use Rattle.std.proofs.lemmas.List.{take_all}
-use Rattle.std.proofs.lemmas.List.Elements.{All-more, All-same}
-use Rattle.arrow_arrays.specs.Any.{any_array_type, layout_of}
-use Rattle.arrow_choice.specs.Keys.{HasNoDictionary, HasNoKeys}
+use Rattle.arrow_choice.proofs.Common.{arith, Bor, sym, subst, take_all, All-more, All-same, any_array_type, layout_of, HasNoDictionary, HasNoKeys}
 use Rattle.arrow_choice.proofs.keys.show_all_no_keys.Goals as goal
 
 pub loop-array-preserved : goal.loop-array-preserved

@@ -1,6 +1,4 @@
-use Rattle.std.proofs.Common.{All, take}
-use Rattle.arrow_arrays.specs.Any.{any_array_type, layout_of}
-use Rattle.arrow_choice.specs.Keys.{HasNoDictionary, HasNoKeys}
+use Rattle.arrow_choice.proofs.Common.{All, take, any_array_type, layout_of, HasNoDictionary, HasNoKeys}
 use Rattle.arrow_choice.proofs.keys.show_all_no_keys.Given as goal
 
 -- the arrays so far hold none, if their types do

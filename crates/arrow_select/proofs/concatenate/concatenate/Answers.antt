@@ -1,17 +1,5 @@
-use Rattle.std.proofs.Common.{◌≡◌, ◌<◌, Bor, length, map, refl, sym, subst, ap, ◌∙◌, arith}
-use Rattle.std.proofs.lemmas.List.{length-map}
-use Rattle.std.proofs.lemmas.Result.{IfOk-weaker}
-use Rattle.arrow_types.specs.Fits.{Fits}
-use Rattle.arrow_types.specs.Rows.{joined}
-use Rattle.arrow_arrays.specs.Any.{any_array_type, layout_of}
-use Rattle.arrow_arrays.specs.Layout.{rows}
-use Rattle.arrow_flat_growable.specs.Grown.{first_type}
-use Rattle.arrow_growable.proofs.JoinedLemmas.{slice_get-map_read}
-use Rattle.arrow_growable.proofs.MakeLemmas.{map_twice}
-use Rattle.arrow_choice.specs.Keys.{HasNoDictionary}
-use Rattle.arrow_select.specs.Arrays.{rows_in}
+use Rattle.arrow_select.proofs.Common.{◌≡◌, ◌<◌, Bor, length, map, refl, sym, subst, ap, ◌∙◌, arith, length-map, IfOk-weaker, Fits, joined, any_array_type, layout_of, rows, first_type, slice_get-map_read, map_twice, HasNoDictionary, rows_in, rows_alone}
 use Rattle.arrow_select.proofs.ArrayLemmas.{Contains-read, of_one_type, all_as_first}
-use Rattle.arrow_choice.proofs.KeyLemmas.{rows_alone}
 use Rattle.arrow_select.proofs.concatenate.concatenate.Goals as goal
 
 pub returns-then-not-have_one_type-clause-types : goal.returns-then-not-have_one_type-clause-types

@@ -1,9 +1,4 @@
-use Rattle.std.proofs.Common.{◌≡◌, ◌<◌, length, map, sym, ◌∙◌, arith}
-use Rattle.std.proofs.lemmas.List.{length-map, take_all}
-use Rattle.std.proofs.lemmas.List.Elements.{All-more, All-same}
-use Rattle.std.proofs.lemmas.Option.{get_or_from_slice_get}
-use Rattle.arrow_arrays.specs.Any.{any_array_type}
-use Rattle.arrow_growable.proofs.JoinedLemmas.{slice_get-map_read}
+use Rattle.arrow_select.proofs.Common.{◌≡◌, ◌<◌, length, map, sym, ◌∙◌, arith, length-map, take_all, All-more, All-same, get_or_from_slice_get, any_array_type, slice_get-map_read}
 use Rattle.arrow_select.proofs.ArrayLemmas.{Contains-read}
 use Rattle.arrow_select.proofs.concatenate.have_one_type.Goals as goal
 

@@ -1,5 +1,4 @@
-use Rattle.std.proofs.Common.{◌≡◌, All, map, take}
-use Rattle.arrow_arrays.specs.Any.{any_array_type}
+use Rattle.arrow_select.proofs.Common.{◌≡◌, All, map, take, any_array_type}
 use Rattle.arrow_select.proofs.concatenate.have_one_type.Given as goal
 
 -- the arrays so far are of the first one's type

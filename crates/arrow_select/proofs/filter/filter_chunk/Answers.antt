@@ -1,9 +1,4 @@
-use Rattle.std.proofs.Common.{ap, length, map, sym, subst, ◌∙◌}
-use Rattle.std.proofs.lemmas.List.{length-map}
-use Rattle.arrow_types.specs.Rows.{selects}
-use Rattle.arrow_flat.specs.Parts.{boolean_rows}
-use Rattle.arrow_arrays.specs.Any.{layout_of}
-use Rattle.arrow_arrays.specs.StructParts.{HaveRows}
+use Rattle.arrow_select.proofs.Common.{ap, length, map, sym, subst, ◌∙◌, length-map, selects, boolean_rows, layout_of, HaveRows}
 use Rattle.arrow_select.proofs.ChunkLemmas.{selected_columns}
 use Rattle.arrow_select.proofs.filter.filter_chunk.Goals as goal
 

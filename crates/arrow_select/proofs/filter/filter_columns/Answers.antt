@@ -1,12 +1,4 @@
-use Rattle.std.proofs.Common.{All, Err, arith, ap, length, map, sym, subst, take, [], ◌∷◌, ◌∙◌}
-use Rattle.std.proofs.lemmas.List.{length-map, map-append, take_all}
-use Rattle.std.proofs.lemmas.List.Elements.{All-push}
-use Rattle.arrow_types.specs.Fits.{Fits}
-use Rattle.arrow_arrays.specs.Any.{layout_of}
-use Rattle.arrow_arrays.specs.Layout.{Layout, rows, type_of_layout}
-use Rattle.arrow_flat_growable.proofs.ResultLemmas.{passed_on}
-use Rattle.arrow_growable.proofs.JoinedLemmas.{slice_get-map_read}
-use Rattle.arrow_select.specs.Selected.{selected_rows}
+use Rattle.arrow_select.proofs.Common.{All, Err, arith, ap, length, map, sym, subst, take, [], ◌∷◌, ◌∙◌, length-map, map-append, take_all, All-push, Fits, layout_of, Layout, rows, type_of_layout, passed_on, slice_get-map_read, selected_rows}
 use Rattle.arrow_select.proofs.ChunkLemmas.{column_long, column_next, kept_fit}
 use Rattle.arrow_select.proofs.filter.filter_columns.Goals as goal
 

@@ -1,8 +1,4 @@
-use Rattle.std.proofs.Common.{◌≡◌, All, map, take}
-use Rattle.arrow_types.specs.Fits.{Fits}
-use Rattle.arrow_arrays.specs.Any.{layout_of}
-use Rattle.arrow_arrays.specs.Layout.{rows, type_of_layout}
-use Rattle.arrow_select.specs.Selected.{selected_rows}
+use Rattle.arrow_select.proofs.Common.{◌≡◌, All, map, take, Fits, layout_of, rows, type_of_layout, selected_rows}
 use Rattle.arrow_select.proofs.filter.filter_columns.Given as goal
 
 -- the columns so far are kept

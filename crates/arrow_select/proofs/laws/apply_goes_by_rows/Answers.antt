@@ -1,8 +1,4 @@
-use Rattle.std.proofs.Common.{Bool, List}
-use Rattle.arrow_types.specs.ArrowType.{ArrowType}
-use Rattle.arrow_types.specs.Rows.{select}
-use Rattle.arrow_types.specs.Slot.{Slot}
-use Rattle.arrow_arrays.specs.Any.{any_array_meaning}
+use Rattle.arrow_select.proofs.Common.{Bool, List, ArrowType, select, Slot, any_array_meaning}
 use Rattle.arrow_select.proofs.LawLemmas.{equal_inputs}
 use Rattle.arrow_select.proofs.laws.apply_goes_by_rows.Goals as goal
 

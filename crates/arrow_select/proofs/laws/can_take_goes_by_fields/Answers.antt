@@ -1,4 +1,4 @@
-use Rattle.arrow_types.specs.TypeOf.{type_of}
+use Rattle.arrow_select.proofs.Common.{type_of}
 use Rattle.arrow_select.proofs.CanTake.{can_by_fields}
 use Rattle.arrow_select.proofs.laws.can_take_goes_by_fields.Goals as goal
 

@@ -1,9 +1,4 @@
-use Rattle.std.proofs.Common.{List}
-use Rattle.arrow_types.specs.ArrowType.{ArrowType}
-use Rattle.arrow_types.specs.Rows.{chosen}
-use Rattle.arrow_types.specs.Slot.{Slot}
-use Rattle.arrow_flat.specs.Parts.{boolean_rows}
-use Rattle.arrow_arrays.specs.Any.{any_array_meaning}
+use Rattle.arrow_select.proofs.Common.{List, ArrowType, chosen, Slot, boolean_rows, any_array_meaning}
 use Rattle.arrow_select.proofs.LawLemmas.{equal_inputs}
 use Rattle.arrow_select.proofs.laws.choice_goes_by_rows.Goals as goal
 

@@ -1,6 +1,4 @@
-use Rattle.std.proofs.Common.{◌∙◌, sym}
-use Rattle.arrow_types.specs.Rows.{mask_of}
-use Rattle.arrow_flat.specs.Parts.{boolean_rows}
+use Rattle.arrow_select.proofs.Common.{◌∙◌, sym, mask_of, boolean_rows}
 use Rattle.arrow_select.proofs.ChunkLemmas.{kept_fit, none_passes}
 use Rattle.arrow_select.proofs.LawLemmas.{columns_alike}
 use Rattle.arrow_select.proofs.laws.chunk_fits_alike.Goals as goal

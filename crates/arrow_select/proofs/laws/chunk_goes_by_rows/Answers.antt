@@ -1,5 +1,4 @@
-use Rattle.std.proofs.Common.{◌∙◌, sym}
-use Rattle.arrow_flat.specs.Parts.{boolean_rows}
+use Rattle.arrow_select.proofs.Common.{◌∙◌, sym, boolean_rows}
 use Rattle.arrow_select.proofs.LawLemmas.{columns_alike}
 use Rattle.arrow_select.proofs.laws.chunk_goes_by_rows.Goals as goal
 

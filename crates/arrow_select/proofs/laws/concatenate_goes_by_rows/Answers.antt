@@ -1,8 +1,4 @@
-use Rattle.std.proofs.Common.{◌<◌, ◌∙◌, arith, ap, get_or, length, sym}
-use Rattle.std.proofs.lemmas.List.{length-map}
-use Rattle.arrow_types.specs.Rows.{joined}
-use Rattle.arrow_arrays.specs.Any.{any_array_type}
-use Rattle.arrow_select.specs.Arrays.{types_in}
+use Rattle.arrow_select.proofs.Common.{◌<◌, ◌∙◌, arith, ap, get_or, length, sym, length-map, joined, any_array_type, types_in}
 use Rattle.arrow_select.proofs.laws.concatenate_goes_by_rows.Goals as goal
 
 pub returns : goal.returns

@@ -1,4 +1,4 @@
-use Rattle.std.proofs.Common.{◌<◌, ◌^◌, arith}
+use Rattle.arrow_select.proofs.Common.{◌<◌, ◌^◌, arith}
 use Rattle.arrow_select.proofs.EdgeLemmas.{dense_fits, dense_passes}
 use Rattle.arrow_select.proofs.laws.dense_union_edge.Goals as goal
 

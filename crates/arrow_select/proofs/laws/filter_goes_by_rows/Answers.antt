@@ -1,5 +1,4 @@
-use Rattle.std.proofs.Common.{◌∙◌, sym}
-use Rattle.arrow_types.specs.Rows.{mask_of, select}
+use Rattle.arrow_select.proofs.Common.{◌∙◌, sym, mask_of, select}
 use Rattle.arrow_select.proofs.laws.filter_goes_by_rows.Goals as goal
 
 pub returns : goal.returns

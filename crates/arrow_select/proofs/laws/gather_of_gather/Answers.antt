@@ -1,7 +1,4 @@
-use Rattle.std.proofs.Common.{ap, map}
-use Rattle.arrow_flat.specs.Parts.{rows_by}
-use Rattle.arrow_arrays.specs.Any.{any_array_rows, any_array_type}
-use Rattle.arrow_flat_growable.specs.FlatLaws.{is_counted, null_of_counted}
+use Rattle.arrow_select.proofs.Common.{ap, map, rows_by, any_array_rows, any_array_type, is_counted, null_of_counted}
 use Rattle.arrow_select.proofs.LawLemmas.{gather-gather}
 use Rattle.arrow_select.proofs.laws.gather_of_gather.Goals as goal
 

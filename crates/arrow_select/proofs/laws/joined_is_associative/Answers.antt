@@ -1,4 +1,4 @@
-use Rattle.arrow_arrays.specs.Any.{any_array_rows}
+use Rattle.arrow_select.proofs.Common.{any_array_rows}
 use Rattle.arrow_select.proofs.LawLemmas.{joined-associative}
 use Rattle.arrow_select.proofs.laws.joined_is_associative.Goals as goal
 

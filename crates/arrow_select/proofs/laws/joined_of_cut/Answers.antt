@@ -1,4 +1,4 @@
-use Rattle.arrow_arrays.specs.Any.{any_array_rows}
+use Rattle.arrow_select.proofs.Common.{any_array_rows}
 use Rattle.arrow_select.proofs.LawLemmas.{joined-cut}
 use Rattle.arrow_select.proofs.laws.joined_of_cut.Goals as goal
 

@@ -1,4 +1,4 @@
-use Rattle.arrow_arrays.specs.Any.{any_array_rows, any_array_type}
+use Rattle.arrow_select.proofs.Common.{any_array_rows, any_array_type}
 use Rattle.arrow_select.proofs.KeptLemmas.{Fits-kept}
 use Rattle.arrow_select.proofs.laws.kept_rows_fit.Goals as goal
 

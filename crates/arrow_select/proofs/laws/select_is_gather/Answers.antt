@@ -1,8 +1,4 @@
-use Rattle.std.proofs.Common.{◌∙◌}
-use Rattle.std.proofs.lemmas.List.{length-map}
-use Rattle.arrow_types.specs.Rows.{mask_of, selects}
-use Rattle.arrow_flat.specs.Parts.{boolean_rows}
-use Rattle.arrow_arrays.specs.Any.{any_array_rows, any_array_type}
+use Rattle.arrow_select.proofs.Common.{◌∙◌, length-map, mask_of, selects, boolean_rows, any_array_rows, any_array_type}
 use Rattle.arrow_select.proofs.LawLemmas.{selected_is_gathered}
 use Rattle.arrow_select.proofs.laws.select_is_gather.Goals as goal
 

@@ -1,5 +1,4 @@
-use Rattle.std.proofs.Common.{◌∙◌, ap, sym}
-use Rattle.arrow_types.specs.Rows.{shifted}
+use Rattle.arrow_select.proofs.Common.{◌∙◌, ap, sym, shifted}
 use Rattle.arrow_select.proofs.laws.shift_goes_by_rows.Goals as goal
 
 pub returns : goal.returns

@@ -1,9 +1,4 @@
-use Rattle.std.proofs.Common.{List, map}
-use Rattle.arrow_types.specs.ArrowType.{ArrowType}
-use Rattle.arrow_types.specs.Rows.{gather}
-use Rattle.arrow_types.specs.Slot.{Slot}
-use Rattle.arrow_flat.specs.Parts.{rows_by}
-use Rattle.arrow_arrays.specs.Any.{any_array_meaning}
+use Rattle.arrow_select.proofs.Common.{List, map, ArrowType, gather, Slot, rows_by, any_array_meaning}
 use Rattle.arrow_select.proofs.LawLemmas.{fits_alike}
 use Rattle.arrow_select.proofs.laws.take_fits_alike.Goals as goal
 

@@ -1,5 +1,4 @@
-use Rattle.std.proofs.Common.{◌∙◌, sym}
-use Rattle.arrow_types.specs.Rows.{gather}
+use Rattle.arrow_select.proofs.Common.{◌∙◌, sym, gather}
 use Rattle.arrow_select.proofs.laws.take_goes_by_rows.Goals as goal
 
 pub returns : goal.returns

@@ -1,10 +1,5 @@
-use Rattle.std.proofs.Common.{◌-◌, [], ◌∷◌, Err, length, replicate, refl, ap, ◌∙◌, append_assoc}
-use Rattle.arrow_types.specs.Slot.{null_slot}
-use Rattle.arrow_memory.specs.Sliced.{sliced}
-use Rattle.arrow_arrays.specs.Any.{any_array_type, any_array_rows, layout_of}
-use Rattle.arrow_flat_growable.proofs.ResultLemmas.{passed_on}
-use Rattle.arrow_select.specs.Growing.{between}
-use Rattle.arrow_growable.proofs.GrowLemmas.{holds_none, holds_more, holds_whole, refuses_last, refuses_whole, too_many_first, nulls, named}
+use Rattle.arrow_select.proofs.Common.{◌-◌, [], ◌∷◌, Err, length, replicate, refl, ap, ◌∙◌, append_assoc, null_slot, sliced, any_array_type, any_array_rows, layout_of, passed_on, between, holds_none, holds_more, holds_whole, refuses_last, refuses_whole, too_many_first, nulls}
+use Rattle.arrow_growable.proofs.GrowLemmas.{named}
 use Rattle.arrow_select.proofs.window.append_between.Goals as goal
 
 pub returns-in_err-extend_validity-clause-overflow :

@@ -1,11 +1,4 @@
-use Rattle.std.proofs.Common.{rules, ◌≡◌, ◌-◌, w64, unsigned_abs, ap, sym, subst, ◌∙◌}
-use Rattle.std.proofs.lemmas.Int.{to_z-of_z}
-use Rattle.std.proofs.lemmas.Result.{IfOk-weaker}
-use mir.Val.{SFits}
-use Rattle.arrow_types.specs.Fits.{Fits}
-use Rattle.arrow_types.specs.Rows.{shifted}
-use Rattle.arrow_arrays.specs.Any.{any_array_type, any_array_rows}
-use Rattle.arrow_select.specs.Growing.{between}
+use Rattle.arrow_select.proofs.Common.{rules, ◌≡◌, ◌-◌, w64, unsigned_abs, ap, sym, subst, ◌∙◌, to_z-of_z, IfOk-weaker, SFits, Fits, shifted, any_array_type, any_array_rows, between}
 use Rattle.arrow_select.proofs.ShiftLemmas.{shifted_back, shifted_forth}
 use Rattle.arrow_select.proofs.window.shift.Goals as goal
 use Rattle.arrow_select.proofs.window.shift.Goals.{then-offset-gt0, else-offset-gt0}

@@ -1,11 +1,4 @@
-use Rattle.std.proofs.Common.{◌≡◌, ◌∙◌, ap, arith, length, rules, subst, sym}
-use Rattle.arrow_types.specs.Fits.{Fits}
-use Rattle.arrow_types.specs.Slot.{Boolean}
-use Rattle.arrow_types.proofs.SelectLemmas.{length-chosen}
-use Rattle.arrow_flat.specs.Parts.{boolean_rows}
-use Rattle.arrow_flat_growable.specs.FlatLaws.{is_counted, null_of_counted}
-use Rattle.arrow_flat_growable.proofs.FitsLemmas.{fits_only_counted, is_only_counted}
-use Rattle.arrow_choice.specs.Choice.{chosen_by}
+use Rattle.arrow_choice.proofs.Common.{◌≡◌, ◌∙◌, ap, arith, length, rules, subst, sym, Fits, Boolean, length-chosen, boolean_rows, is_counted, null_of_counted, fits_only_counted, is_only_counted, chosen_by}
 use Rattle.arrow_choice.proofs.ChosenLemmas.{chooses, rows_chosen, values_fit}
 use Rattle.arrow_choice.proofs.if_then_else.boolean.chosen_booleans.Goals as goal
 

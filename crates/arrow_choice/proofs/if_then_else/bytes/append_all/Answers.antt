@@ -1,6 +1,4 @@
-use Rattle.std.proofs.Common.{arith, ◌-◌, ◌++◌, ◌∙◌, Err, ap}
-use Rattle.arrow_memory.specs.Sliced.{sliced}
-use Rattle.arrow_flat_growable.proofs.ResultLemmas.{on_ok, passed_on}
+use Rattle.arrow_choice.proofs.Common.{arith, ◌-◌, ◌++◌, ◌∙◌, Err, ap, sliced, on_ok, passed_on}
 use Rattle.arrow_choice.proofs.ChosenRuns.{run_appended, run_total}
 use Rattle.arrow_choice.proofs.if_then_else.bytes.append_all.Goals as goal
 

@@ -1,10 +1,5 @@
-use Rattle.std.proofs.Common.{arith, ◌<◌, ◌++◌, ◌∙◌, Err, ap, length, sym}
-use Rattle.std.proofs.lemmas.List.{append-nil}
-use Rattle.arrow_memory.specs.Offsets.{with_row}
-use Rattle.arrow_flat.proofs.PieceLemmas.{length-pieces}
-use Rattle.arrow_flat_growable.proofs.ResultLemmas.{on_ok, passed_on}
+use Rattle.arrow_choice.proofs.Common.{arith, ◌<◌, ◌++◌, ◌∙◌, Err, ap, length, sym, append-nil, with_row, length-pieces, on_ok, passed_on, pieces}
 use Rattle.arrow_choice.proofs.ChosenRows.{row_counted, row_taken}
-use Rattle.arrow_flat.specs.Pieces.{pieces}
 use Rattle.arrow_choice.proofs.if_then_else.bytes.append_row.Goals as goal
 
 pub returns-in_err-try_push_usize-clause-overflow : goal.returns-in_err-try_push_usize-clause-overflow

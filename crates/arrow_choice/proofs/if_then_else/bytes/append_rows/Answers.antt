@@ -1,12 +1,6 @@
-use Rattle.std.proofs.Common.{arith, ◌≡◌, ◌+◌, ◌*◌, ◌<◌, ◌∙◌, Bool, Err, ap, false, get_or, if◌then◌else◌, length, nat_eq, pos, refl, true}
-use Rattle.std.specs.Prelude.{option_copied}
-use Rattle.std.proofs.lemmas.List.{length-map}
-use Rattle.std.proofs.lemmas.Nat.Bits.{shr_and_one}
-use Rattle.arrow_flat_growable.proofs.ResultLemmas.{passed_on}
-use Rattle.arrow_choice.specs.Choice.{row_chosen}
+use Rattle.arrow_choice.proofs.Common.{arith, ◌≡◌, ◌+◌, ◌*◌, ◌<◌, ◌∙◌, Bool, Err, ap, false, get_or, if◌then◌else◌, length, nat_eq, pos, refl, true, option_copied, length-map, shr_and_one, passed_on, row_chosen, pieces}
 use Rattle.arrow_choice.proofs.ChosenRuns.{row_appended, row_is, row_passes}
 use Rattle.arrow_choice.proofs.SideLemmas.{valid_within}
-use Rattle.arrow_flat.specs.Pieces.{pieces}
 use Rattle.arrow_choice.proofs.if_then_else.bytes.append_rows.Goals as goal
 
 pub returns-in_err-append_row-clause-overflow : goal.returns-in_err-append_row-clause-overflow

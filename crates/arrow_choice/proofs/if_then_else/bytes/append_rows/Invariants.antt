@@ -1,7 +1,4 @@
-use Rattle.std.proofs.Common.{◌*◌}
-use Rattle.std.specs.Prelude.{option_copied}
-use Rattle.arrow_choice.specs.Choice.{AppendsRows, row_chosen, rows_from}
-use Rattle.arrow_flat.specs.Pieces.{pieces}
+use Rattle.arrow_choice.proofs.Common.{◌*◌, option_copied, AppendsRows, row_chosen, rows_from, pieces}
 use Rattle.arrow_choice.proofs.if_then_else.bytes.append_rows.Given as goal
 
 -- the rows so far come behind those of before

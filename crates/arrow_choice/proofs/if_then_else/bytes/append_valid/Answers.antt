@@ -1,5 +1,4 @@
-use Rattle.std.proofs.Common.{arith, Err, ap}
-use Rattle.arrow_flat_growable.proofs.ResultLemmas.{on_ok, passed_on}
+use Rattle.arrow_choice.proofs.Common.{arith, Err, ap, on_ok, passed_on}
 use Rattle.arrow_choice.proofs.ChosenRuns.{valid_appended, valid_total}
 use Rattle.arrow_choice.proofs.if_then_else.bytes.append_valid.Goals as goal
 

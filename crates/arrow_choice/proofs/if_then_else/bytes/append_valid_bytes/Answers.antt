@@ -1,7 +1,4 @@
-use Rattle.std.proofs.Common.{arith, ◌-◌, ◌+◌, ◌++◌, ◌∙◌, ◌≡◌, ap}
-use Rattle.arrow_memory.specs.Sliced.{sliced}
-use Rattle.arrow_flat_growable.specs.GrownRows.{valid_values}
-use Rattle.arrow_flat_growable.proofs.ValidRowLemmas.{run_copied, run_long}
+use Rattle.arrow_choice.proofs.Common.{arith, ◌-◌, ◌+◌, ◌++◌, ◌∙◌, ◌≡◌, ap, sliced, valid_values, run_copied, run_long}
 use Rattle.arrow_choice.proofs.if_then_else.bytes.append_valid_bytes.Goals as goal
 
 pub loop-row-preserved : goal.loop-row-preserved

@@ -1,6 +1,4 @@
-use Rattle.std.proofs.Common.{◌≡◌, ◌+◌, ◌-◌, ◌++◌, length}
-use Rattle.arrow_memory.specs.Sliced.{sliced}
-use Rattle.arrow_flat_growable.specs.GrownRows.{valid_values}
+use Rattle.arrow_choice.proofs.Common.{◌≡◌, ◌+◌, ◌-◌, ◌++◌, length, sliced, valid_values}
 use Rattle.arrow_choice.proofs.if_then_else.bytes.append_valid_bytes.Given as goal
 
 -- the bytes so far, with those of the rows that are left, are all

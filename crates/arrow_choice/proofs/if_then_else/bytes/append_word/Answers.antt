@@ -1,12 +1,5 @@
-use Rattle.std.proofs.Common.{arith, ◌+◌, ◌*◌, ◌<◌, ◌∙◌, ap, false, sym, subst, true}
-use Rattle.std.specs.Prelude.{◌==◌, OnOk, option_copied}
-use Rattle.std.specs.Int.{bit_at}
-use Rattle.std.proofs.lemmas.Nat.Bits.{bit_at-zero, bit_at_ones}
-use Rattle.arrow_memory.specs.Offsets.{last_of}
-use Rattle.arrow_flat_growable.specs.GrownRows.{total}
-use Rattle.arrow_choice.specs.Choice.{AppendsRows}
+use Rattle.arrow_choice.proofs.Common.{arith, ◌+◌, ◌*◌, ◌<◌, ◌∙◌, ap, false, sym, subst, true, ◌==◌, OnOk, option_copied, bit_at, bit_at-zero, bit_at_ones, last_of, total, AppendsRows, pieces}
 use Rattle.arrow_choice.proofs.ChosenRuns.{one_side}
-use Rattle.arrow_flat.specs.Pieces.{pieces}
 use Rattle.arrow_choice.proofs.if_then_else.bytes.append_word.Goals as goal
 
 pub returns-then-word-eq0-clause-ok : goal.returns-then-word-eq0-clause-ok

@@ -1,20 +1,5 @@
-use Rattle.std.proofs.Common.{arith, ◌≡◌, ◌<◌, ◌≤◌, ◌∷◌, ◌∙◌, Err, ap, length, map, refl, rules, subst, sym}
-use Rattle.std.specs.Prelude.{option_copied}
+use Rattle.arrow_choice.proofs.Common.{arith, ◌≡◌, ◌<◌, ◌≤◌, ◌∷◌, ◌∙◌, Err, ap, length, map, refl, rules, subst, sym, option_copied, length-map, Fits, masked, Boolean, last_of, byte_slots, row_bytes, length-byte_slots, FitsRows, rows_by, pieces, total, passed_on, all_chosen, ends_from, concatenated}
 use Rattle.std.specs.List.{All}
-use Rattle.std.proofs.lemmas.List.{length-map}
-use Rattle.arrow_types.specs.Fits.{Fits}
-use Rattle.arrow_types.specs.Rows.{masked}
-use Rattle.arrow_types.specs.Slot.{Boolean}
-use Rattle.arrow_memory.specs.Offsets.{last_of}
-use Rattle.arrow_flat.specs.ByteRows.{byte_slots, row_bytes}
-use Rattle.arrow_flat.proofs.PieceLemmas.{length-byte_slots}
-use Rattle.arrow_flat.specs.Parts.{FitsRows, rows_by}
-use Rattle.arrow_flat.specs.Pieces.{pieces}
-use Rattle.arrow_flat_growable.specs.GrownRows.{total}
-use Rattle.arrow_flat_growable.proofs.ResultLemmas.{passed_on}
-use Rattle.arrow_choice.specs.Choice.{all_chosen}
-use Rattle.arrow_memory.specs.Ends.{ends_from}
-use Rattle.arrow_flat_growable.specs.Ends.{concatenated}
 use Rattle.arrow_choice.proofs.ChosenBytes.{bytes_chosen, made_allowed, made_fit, made_passes, rows_in}
 use Rattle.arrow_choice.proofs.ChosenLemmas.{chooses}
 use Rattle.arrow_choice.proofs.ChosenRows.{made_fits, rows_are, rows_end, rows_long}

@@ -1,10 +1,5 @@
-use Rattle.std.proofs.Common.{arith, ◌≡◌, ◌-◌, ◌*◌, ◌<◌, ◌≤◌, ◌∙◌, Err, ap, length, min}
-use Rattle.std.specs.Prelude.{option_copied}
-use Rattle.std.proofs.lemmas.Int.{ints}
-use Rattle.arrow_flat_growable.proofs.ResultLemmas.{passed_on}
-use Rattle.arrow_choice.specs.Choice.{row_chosen}
+use Rattle.arrow_choice.proofs.Common.{arith, ◌≡◌, ◌-◌, ◌*◌, ◌<◌, ◌≤◌, ◌∙◌, Err, ap, length, min, option_copied, ints, passed_on, row_chosen, pieces}
 use Rattle.arrow_choice.proofs.ChosenRuns.{all_bytes, all_ends, all_few, word_appended, word_passes}
-use Rattle.arrow_flat.specs.Pieces.{pieces}
 use Rattle.arrow_choice.proofs.if_then_else.bytes.chosen_parts.Goals as goal
 
 pub returns-in_err-append_word-clause-overflow : goal.returns-in_err-append_word-clause-overflow

@@ -1,7 +1,4 @@
-use Rattle.std.proofs.Common.{◌*◌, ◌∷◌, [], take}
-use Rattle.std.specs.Prelude.{option_copied}
-use Rattle.arrow_choice.specs.Choice.{AppendsRows, all_chosen}
-use Rattle.arrow_flat.specs.Pieces.{pieces}
+use Rattle.arrow_choice.proofs.Common.{◌*◌, ◌∷◌, [], take, option_copied, AppendsRows, all_chosen, pieces}
 use Rattle.arrow_choice.proofs.if_then_else.bytes.chosen_parts.Given as goal
 
 -- where the rows so far end, and their bytes

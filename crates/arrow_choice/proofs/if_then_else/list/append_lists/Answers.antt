@@ -1,15 +1,5 @@
-use Rattle.std.proofs.Common.{arith, Bool, ◌≡◌, ◌+◌, ◌<◌, ◌≤◌, ◌∷◌, ◌∙◌, ℕ, List, Some, [], ap, drop, false, length, map, refl, subst, sym, true}
-use Rattle.std.proofs.lemmas.List.{length-drop, length-map}
-use Rattle.arrow_types.specs.Slot.{Boolean, Slot}
-use Rattle.arrow_flat.specs.Parts.{FitsRows, Parts, boolean_rows}
-use Rattle.arrow_flat.specs.Pieces.{pieces}
-use Rattle.arrow_flat.proofs.PartsLemmas.{length-masked}
-use Rattle.arrow_arrays.specs.Any.{any_array_rows, layout_of}
-use Rattle.arrow_growable.specs.Growing.{HasAppended}
-use Rattle.arrow_growable.proofs.GrowLemmas.{holds_none}
-use Rattle.arrow_choice.specs.Choice.{AppendsRows, row_chosen, rows_from}
-use Rattle.arrow_memory.specs.Ends.{ends_from}
-use Rattle.arrow_flat_growable.specs.Ends.{concatenated}
+use Rattle.arrow_choice.proofs.Common.{arith, Bool, ◌≡◌, ◌+◌, ◌<◌, ◌≤◌, ◌∷◌, ◌∙◌, ℕ, List, Some, [], ap, drop, false, length, map, refl, subst, sym, true, length-map, Boolean, Slot, FitsRows, Parts, boolean_rows, pieces, length-masked, any_array_rows, layout_of, HasAppended, holds_none, AppendsRows, row_chosen, rows_from, ends_from, concatenated}
+use Rattle.std.proofs.lemmas.List.{length-drop}
 use Rattle.arrow_choice.proofs.ChoiceLemmas.{IsTaken, run_taken}
 use Rattle.arrow_choice.proofs.ChosenItems.{items_more, names_items, null_more, side_more}
 use Rattle.arrow_choice.proofs.ChosenRuns.{none_appended}

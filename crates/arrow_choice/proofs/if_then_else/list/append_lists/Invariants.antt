@@ -1,9 +1,4 @@
-use Rattle.std.proofs.Common.{◌≡◌, ◌≤◌, ◌∷◌, [], drop, length}
-use Rattle.arrow_flat.specs.Parts.{boolean_rows}
-use Rattle.arrow_flat.specs.Pieces.{pieces}
-use Rattle.arrow_arrays.specs.Any.{any_array_rows, layout_of}
-use Rattle.arrow_growable.specs.Growing.{HasAppended}
-use Rattle.arrow_choice.specs.Choice.{AppendsRows, row_chosen, rows_from}
+use Rattle.arrow_choice.proofs.Common.{◌≡◌, ◌≤◌, ◌∷◌, [], drop, length, boolean_rows, pieces, any_array_rows, layout_of, HasAppended, AppendsRows, row_chosen, rows_from}
 use Rattle.arrow_choice.proofs.if_then_else.list.append_lists.Given as goal
 
 -- the rows up to the next one are there, and their items are held

@@ -1,9 +1,4 @@
-use Rattle.std.proofs.Common.{arith, ◌≡◌, ◌∙◌, ap, length, rules, sym}
-use Rattle.std.proofs.lemmas.List.{length-map}
-use Rattle.arrow_types.specs.Slot.{Boolean}
-use Rattle.arrow_memory.specs.Offsets.{last_of}
-use Rattle.arrow_arrays.specs.AnyOffsetsBuffer.{offsets_of}
-use Rattle.arrow_arrays.specs.Layout.{rows}
+use Rattle.arrow_choice.proofs.Common.{arith, ◌≡◌, ◌∙◌, ap, length, rules, sym, length-map, Boolean, last_of, offsets_of, rows}
 use Rattle.arrow_choice.proofs.if_then_else.list.chosen_lists.Goals as goal
 
 pub chosen_items-requires-clause-left : goal.chosen_items-requires-clause-left

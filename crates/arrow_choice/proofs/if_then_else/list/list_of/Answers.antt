@@ -1,16 +1,4 @@
-use Rattle.std.proofs.Common.{arith, ◌≡◌, ◌≤◌, ◌∙◌, ap, length, rules, subst, sym}
-use Rattle.std.proofs.lemmas.List.{length-map}
-use Rattle.arrow_types.specs.Fits.{Fits}
-use Rattle.arrow_types.specs.Rows.{masked}
-use Rattle.arrow_types.specs.Slot.{Boolean}
-use Rattle.arrow_types.specs.TypeOf.{type_of}
-use Rattle.arrow_memory.specs.Offsets.{last_of}
-use Rattle.arrow_flat.specs.Parts.{FitsRows}
-use Rattle.arrow_arrays.specs.Any.{any_array_rows}
-use Rattle.arrow_arrays.specs.AnyOffsetsBuffer.{offsets_of}
-use Rattle.arrow_arrays.specs.Layout.{list_items}
-use Rattle.arrow_arrays.specs.ListParts.{list_rows}
-use Rattle.arrow_growable.specs.Lists.{IsListType, greatest_in}
+use Rattle.arrow_choice.proofs.Common.{arith, ◌≡◌, ◌≤◌, ◌∙◌, ap, length, rules, subst, sym, length-map, Fits, masked, Boolean, type_of, last_of, FitsRows, any_array_rows, offsets_of, list_items, list_rows, IsListType, greatest_in}
 use Rattle.arrow_choice.proofs.ChosenLists.{chosen_fit, lists_are, lists_chosen, lists_end, lists_long, null_list}
 use Rattle.arrow_choice.proofs.if_then_else.list.list_of.Goals as goal
 

@@ -1,10 +1,4 @@
-use Rattle.std.proofs.Common.{◌≡◌, ◌∙◌, ap, arith, length, map, rules, subst, sym}
-use Rattle.arrow_types.specs.Fits.{Fits}
-use Rattle.arrow_types.proofs.SelectLemmas.{length-chosen}
-use Rattle.arrow_flat.specs.Parts.{boolean_rows, rows_by}
-use Rattle.arrow_flat_growable.specs.FlatLaws.{is_counted, null_of_counted}
-use Rattle.arrow_flat_growable.proofs.FitsLemmas.{fits_only_counted, is_only_counted}
-use Rattle.arrow_choice.specs.Choice.{chosen_by}
+use Rattle.arrow_choice.proofs.Common.{◌≡◌, ◌∙◌, ap, arith, length, map, rules, subst, sym, Fits, length-chosen, boolean_rows, rows_by, is_counted, null_of_counted, fits_only_counted, is_only_counted, chosen_by}
 use Rattle.arrow_choice.proofs.ChosenLemmas.{chooses, rows_chosen, values_fit}
 use Rattle.arrow_choice.proofs.if_then_else.primitive.chosen_numbers.Goals as goal
 

@@ -1,7 +1,4 @@
-use Rattle.std.proofs.Common.{Some, ◌∙◌, ap, not, sym}
-use Rattle.std.specs.Prelude.{◌==◌}
-use Rattle.std.specs.Int.{bit_at}
-use Rattle.arrow_choice.specs.Runs.{is_truth}
+use Rattle.arrow_choice.proofs.Common.{Some, ◌∙◌, ap, not, sym, ◌==◌, bit_at, is_truth}
 use Rattle.arrow_choice.proofs.SideLemmas.{others_false, others_true}
 use Rattle.arrow_choice.proofs.if_then_else.runs.others.Goals as goal
 

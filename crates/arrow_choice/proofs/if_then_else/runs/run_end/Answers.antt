@@ -1,8 +1,4 @@
-use Rattle.std.proofs.Common.{◌≡◌, ◌+◌, ◌%◌, ◌≤◌, arith, get_or, length, refl, subst}
-use Rattle.arrow_types.specs.Slot.{Null}
-use Rattle.arrow_flat.specs.Parts.{boolean_rows}
-use Rattle.arrow_choice.specs.Choice.{truth_slot}
-use Rattle.arrow_choice.specs.Sides.{side_of}
+use Rattle.arrow_choice.proofs.Common.{◌≡◌, ◌+◌, ◌%◌, ◌≤◌, arith, get_or, length, refl, subst, Null, boolean_rows, truth_slot, side_of}
 use Rattle.arrow_choice.proofs.SideLemmas.{run_to, truths_end, truths_more}
 use Rattle.arrow_choice.proofs.if_then_else.runs.run_end.Goals as goal
 

@@ -1,6 +1,4 @@
-use Rattle.std.proofs.Common.{◌-◌, ◌/◌, ◌<◌, ◌≤◌}
-use Rattle.arrow_flat.specs.Parts.{boolean_rows}
-use Rattle.arrow_choice.specs.Runs.{AreRowsOf}
+use Rattle.arrow_choice.proofs.Common.{◌-◌, ◌/◌, ◌<◌, ◌≤◌, boolean_rows, AreRowsOf}
 use Rattle.arrow_choice.proofs.SideLemmas.{AreTruths}
 use Rattle.arrow_choice.proofs.if_then_else.runs.run_end.Given as goal
 

@@ -1,10 +1,4 @@
-use Rattle.std.proofs.Common.{◌≡◌, ℕ, ◌+◌, ◌*◌, ◌<◌, get_or, length, subst, false}
-use Rattle.std.specs.Prelude.{◌==◌, IfSome}
-use Rattle.std.specs.Int.{bit_at}
-use Rattle.std.proofs.lemmas.List.{length-map}
-use Rattle.arrow_types.specs.Rows.{valid_at}
-use Rattle.arrow_types.specs.Slot.{Boolean}
-use Rattle.arrow_flat.specs.Parts.{FitsRows}
+use Rattle.arrow_choice.proofs.Common.{◌≡◌, ℕ, ◌+◌, ◌*◌, ◌<◌, get_or, length, subst, false, ◌==◌, IfSome, bit_at, length-map, valid_at, Boolean, FitsRows}
 use Rattle.arrow_choice.proofs.SideLemmas.{rows_of_words}
 use Rattle.arrow_choice.proofs.if_then_else.runs.word_at.Goals as goal
 

@@ -1,6 +1,4 @@
-use Rattle.std.proofs.Common.{◌++◌, ◌∙◌, ap, length, refl, sym}
-use Rattle.arrow_memory.specs.Words.{low_bits}
-use Rattle.arrow_choice.specs.Choice.{chosen_by}
+use Rattle.arrow_choice.proofs.Common.{◌++◌, ◌∙◌, ap, length, refl, sym, low_bits, chosen_by}
 use Rattle.arrow_choice.proofs.ChosenLemmas.{all_low_bits, all_of_left, all_of_right, no_low_bit}
 use Rattle.arrow_choice.proofs.if_then_else.words.append_word.Goals as goal
 

@@ -1,4 +1,4 @@
-use Rattle.std.proofs.Common.{rules, sym}
+use Rattle.arrow_choice.proofs.Common.{rules, sym}
 use Rattle.arrow_choice.proofs.ChosenLemmas.{bits_chosen}
 use Rattle.arrow_choice.proofs.if_then_else.words.chosen_bits.Goals as goal
 

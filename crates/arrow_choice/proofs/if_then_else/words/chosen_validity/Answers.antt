@@ -1,5 +1,4 @@
-use Rattle.std.proofs.Common.{◌∙◌, ap, length, rules}
-use Rattle.std.specs.Prelude.{option_copied}
+use Rattle.arrow_choice.proofs.Common.{◌∙◌, ap, length, rules, option_copied}
 use Rattle.arrow_choice.proofs.ChosenLemmas.{validity_chosen}
 use Rattle.arrow_choice.proofs.if_then_else.words.chosen_validity.Goals as goal
 

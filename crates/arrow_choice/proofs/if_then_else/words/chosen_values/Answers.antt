@@ -1,7 +1,5 @@
-use Rattle.std.proofs.Common.{◌≡◌, ◌+◌, ◌-◌, ◌*◌, ◌++◌, ◌∙◌, arith, ap, append_assoc, drop, sym}
-use Rattle.std.proofs.lemmas.List.{length-drop, length-take}
-use Rattle.arrow_memory.specs.Sliced.{sliced}
-use Rattle.arrow_choice.specs.Choice.{chosen_by}
+use Rattle.arrow_choice.proofs.Common.{◌≡◌, ◌+◌, ◌-◌, ◌*◌, ◌++◌, ◌∙◌, arith, ap, append_assoc, drop, sym, length-take, sliced, chosen_by}
+use Rattle.std.proofs.lemmas.List.{length-drop}
 use Rattle.arrow_choice.proofs.ChosenLemmas.{chosen_by-from, part_chosen}
 use Rattle.arrow_choice.proofs.if_then_else.words.chosen_values.Goals as goal
 

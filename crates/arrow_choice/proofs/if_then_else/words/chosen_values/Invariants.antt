@@ -1,6 +1,4 @@
-use Rattle.std.proofs.Common.{◌≡◌, ◌+◌, ◌*◌, ◌≤◌, ◌++◌, drop, length}
-use Rattle.std.specs.Vec.{vec_len, vec_capacity}
-use Rattle.arrow_choice.specs.Choice.{chosen_by}
+use Rattle.arrow_choice.proofs.Common.{◌≡◌, ◌+◌, ◌*◌, ◌≤◌, ◌++◌, drop, length, vec_len, vec_capacity, chosen_by}
 use Rattle.arrow_choice.proofs.if_then_else.words.chosen_values.Given as goal
 
 -- there is room for the values of the bits that are left, and those so far, with these, are all

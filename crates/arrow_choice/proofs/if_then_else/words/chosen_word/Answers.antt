@@ -1,4 +1,4 @@
-use Rattle.std.proofs.Common.{◌∙◌, if◌then◌else◌}
+use Rattle.arrow_choice.proofs.Common.{◌∙◌, if◌then◌else◌}
 use Rattle.arrow_choice.proofs.if_then_else.words.chosen_word.Goals as goal
 
 pub returns : goal.returns

@@ -1,12 +1,4 @@
-use Rattle.std.proofs.Common.{◌≡◌, ◌++◌, ◌<◌, ◌∙◌, Some, arith, ap, if◌then◌else◌, length, nat_eq, refl, sym}
-use Rattle.std.specs.Prelude.{◌==◌, slice_get}
-use Rattle.std.specs.Int.{bit_at}
-use Rattle.std.proofs.lemmas.List.{take_all}
-use Rattle.std.proofs.lemmas.Nat.Bits.{shr_and_one}
-use Rattle.std.proofs.lemmas.Option.{slice_get_read}
-use Rattle.arrow_memory.specs.Words.{low_bits}
-use Rattle.arrow_memory.proofs.WordLemmas.{length-low_bits}
-use Rattle.arrow_choice.specs.Choice.{chosen_by}
+use Rattle.arrow_choice.proofs.Common.{◌≡◌, ◌++◌, ◌<◌, ◌∙◌, Some, arith, ap, if◌then◌else◌, length, nat_eq, refl, sym, ◌==◌, slice_get, bit_at, take_all, shr_and_one, slice_get_read, low_bits, length-low_bits, chosen_by}
 use Rattle.arrow_choice.proofs.ChosenLemmas.{begins_more, length-chosen_by, low_bit, slice_get-chosen_by}
 use Rattle.arrow_choice.proofs.if_then_else.words.push_chosen.Goals as goal
 

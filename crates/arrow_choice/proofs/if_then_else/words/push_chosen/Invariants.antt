@@ -1,7 +1,4 @@
-use Rattle.std.proofs.Common.{◌≡◌, ◌+◌, ◌++◌, length, take}
-use Rattle.std.specs.Vec.{vec_len, vec_capacity}
-use Rattle.arrow_memory.specs.Words.{low_bits}
-use Rattle.arrow_choice.specs.Choice.{chosen_by}
+use Rattle.arrow_choice.proofs.Common.{◌≡◌, ◌+◌, ◌++◌, length, take, vec_len, vec_capacity, low_bits, chosen_by}
 use Rattle.arrow_choice.proofs.if_then_else.words.push_chosen.Given as goal
 
 -- the values of the bits so far

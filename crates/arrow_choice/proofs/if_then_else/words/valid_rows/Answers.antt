@@ -1,11 +1,4 @@
-use Rattle.std.proofs.Common.{◌≡◌, ◌+◌, ◌*◌, ◌<◌, ◌∙◌, ap, false, get_or, if◌then◌else◌, length, subst}
-use Rattle.std.specs.Prelude.{◌==◌, ◌&&◌, IfSome, option_copied}
-use Rattle.std.specs.Int.{bit_at}
-use Rattle.std.proofs.lemmas.List.{length-map}
-use Rattle.arrow_types.specs.Rows.{valid_at}
-use Rattle.arrow_types.specs.Slot.{Boolean}
-use Rattle.arrow_memory.proofs.LogicLemmas.{and_each}
-use Rattle.arrow_flat.specs.Parts.{FitsRows}
+use Rattle.arrow_choice.proofs.Common.{◌≡◌, ◌+◌, ◌*◌, ◌<◌, ◌∙◌, ap, false, get_or, if◌then◌else◌, length, subst, ◌==◌, ◌&&◌, IfSome, option_copied, bit_at, length-map, valid_at, Boolean, and_each, FitsRows}
 use Rattle.arrow_choice.proofs.SideLemmas.{valid_within}
 use Rattle.arrow_choice.proofs.if_then_else.words.valid_rows.Goals as goal
 

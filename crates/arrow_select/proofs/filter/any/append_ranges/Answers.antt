@@ -1,8 +1,4 @@
-use Rattle.std.proofs.Common.{arith, [], ◌∷◌, sym}
-use Rattle.arrow_types.specs.declared.error.Error.TheVariants.{Overflow}
-use Rattle.arrow_arrays.specs.Any.{layout_of}
-use Rattle.arrow_growable.specs.AnyGrowable.{grown_of}
-use Rattle.arrow_select.specs.Extended.{RefusesRange}
+use Rattle.arrow_select.proofs.Common.{arith, [], ◌∷◌, sym, Overflow, layout_of, grown_of, RefusesRange}
 use Rattle.arrow_select.proofs.GrownRanges.{grows_alone, holds_kept, refused_by, refuses_kept}
 use Rattle.arrow_select.proofs.filter.any.append_ranges.Goals as goal
 

@@ -1,13 +1,5 @@
-use Rattle.std.proofs.Common.{arith, ◌≡◌, ◌+◌, length, subst, [], ◌∷◌, ◌++◌, Err, ap, sym, ◌∙◌}
-use Rattle.std.proofs.lemmas.List.{take_all}
-use Rattle.arrow_memory.specs.Sliced.{sliced}
-use Rattle.arrow_types.specs.Rows.{select}
-use Rattle.arrow_arrays.specs.Any.{any_array_rows, layout_of}
-use Rattle.arrow_flat_growable.proofs.ResultLemmas.{passed_on}
-use Rattle.arrow_flat_growable.proofs.ValidRowLemmas.{run_long}
-use Rattle.arrow_growable.specs.AnyGrowable.{grown_of}
-use Rattle.arrow_growable.specs.Growing.{HasAppended}
-use Rattle.arrow_growable.proofs.GrowLemmas.{holds_none, holds_more, refuses_whole, too_many_first, named}
+use Rattle.arrow_select.proofs.Common.{arith, ◌≡◌, ◌+◌, length, subst, [], ◌∷◌, ◌++◌, Err, ap, sym, ◌∙◌, take_all, sliced, select, any_array_rows, layout_of, passed_on, run_long, grown_of, HasAppended, holds_none, holds_more, refuses_whole, too_many_first}
+use Rattle.arrow_growable.proofs.GrowLemmas.{named}
 use Rattle.arrow_select.proofs.FilterLemmas.{keeps_all, keeps_run}
 use Rattle.arrow_select.proofs.filter.any.append_selected.Goals as goal
 

@@ -1,8 +1,4 @@
-use Rattle.std.proofs.Common.{◌≡◌, ◌+◌, ◌-◌, List, [], ◌∷◌, length}
-use Rattle.arrow_types.specs.Slot.{Slot}
-use Rattle.arrow_arrays.specs.Any.{any_array_rows, layout_of}
-use Rattle.arrow_growable.specs.AnyGrowable.{grown_of}
-use Rattle.arrow_growable.specs.Growing.{HasAppended}
+use Rattle.arrow_select.proofs.Common.{◌≡◌, ◌+◌, ◌-◌, List, [], ◌∷◌, length, Slot, any_array_rows, layout_of, grown_of, HasAppended}
 use Rattle.arrow_select.proofs.FilterLemmas.{KeepsUpTo}
 use Rattle.arrow_select.proofs.filter.any.append_selected.Given as goal
 

@@ -1,5 +1,4 @@
-use Rattle.std.proofs.Common.{arith}
-use Rattle.arrow_memory.proofs.BitmapLemmas.{count_by-not}
+use Rattle.arrow_select.proofs.Common.{arith, count_by-not}
 use Rattle.arrow_select.proofs.filter.any.count_set.Goals as goal
 
 pub returns : goal.returns

@@ -1,10 +1,4 @@
-use Rattle.std.proofs.Common.{arith, Err, ap, ◌∙◌}
-use Rattle.std.proofs.lemmas.List.{take_all}
-use Rattle.arrow_types.specs.declared.error.Error.TheVariants.{Failed}
-use Rattle.arrow_arrays.proofs.FaultLemmas.{failed}
-use Rattle.arrow_growable.specs.AnyGrowable.{grown_of}
-use Rattle.arrow_select.specs.Extended.{RefusesRange, with_ranges}
-use Rattle.arrow_select.specs.Ranges.{IsRangesOf}
+use Rattle.arrow_select.proofs.Common.{arith, Err, ap, ◌∙◌, take_all, Failed, failed, grown_of, RefusesRange, with_ranges, IsRangesOf}
 use Rattle.arrow_select.proofs.ExtendLemmas.{extended_all, refuses_range, same_error}
 use Rattle.arrow_select.proofs.filter.any.extend_ranges.Goals as goal
 

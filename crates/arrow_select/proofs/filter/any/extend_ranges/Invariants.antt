@@ -1,7 +1,4 @@
-use Rattle.std.proofs.Common.{◌≡◌, take}
-use Rattle.arrow_flat_growable.specs.Grown.{FitsItself}
-use Rattle.arrow_growable.specs.AnyGrowable.{grown_of}
-use Rattle.arrow_select.specs.Extended.{with_ranges}
+use Rattle.arrow_select.proofs.Common.{◌≡◌, take, FitsItself, grown_of, with_ranges}
 use Rattle.arrow_select.proofs.filter.any.extend_ranges.Given as goal
 
 -- the rows of the ranges so far are behind those from before

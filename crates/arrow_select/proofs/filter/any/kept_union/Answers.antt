@@ -1,11 +1,5 @@
-use Rattle.std.proofs.Common.{◌∙◌, ap, sym}
-use Rattle.std.specs.Prelude.{option_copied}
+use Rattle.arrow_select.proofs.Common.{◌∙◌, ap, sym, option_copied, physical_type_of, IsCarriedAs, mode_by, type_of_unions, no_rows}
 use Rattle.arrow_types.specs.declared.datatypes.physical_type.PhysicalType.TheVariants as physical
-use Rattle.arrow_types.specs.Physical.{physical_type_of}
-use Rattle.arrow_flat.specs.Faults.{IsCarriedAs}
-use Rattle.arrow_arrays.specs.UnionParts.{mode_by}
-use Rattle.arrow_growable.proofs.UnionMakeLemmas.{type_of_unions}
-use Rattle.arrow_take.proofs.TakenVariants.{no_rows}
 use Rattle.arrow_select.proofs.filter.any.kept_union.Goals as goal
 
 pub filter_sparse-requires : goal.filter_sparse-requires

@@ -1,6 +1,4 @@
-use Rattle.std.proofs.Common.{sym, ◌∙◌, ap}
-use Rattle.std.specs.Prelude.{option_copied}
-use Rattle.arrow_memory.specs.Bits.{both_bits}
+use Rattle.arrow_select.proofs.Common.{sym, ◌∙◌, ap, option_copied, both_bits}
 use Rattle.arrow_select.proofs.FilterLemmas.{mask_under, mask_without}
 use Rattle.arrow_select.proofs.filter.any.mask_of_predicate.Goals as goal
 use Rattle.arrow_select.proofs.filter.any.mask_of_predicate.Goals.{in-None+in_ok-mask-in-None, in-Some+in_ok-mask-in-Some}

@@ -1,8 +1,4 @@
-use Rattle.std.proofs.Common.{arith, ◌++◌, ap, ◌∙◌}
-use Rattle.arrow_memory.specs.Offsets.{last_of}
-use Rattle.arrow_arrays.proofs.ColumnLemmas.{only_memory}
-use Rattle.arrow_flat_growable.proofs.ResultLemmas.{on_ok}
-use Rattle.arrow_flat_growable.proofs.EndLemmas.{counted_ends}
+use Rattle.arrow_select.proofs.Common.{arith, ◌++◌, ap, ◌∙◌, last_of, only_memory, on_ok, counted_ends}
 use Rattle.arrow_select.proofs.filter.bytes.append_ends.Goals as goal
 
 pub returns-clause-ok : goal.returns-clause-ok

@@ -1,17 +1,7 @@
-use Rattle.std.proofs.Common.{◌≡◌, ◌-◌, ◌∙◌, arith, ap, length, rules, subst, sym, refl}
-use Rattle.std.specs.Prelude.{option_map}
+use Rattle.arrow_select.proofs.Common.{◌≡◌, ◌-◌, ◌∙◌, arith, ap, length, rules, subst, sym, refl, option_map, Fits, IsOffsets, byte_slots, row_bytes, rows_by, pieces, length-byte_slots, at_set, mask_in, rows_fit}
 use Rattle.std.specs.List.{All}
-use Rattle.arrow_types.specs.Fits.{Fits}
-use Rattle.arrow_memory.specs.Offsets.{IsOffsets}
-use Rattle.arrow_flat.specs.ByteRows.{byte_slots, row_bytes}
-use Rattle.arrow_flat.specs.Parts.{rows_by}
-use Rattle.arrow_flat.specs.Pieces.{pieces}
-use Rattle.arrow_flat.proofs.PieceLemmas.{length-byte_slots}
-use Rattle.arrow_select.specs.Selected.{at_set}
-use Rattle.arrow_select.specs.Selection.{mask_in}
 use Rattle.arrow_select.proofs.FilterLemmas.{select_all, set_rows}
 use Rattle.arrow_select.proofs.SetBytes.{all_set, kept_bits, kept_fit, last_below}
-use Rattle.arrow_take.proofs.TakenBytes.{rows_fit}
 use Rattle.arrow_select.proofs.filter.bytes.filter_bytes.Goals as goal
 
 pub kept_parts-requires : goal.kept_parts-requires

@@ -1,14 +1,6 @@
-use Rattle.std.proofs.Common.{◌≤◌, ◌∷◌, arith, ap, length, map, subst, sym, ◌∙◌}
+use Rattle.arrow_select.proofs.Common.{◌≤◌, ◌∷◌, arith, ap, length, map, subst, sym, ◌∙◌, IsOffsets, last_of, valid_values, places_from, mask_in, IsSpanWithin, spanned, ends_from, row_length, spans_fit}
 use Rattle.std.specs.List.{All}
-use Rattle.arrow_memory.specs.Offsets.{IsOffsets, last_of}
-use Rattle.arrow_flat_growable.specs.GrownRows.{valid_values}
-use Rattle.arrow_select.specs.Laws.{places_from}
-use Rattle.arrow_select.specs.Selection.{mask_in}
-use Rattle.arrow_take.specs.Spans.{IsSpanWithin, spanned}
-use Rattle.arrow_memory.specs.Ends.{ends_from}
-use Rattle.arrow_flat_growable.specs.Ends.{row_length}
 use Rattle.arrow_select.proofs.SetBytes.{kept_end, kept_pieces}
-use Rattle.arrow_take.proofs.SpanLemmas.{spans_fit}
 use Rattle.arrow_select.proofs.filter.bytes.kept_parts.Goals as goal
 
 pub copy_spans-requires : goal.copy_spans-requires

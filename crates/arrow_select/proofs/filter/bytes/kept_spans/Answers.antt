@@ -1,16 +1,6 @@
-use Rattle.std.proofs.Common.{arith, ◌≡◌, [], ◌∷◌, ◌+◌, ◌-◌, ◌++◌, ap, length, slice_index, subst, sym, ◌∙◌}
-use Rattle.std.specs.List.{All, range_with_len}
-use Rattle.std.proofs.lemmas.List.{length-append}
-use Rattle.std.proofs.lemmas.List.Elements.{All-append, All-cons, All-nil}
-use Rattle.arrow_memory.specs.Offsets.{last_of}
-use Rattle.arrow_memory.specs.Sliced.{sliced}
-use Rattle.arrow_flat_growable.specs.GrownRows.{valid_values}
-use Rattle.arrow_flat_growable.proofs.ValidRowLemmas.{run_copied, run_long}
-use Rattle.arrow_select.specs.Laws.{places_from}
-use Rattle.arrow_take.specs.Spans.{IsSpanWithin, spanned}
-use Rattle.arrow_flat_growable.proofs.EndLemmas.{counted_sum}
+use Rattle.arrow_select.proofs.Common.{arith, ◌≡◌, [], ◌∷◌, ◌+◌, ◌-◌, ◌++◌, ap, length, slice_index, subst, sym, ◌∙◌, range_with_len, length-append, All-append, All-cons, All-nil, last_of, sliced, valid_values, run_copied, run_long, places_from, IsSpanWithin, spanned, counted_sum, spanned_more}
+use Rattle.std.specs.List.{All}
 use Rattle.arrow_select.proofs.SetBytes.{ends_below, ends_more, run_first, set_sum}
-use Rattle.arrow_take.proofs.SpanLemmas.{spanned_more}
 use Rattle.arrow_select.proofs.filter.bytes.kept_spans.Goals as goal
 
 pub append_ends-requires-clause-fits : goal.append_ends-requires-clause-fits

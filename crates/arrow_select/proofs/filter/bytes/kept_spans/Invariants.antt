@@ -1,9 +1,5 @@
-use Rattle.std.proofs.Common.{◌≡◌, ◌+◌, ◌-◌, ◌<◌, ◌≤◌, ◌++◌, ℕ, List, length}
+use Rattle.arrow_select.proofs.Common.{◌≡◌, ◌+◌, ◌-◌, ◌<◌, ◌≤◌, ◌++◌, ℕ, List, length, last_of, valid_values, places_from, IsSpanWithin, spanned}
 use Rattle.std.specs.List.{All}
-use Rattle.arrow_memory.specs.Offsets.{last_of}
-use Rattle.arrow_flat_growable.specs.GrownRows.{valid_values}
-use Rattle.arrow_select.specs.Laws.{places_from}
-use Rattle.arrow_take.specs.Spans.{IsSpanWithin, spanned}
 use Rattle.arrow_select.proofs.SetBytes.{EndsUpTo}
 use Rattle.arrow_select.proofs.filter.bytes.kept_spans.Given as goal
 

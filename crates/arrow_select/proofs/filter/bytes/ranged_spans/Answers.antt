@@ -1,14 +1,6 @@
-use Rattle.std.proofs.Common.{arith, [], ◌∷◌, ◌+◌, ap, drop, get_or, length, map, slice_index, subst, sym, ◌∙◌}
-use Rattle.std.specs.List.{All, concat, range_with_len}
-use Rattle.std.proofs.lemmas.List.{length-append, take_all}
-use Rattle.std.proofs.lemmas.List.Elements.{All-append, All-cons, All-nil}
-use Rattle.arrow_types.specs.Ranges.{named}
-use Rattle.arrow_memory.specs.Offsets.{last_of}
-use Rattle.arrow_select.specs.Laws.{places_from}
-use Rattle.arrow_take.specs.Spans.{IsSpanWithin, spanned}
+use Rattle.arrow_select.proofs.Common.{arith, [], ◌∷◌, ◌+◌, ap, drop, get_or, length, map, slice_index, subst, sym, ◌∙◌, concat, range_with_len, length-append, take_all, All-append, All-cons, All-nil, named, last_of, places_from, IsSpanWithin, spanned, row_in, counted_sum}
+use Rattle.std.specs.List.{All}
 use Rattle.arrow_select.proofs.RangedLemmas.{bytes_of_ranges, ends_first, range_first, ranged_bytes}
-use Rattle.arrow_flat_growable.specs.Ends.{row_in}
-use Rattle.arrow_flat_growable.proofs.EndLemmas.{counted_sum}
 use Rattle.arrow_select.proofs.SetBytes.{ends_below, ends_more, set_sum}
 use Rattle.arrow_select.proofs.filter.bytes.ranged_spans.Goals as goal
 

@@ -1,11 +1,6 @@
-use Rattle.std.proofs.Common.{◌≡◌, ◌<◌, ◌≤◌, ℕ, List, drop, length, map, take}
-use Rattle.std.specs.List.{All, concat}
-use Rattle.arrow_types.specs.Ranges.{named}
-use Rattle.arrow_memory.specs.Offsets.{last_of}
-use Rattle.arrow_select.specs.Laws.{places_from}
-use Rattle.arrow_take.specs.Spans.{IsSpanWithin, spanned}
+use Rattle.arrow_select.proofs.Common.{◌≡◌, ◌<◌, ◌≤◌, ℕ, List, drop, length, map, take, concat, named, last_of, places_from, IsSpanWithin, spanned, row_in}
+use Rattle.std.specs.List.{All}
 use Rattle.arrow_select.proofs.SetBytes.{EndsUpTo}
-use Rattle.arrow_flat_growable.specs.Ends.{row_in}
 use Rattle.arrow_select.proofs.filter.bytes.ranged_spans.Given as goal
 
 -- the spans so far have the bytes of the rows of the ranges so far, and the ends so far, with those of the ranges that are left, are all

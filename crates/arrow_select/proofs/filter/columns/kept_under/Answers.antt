@@ -1,4 +1,4 @@
-use Rattle.arrow_flat.specs.AnyPrimitive.{any_type}
+use Rattle.arrow_select.proofs.Common.{any_type}
 use Rattle.arrow_select.proofs.KeptFields.{no_union}
 use Rattle.arrow_select.proofs.filter.columns.kept_under.Goals as goal
 

@@ -1,15 +1,4 @@
-use Rattle.std.proofs.Common.{◌≡◌, ◌∙◌, arith, ap, length, map, rules, subst, sym}
-use Rattle.arrow_types.specs.Fits.{Fits}
-use Rattle.arrow_types.specs.Physical.{physical_type_of}
-use Rattle.arrow_types.specs.Rows.{select}
-use Rattle.arrow_types.proofs.SelectLemmas.{length-select}
-use Rattle.arrow_arrays.specs.Any.{layout_of}
-use Rattle.arrow_arrays.specs.AnyKeys.{key_rows}
-use Rattle.arrow_arrays.specs.KeyedParts.{AreKeys, keyed_rows, keys_in}
-use Rattle.arrow_arrays.specs.Layout.{keyed_item, rows}
-use Rattle.arrow_growable.proofs.DictionaryLemmas.{counted_fit}
-use Rattle.arrow_growable.proofs.KindLemmas.{shape_of_dictionaries}
-use Rattle.arrow_select.specs.Selection.{mask_in}
+use Rattle.arrow_select.proofs.Common.{◌≡◌, ◌∙◌, arith, ap, length, map, rules, subst, sym, Fits, physical_type_of, select, length-select, layout_of, key_rows, AreKeys, keyed_rows, keys_in, keyed_item, rows, counted_fit, shape_of_dictionaries, mask_in}
 use Rattle.arrow_select.proofs.KeptLemmas.{keyed_kept, keys_kept}
 use Rattle.arrow_select.proofs.filter.dict.filter_dictionary.Goals as goal
 

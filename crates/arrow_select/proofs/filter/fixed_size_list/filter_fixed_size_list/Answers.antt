@@ -1,21 +1,5 @@
-use Rattle.std.proofs.Common.{◌≡◌, ◌*◌, ◌/◌, ◌<◌, ◌^◌, ◌∙◌, arith, ap, length, replicate, rules, subst, sym}
-use Rattle.std.specs.Prelude.{IfSome, option_copied, option_map}
+use Rattle.arrow_select.proofs.Common.{◌≡◌, ◌*◌, ◌/◌, ◌<◌, ◌^◌, ◌∙◌, arith, ap, length, replicate, rules, subst, sym, IfSome, option_copied, option_map, mul-div_cancel, Fits, physical_type_of, masked, select, Null, null_slot, type_of, length-select, FitsRows, any_array_rows, FitsItems, fixed_list_rows, fixed_items, rows, type_of_layout, list_size, type_of_fixed_size_lists, KeptUnder, at_set, kept_rows_under, mask_in}
 use Rattle.std.specs.List.{flat_map}
-use Rattle.std.proofs.Math.Nat.{mul-div_cancel}
-use Rattle.arrow_types.specs.Fits.{Fits}
-use Rattle.arrow_types.specs.Physical.{physical_type_of}
-use Rattle.arrow_types.specs.Rows.{masked, select}
-use Rattle.arrow_types.specs.Slot.{Null, null_slot}
-use Rattle.arrow_types.specs.TypeOf.{type_of}
-use Rattle.arrow_types.proofs.SelectLemmas.{length-select}
-use Rattle.arrow_flat.specs.Parts.{FitsRows}
-use Rattle.arrow_arrays.specs.Any.{any_array_rows}
-use Rattle.arrow_arrays.specs.FixedListParts.{FitsItems, fixed_list_rows}
-use Rattle.arrow_arrays.specs.Layout.{fixed_items, rows, type_of_layout}
-use Rattle.arrow_arrays.specs.TypeParts.{list_size}
-use Rattle.arrow_growable.proofs.KindLemmas.{type_of_fixed_size_lists}
-use Rattle.arrow_select.specs.Selected.{KeptUnder, at_set, kept_rows_under}
-use Rattle.arrow_select.specs.Selection.{mask_in}
 use Rattle.arrow_select.proofs.FixedItemLemmas.{each_fits, each_long, fixed_few, fixed_fit, fixed_holds, fixed_kept}
 use Rattle.arrow_select.proofs.filter.fixed_size_list.filter_fixed_size_list.Goals as goal
 

@@ -1,12 +1,4 @@
-use Rattle.std.proofs.Common.{arith, ◌≡◌, [], ◌+◌, ◌-◌, ◌++◌, false, true, ap, append_assoc, length, replicate, slice_index, sym, ◌∙◌}
-use Rattle.std.specs.List.{range_with_len}
-use Rattle.std.proofs.lemmas.List.{append-nil, length-append, length-replicate}
-use Rattle.arrow_memory.specs.Offsets.{last_of}
-use Rattle.arrow_flat_growable.proofs.EndLemmas.{counted_sum}
-use Rattle.arrow_flat_growable.proofs.ValidRowLemmas.{run_long}
-use Rattle.arrow_take.proofs.IndexLemmas.{nil_of}
-use Rattle.arrow_select.specs.Laws.{places_from}
-use Rattle.arrow_select.specs.Selected.{item_bits}
+use Rattle.arrow_select.proofs.Common.{arith, ◌≡◌, [], ◌+◌, ◌-◌, ◌++◌, false, true, ap, append_assoc, length, replicate, slice_index, sym, ◌∙◌, range_with_len, append-nil, length-append, length-replicate, last_of, counted_sum, run_long, nil_of, places_from, item_bits}
 use Rattle.arrow_select.proofs.ItemLemmas.{items_more}
 use Rattle.arrow_select.proofs.SetBytes.{ends_below, ends_more, run_first, set_sum}
 use Rattle.arrow_select.proofs.filter.list.kept_items.Goals as goal

@@ -1,6 +1,4 @@
-use Rattle.std.proofs.Common.{◌≡◌, ◌+◌, ◌-◌, ◌<◌, ◌++◌, false, length, replicate, slice_index}
-use Rattle.arrow_select.specs.Laws.{places_from}
-use Rattle.arrow_select.specs.Selected.{item_bits}
+use Rattle.arrow_select.proofs.Common.{◌≡◌, ◌+◌, ◌-◌, ◌<◌, ◌++◌, false, length, replicate, slice_index, places_from, item_bits}
 use Rattle.arrow_select.proofs.SetBytes.{EndsUpTo}
 use Rattle.arrow_select.proofs.filter.list.kept_items.Given as goal
 

@@ -1,17 +1,4 @@
-use Rattle.std.proofs.Common.{◌≡◌, ◌<◌, ◌≤◌, ◌^◌, ◌∙◌, None, arith, ap, length, rules, subst, sym}
-use Rattle.std.specs.Prelude.{IfSome, option_map}
-use Rattle.arrow_types.specs.Fits.{Fits}
-use Rattle.arrow_types.specs.Rows.{masked, select}
-use Rattle.arrow_types.specs.TypeOf.{type_of}
-use Rattle.arrow_types.proofs.SelectLemmas.{length-select}
-use Rattle.arrow_memory.specs.Offsets.{last_of}
-use Rattle.arrow_arrays.specs.Any.{any_array_rows}
-use Rattle.arrow_arrays.specs.AnyOffsetsBuffer.{offsets_of}
-use Rattle.arrow_arrays.specs.Layout.{list_items, rows, type_of_layout}
-use Rattle.arrow_arrays.specs.ListParts.{list_rows}
-use Rattle.arrow_growable.specs.Lists.{IsListType, greatest_in}
-use Rattle.arrow_choice.proofs.ChosenLists.{lists_are}
-use Rattle.arrow_select.specs.Selected.{KeptUnder, at_set}
+use Rattle.arrow_select.proofs.Common.{◌≡◌, ◌<◌, ◌≤◌, ◌^◌, ◌∙◌, None, arith, ap, length, rules, subst, sym, IfSome, option_map, Fits, masked, select, type_of, length-select, last_of, any_array_rows, offsets_of, list_items, rows, type_of_layout, list_rows, IsListType, greatest_in, lists_are, KeptUnder, at_set}
 use Rattle.arrow_select.proofs.ItemLemmas.{ends_long, items_end, lists_kept, lists_kept_fit, mask_long}
 use Rattle.arrow_select.proofs.filter.list.list_of.Goals as goal
 

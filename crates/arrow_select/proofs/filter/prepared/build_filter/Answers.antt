@@ -1,4 +1,4 @@
-use Rattle.std.proofs.Common.{◌∙◌}
+use Rattle.arrow_select.proofs.Common.{◌∙◌}
 use Rattle.arrow_select.proofs.PlanLemmas.{plan_mask, plan_of}
 use Rattle.arrow_select.proofs.filter.prepared.build_filter.Goals as goal
 

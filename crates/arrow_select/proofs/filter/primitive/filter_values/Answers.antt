@@ -1,12 +1,4 @@
-use Rattle.std.proofs.Common.{◌≡◌, ◌∙◌, arith, ap, length, map, rules, subst, sym}
-use Rattle.std.specs.Prelude.{option_map}
-use Rattle.std.proofs.lemmas.List.{length-map}
-use Rattle.arrow_types.specs.Fits.{Fits}
-use Rattle.arrow_types.proofs.SelectLemmas.{length-select}
-use Rattle.arrow_flat.specs.Parts.{FitsRows, rows_by}
-use Rattle.arrow_flat_growable.proofs.FitsLemmas.{fits_only_counted, is_only_counted}
-use Rattle.arrow_select.specs.Selected.{at_set}
-use Rattle.arrow_select.specs.Selection.{mask_in}
+use Rattle.arrow_select.proofs.Common.{◌≡◌, ◌∙◌, arith, ap, length, map, rules, subst, sym, option_map, length-map, Fits, length-select, FitsRows, rows_by, fits_only_counted, is_only_counted, at_set, mask_in}
 use Rattle.arrow_select.proofs.FilterLemmas.{select_all, set_fits, set_rows}
 use Rattle.arrow_select.proofs.filter.primitive.filter_values.Goals as goal
 

@@ -1,4 +1,4 @@
-use Rattle.std.proofs.Common.{rules, arith, ◌≡◌, ◌+◌, ◌-◌, length}
+use Rattle.arrow_select.proofs.Common.{rules, arith, ◌≡◌, ◌+◌, ◌-◌, length}
 use Rattle.arrow_select.proofs.RangedLemmas.{block_cut}
 use Rattle.arrow_select.proofs.filter.ranged.append_range.Goals as goal
 

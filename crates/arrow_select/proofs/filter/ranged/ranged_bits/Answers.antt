@@ -1,5 +1,4 @@
-use Rattle.std.proofs.Common.{rules, arith, ◌≡◌, ◌+◌, ◌^◌, ◌<◌, IfOk, ap, get_or, length, subst, ◌∙◌}
-use Rattle.arrow_select.specs.Ranges.{IsRangesOf}
+use Rattle.arrow_select.proofs.Common.{rules, arith, ◌≡◌, ◌+◌, ◌^◌, ◌<◌, IfOk, ap, get_or, length, subst, ◌∙◌, IsRangesOf}
 use Rattle.arrow_select.proofs.RangedLemmas.{ranged_all, ranged_below}
 use Rattle.arrow_select.proofs.filter.ranged.ranged_bits.Goals as goal
 

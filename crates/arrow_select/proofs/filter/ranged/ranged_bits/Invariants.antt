@@ -1,6 +1,5 @@
-use Rattle.std.proofs.Common.{◌≡◌, take}
+use Rattle.arrow_select.proofs.Common.{◌≡◌, take, sliced}
 use Rattle.std.specs.Prelude.{flat_map}
-use Rattle.arrow_memory.specs.Sliced.{sliced}
 use Rattle.arrow_select.proofs.filter.ranged.ranged_bits.Given as goal
 
 -- the bits of the ranges so far

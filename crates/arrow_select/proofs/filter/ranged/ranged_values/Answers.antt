@@ -1,4 +1,4 @@
-use Rattle.std.proofs.Common.{◌∙◌}
+use Rattle.arrow_select.proofs.Common.{◌∙◌}
 use Rattle.arrow_select.proofs.RangedLemmas.{ranged_all}
 use Rattle.arrow_select.proofs.filter.ranged.ranged_values.Goals as goal
 

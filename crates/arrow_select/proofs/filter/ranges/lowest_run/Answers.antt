@@ -1,6 +1,4 @@
-use Rattle.std.proofs.Common.{◌-◌, ◌+◌, ◌%◌, ◌^◌, bit_and, bit_or, subst, sym, w64}
-use Rattle.std.specs.Int.{trailing_zeros}
-use Rattle.arrow_select.specs.Selected.{IsLowestRun}
+use Rattle.arrow_select.proofs.Common.{◌-◌, ◌+◌, ◌%◌, ◌^◌, bit_and, bit_or, subst, sym, w64, trailing_zeros, IsLowestRun}
 use Rattle.arrow_select.proofs.RunBits.{lowest_run}
 use Rattle.arrow_select.proofs.filter.ranges.lowest_run.Goals as goal
 

@@ -1,4 +1,4 @@
-use Rattle.std.proofs.Common.{arith, ◌*◌, ap, ◌∙◌}
+use Rattle.arrow_select.proofs.Common.{arith, ◌*◌, ap, ◌∙◌}
 use Rattle.arrow_select.proofs.PlanLemmas.{walk_apart, walk_on, walks_all, walks_out}
 use Rattle.arrow_select.proofs.filter.ranges.ranges_of.Goals as goal
 use Rattle.arrow_select.proofs.filter.ranges.ranges_of.Goals.{then-row-first+in_ok-end_run, else-row-first}

@@ -1,4 +1,4 @@
-use Rattle.std.proofs.Common.{◌*◌}
+use Rattle.arrow_select.proofs.Common.{◌*◌}
 use Rattle.arrow_select.proofs.PlanLemmas.{WalksUpTo, WalksWord}
 use Rattle.arrow_select.proofs.filter.ranges.ranges_of.Given as goal
 

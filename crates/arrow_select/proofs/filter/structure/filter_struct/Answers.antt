@@ -1,22 +1,5 @@
-use Rattle.std.proofs.Common.{◌≡◌, ◌<◌, ◌^◌, ◌∙◌, arith, ap, length, map, rules, subst, sym}
-use Rattle.std.specs.Prelude.{IfSome, option_copied, option_map}
-use Rattle.std.proofs.lemmas.Simd.{map-map}
-use Rattle.arrow_types.specs.declared.datatypes.physical_type.PhysicalType.{PhysicalType}
+use Rattle.arrow_select.proofs.Common.{◌≡◌, ◌<◌, ◌^◌, ◌∙◌, arith, ap, length, map, rules, subst, sym, IfSome, option_copied, option_map, map-map, PhysicalType, physical_type_of, select, type_of, length-select, null_slot-no_union, layout_of, type_of_layout, IsStruct, struct_rows, field_types, length-struct_rows, type_of_structs, KeptColumns, at_set, mask_in, column_long}
 use Rattle.arrow_types.specs.declared.datatypes.physical_type.PhysicalType.TheVariants as physical
-use Rattle.arrow_types.specs.Physical.{physical_type_of}
-use Rattle.arrow_types.specs.Rows.{select}
-use Rattle.arrow_types.specs.TypeOf.{type_of}
-use Rattle.arrow_types.proofs.SelectLemmas.{length-select}
-use Rattle.arrow_types.proofs.SlotLemmas.{null_slot-no_union}
-use Rattle.arrow_arrays.specs.Any.{layout_of}
-use Rattle.arrow_arrays.specs.Layout.{type_of_layout}
-use Rattle.arrow_arrays.specs.StructParts.{IsStruct, struct_rows}
-use Rattle.arrow_arrays.specs.TypeParts.{field_types}
-use Rattle.arrow_arrays.proofs.StructLemmas.{length-struct_rows}
-use Rattle.arrow_growable.proofs.KindLemmas.{type_of_structs}
-use Rattle.arrow_select.specs.Selected.{KeptColumns, at_set}
-use Rattle.arrow_select.specs.Selection.{mask_in}
-use Rattle.arrow_growable.proofs.FieldColumns.{column_long}
 use Rattle.arrow_select.proofs.KeptFields.{struct_kept, struct_kept_columns, struct_kept_fits}
 use Rattle.arrow_select.proofs.filter.structure.filter_struct.Goals as goal
 

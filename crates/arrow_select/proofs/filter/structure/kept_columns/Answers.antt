@@ -1,13 +1,4 @@
-use Rattle.std.proofs.Common.{◌≡◌, ◌∙◌, ap, map, subst}
-use Rattle.std.specs.Prelude.{IfSome, option_copied}
-use Rattle.std.proofs.lemmas.List.Elements.{All-more}
-use Rattle.arrow_types.specs.Fits.{Fits}
-use Rattle.arrow_types.specs.Slot.{Null, null_slot}
-use Rattle.arrow_arrays.specs.declared.array.any.AnyArray.{AnyArray}
-use Rattle.arrow_arrays.specs.Any.{any_array_rows, any_array_type}
-use Rattle.arrow_select.specs.Selected.{KeptUnder, kept_rows_under}
-use Rattle.arrow_select.specs.Selection.{mask_in}
-use Rattle.arrow_growable.proofs.FieldColumns.{makes_next}
+use Rattle.arrow_select.proofs.Common.{◌≡◌, ◌∙◌, ap, map, subst, IfSome, option_copied, All-more, Fits, Null, null_slot, AnyArray, any_array_rows, any_array_type, KeptUnder, kept_rows_under, mask_in, makes_next}
 use Rattle.arrow_select.proofs.filter.structure.kept_columns.Goals as goal
 
 pub loop-column-preserved : goal.loop-column-preserved

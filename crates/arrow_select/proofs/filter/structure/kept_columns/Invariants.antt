@@ -1,7 +1,4 @@
-use Rattle.std.proofs.Common.{take}
-use Rattle.std.specs.Prelude.{option_copied}
-use Rattle.arrow_select.specs.Selected.{KeptColumns}
-use Rattle.arrow_select.specs.Selection.{mask_in}
+use Rattle.arrow_select.proofs.Common.{take, option_copied, KeptColumns, mask_in}
 use Rattle.arrow_select.proofs.filter.structure.kept_columns.Given as goal
 
 -- the columns so far are kept

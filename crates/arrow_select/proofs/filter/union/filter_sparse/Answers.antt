@@ -1,19 +1,6 @@
-use Rattle.std.proofs.Common.{◌≡◌, ◌<◌, ◌^◌, ◌∙◌, None, arith, ap, length, map, rules, subst, sym}
-use Rattle.std.specs.Prelude.{IfSome}
-use Rattle.arrow_types.specs.Fits.{Fits}
-use Rattle.arrow_types.specs.Rows.{gather, select}
-use Rattle.arrow_types.specs.TypeOf.{type_of}
-use Rattle.arrow_types.proofs.SelectLemmas.{length-select}
-use Rattle.arrow_arrays.specs.Any.{layout_of}
-use Rattle.arrow_arrays.specs.TypeParts.{field_types}
-use Rattle.arrow_arrays.specs.UnionParts.{FitsMode, union_rows}
-use Rattle.arrow_select.specs.Laws.{true_places}
-use Rattle.arrow_select.specs.Selected.{at_set}
-use Rattle.arrow_select.specs.Selection.{mask_in}
-use Rattle.arrow_take.specs.SparseUnions.{HaveParts, taken_id}
+use Rattle.arrow_select.proofs.Common.{◌≡◌, ◌<◌, ◌^◌, ◌∙◌, None, arith, ap, length, map, rules, subst, sym, IfSome, Fits, gather, select, type_of, length-select, layout_of, field_types, FitsMode, union_rows, true_places, at_set, mask_in, HaveParts, taken_id, arrays_fit, arrays_known, arrays_long, arrays_rows, arrays_typed, as_long}
 use Rattle.arrow_select.proofs.KeptFields.{ids_kept, made_is, names_rows}
-use Rattle.arrow_take.proofs.SparseRows.{arrays_fit, arrays_known, arrays_long, arrays_rows, arrays_typed}
-use Rattle.arrow_take.proofs.TakenVariants.{all_named, as_long, long as rows_counted}
+use Rattle.arrow_take.proofs.TakenVariants.{all_named, long as rows_counted}
 use Rattle.arrow_select.proofs.filter.union.filter_sparse.Goals as goal
 
 pub new-requires : goal.new-requires

@@ -1,20 +1,5 @@
-use Rattle.std.proofs.Common.{◌≡◌, ◌<◌, ◌∙◌, Some, arith, ap, length, map, of_z, rules, subst, sym, to_z, w8}
-use Rattle.std.specs.Ordering.{int_eq}
-use Rattle.std.specs.Prelude.{IfSome}
-use Rattle.std.proofs.lemmas.Int.{ints, to_z-of_z}
-use Rattle.std.proofs.lemmas.List.{length-map}
-use Rattle.arrow_types.specs.Slot.{id_at}
-use Rattle.arrow_memory.specs.Sliced.{sliced}
-use Rattle.arrow_arrays.specs.Any.{any_array_rows, layout_of}
-use Rattle.arrow_arrays.specs.Layout.{field_ids, rows}
-use Rattle.arrow_arrays.specs.SliceOf.{slice_of}
-use Rattle.arrow_select.specs.Laws.{true_places}
-use Rattle.arrow_select.specs.Selected.{KeptUnder}
-use Rattle.arrow_select.specs.Selection.{mask_in}
-use Rattle.arrow_take.specs.SparseUnions.{HasPart}
-use Rattle.arrow_growable.specs.Variants.{have_id}
+use Rattle.arrow_select.proofs.Common.{◌≡◌, ◌<◌, ◌∙◌, Some, arith, ap, length, map, of_z, rules, subst, sym, to_z, w8, int_eq, IfSome, ints, to_z-of_z, length-map, id_at, sliced, any_array_rows, layout_of, field_ids, rows, slice_of, true_places, KeptUnder, mask_in, HasPart, have_id, part_long, q_rows, q_type, spans_rows}
 use Rattle.arrow_select.proofs.KeptFields.{field_kept, made_is, names_rows}
-use Rattle.arrow_take.proofs.TakenVariants.{part_long, q_rows, q_type, spans_rows}
 use Rattle.arrow_select.proofs.filter.union.kept_field.Goals as goal
 
 pub sliced-part-requires : goal.sliced-part-requires

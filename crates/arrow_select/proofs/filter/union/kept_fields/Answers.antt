@@ -1,11 +1,4 @@
-use Rattle.std.proofs.Common.{◌+◌, ◌∙◌, [], ◌∷◌, ap, length, subst, sym}
-use Rattle.std.specs.Prelude.{IfSome}
-use Rattle.std.proofs.lemmas.List.{length-append}
-use Rattle.arrow_types.specs.Rows.{select}
-use Rattle.arrow_arrays.specs.UnionParts.{union_rows}
-use Rattle.arrow_select.specs.Selection.{mask_in}
-use Rattle.arrow_take.specs.SparseUnions.{HasPart, HaveParts}
-use Rattle.arrow_take.proofs.SparseRows.{parts_next}
+use Rattle.arrow_select.proofs.Common.{◌+◌, ◌∙◌, [], ◌∷◌, ap, length, subst, sym, IfSome, length-append, select, union_rows, mask_in, HasPart, HaveParts, parts_next}
 use Rattle.arrow_select.proofs.filter.union.kept_fields.Goals as goal
 
 pub loop-f-preserved : goal.loop-f-preserved

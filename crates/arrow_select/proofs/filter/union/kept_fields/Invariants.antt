@@ -1,8 +1,4 @@
-use Rattle.std.proofs.Common.{◌≡◌, length}
-use Rattle.arrow_types.specs.Rows.{select}
-use Rattle.arrow_arrays.specs.UnionParts.{union_rows}
-use Rattle.arrow_select.specs.Selection.{mask_in}
-use Rattle.arrow_take.specs.SparseUnions.{HaveParts}
+use Rattle.arrow_select.proofs.Common.{◌≡◌, length, select, union_rows, mask_in, HaveParts}
 use Rattle.arrow_select.proofs.filter.union.kept_fields.Given as goal
 
 -- what the fields so far have of the rows that are kept

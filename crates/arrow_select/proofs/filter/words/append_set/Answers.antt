@@ -1,7 +1,4 @@
-use Rattle.std.proofs.Common.{arith, ◌≡◌, ◌+◌, ◌-◌, ◌*◌, ◌++◌, length, drop, ap, sym, ◌∙◌}
-use Rattle.std.proofs.lemmas.List.{append-nil, length-append}
-use Rattle.arrow_memory.specs.Sliced.{sliced}
-use Rattle.arrow_select.specs.Selected.{at_set}
+use Rattle.arrow_select.proofs.Common.{arith, ◌≡◌, ◌+◌, ◌-◌, ◌*◌, ◌++◌, length, drop, ap, sym, ◌∙◌, append-nil, length-append, sliced, at_set}
 use Rattle.arrow_select.proofs.SetLemmas.{at_set-from, none_from, none_in_word, some_more, word_of_part}
 use Rattle.arrow_select.proofs.filter.words.append_set.Goals as goal
 

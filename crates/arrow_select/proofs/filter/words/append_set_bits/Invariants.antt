@@ -1,5 +1,4 @@
-use Rattle.std.proofs.Common.{◌≡◌, ◌*◌, ◌++◌, drop}
-use Rattle.arrow_select.specs.Selected.{at_set}
+use Rattle.arrow_select.proofs.Common.{◌≡◌, ◌*◌, ◌++◌, drop, at_set}
 use Rattle.arrow_select.proofs.filter.words.append_set_bits.Given as goal
 
 -- the bits so far, with those of the words that are left, are all

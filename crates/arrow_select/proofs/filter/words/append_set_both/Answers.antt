@@ -1,8 +1,4 @@
-use Rattle.std.proofs.Common.{arith, rules, ◌≡◌, ◌+◌, ◌-◌, ◌*◌, ◌^◌, ◌<◌, [], ◌++◌, length, drop, refl, ap, sym, ◌∙◌}
-use Rattle.std.specs.Prelude.{count_ones}
-use Rattle.std.proofs.lemmas.List.{append-nil, length-append}
-use Rattle.arrow_memory.specs.Sliced.{sliced}
-use Rattle.arrow_select.specs.Selected.{at_set}
+use Rattle.arrow_select.proofs.Common.{arith, rules, ◌≡◌, ◌+◌, ◌-◌, ◌*◌, ◌^◌, ◌<◌, [], ◌++◌, length, drop, refl, ap, sym, ◌∙◌, count_ones, append-nil, length-append, sliced, at_set}
 use Rattle.arrow_select.proofs.SetLemmas.{at_set-from, gathered_bits, kept_below, none_from, none_in_word, some_more, word_of_part}
 use Rattle.arrow_select.proofs.filter.words.append_set_both.Goals as goal
 

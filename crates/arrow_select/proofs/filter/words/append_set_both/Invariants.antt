@@ -1,6 +1,4 @@
-use Rattle.std.proofs.Common.{◌≡◌, ◌+◌, ◌*◌, ◌≤◌, ◌++◌, length, drop}
-use Rattle.std.specs.Vec.{vec_len, vec_capacity}
-use Rattle.arrow_select.specs.Selected.{at_set}
+use Rattle.arrow_select.proofs.Common.{◌≡◌, ◌+◌, ◌*◌, ◌≤◌, ◌++◌, length, drop, vec_len, vec_capacity, at_set}
 use Rattle.arrow_select.proofs.filter.words.append_set_both.Given as goal
 
 -- there is room for the values of the words that are left, and those so far, with these, are all; and so are the bits

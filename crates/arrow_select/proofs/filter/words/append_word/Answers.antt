@@ -1,4 +1,4 @@
-use Rattle.std.proofs.Common.{rules, arith, length, ap, ◌∙◌, ◌++◌}
+use Rattle.arrow_select.proofs.Common.{rules, arith, length, ap, ◌∙◌, ◌++◌}
 use Rattle.arrow_select.proofs.SetLemmas.{run_within, set_in_run}
 use Rattle.arrow_select.proofs.filter.words.append_word.Goals as goal
 

@@ -1,5 +1,4 @@
-use Rattle.std.proofs.Common.{arith, ◌≡◌, ◌∙◌, ap, ◌++◌}
-use Rattle.arrow_select.specs.Selected.{at_set, set_in_word}
+use Rattle.arrow_select.proofs.Common.{arith, ◌≡◌, ◌∙◌, ap, ◌++◌, at_set, set_in_word}
 use Rattle.arrow_select.proofs.SetLemmas.{ones_in_word}
 use Rattle.arrow_select.proofs.filter.words.extend_from_word.Goals as goal
 

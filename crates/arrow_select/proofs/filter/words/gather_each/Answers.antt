@@ -1,5 +1,4 @@
-use Rattle.std.proofs.Common.{arith, ◌-◌, [], refl}
-use Rattle.std.proofs.lemmas.Nat.{and_le_r}
+use Rattle.arrow_select.proofs.Common.{arith, ◌-◌, [], refl, and_le_r}
 use Rattle.arrow_select.proofs.SetLemmas.{gathers_all, gathers_below, gathers_more, some_left}
 use Rattle.arrow_select.proofs.filter.words.gather_each.Goals as goal
 

@@ -1,5 +1,4 @@
-use Rattle.std.proofs.Common.{arith}
-use Rattle.std.proofs.lemmas.Nat.{ones_le_self}
+use Rattle.arrow_select.proofs.Common.{arith, ones_le_self}
 use Rattle.arrow_select.proofs.SetLemmas.{lowest_within, run_of_ones}
 use Rattle.arrow_select.proofs.filter.words.long_run.Goals as goal
 

@@ -1,8 +1,4 @@
-use Rattle.std.proofs.Common.{arith, ◌-◌, length, refl, w64}
-use Rattle.std.specs.Int.{trailing_zeros}
-use Rattle.std.specs.Vec.{vec_len, vec_capacity}
-use Rattle.std.proofs.lemmas.Nat.{and_le_r}
-use Rattle.std.proofs.lemmas.Option.{slice_get_read}
+use Rattle.arrow_select.proofs.Common.{arith, ◌-◌, length, refl, w64, trailing_zeros, vec_len, vec_capacity, and_le_r, slice_get_read}
 use Rattle.arrow_select.proofs.SetLemmas.{lowest_within, some_left, takes_all, takes_more, takes_room}
 use Rattle.arrow_select.proofs.filter.words.push_set.Goals as goal
 

@@ -1,4 +1,4 @@
-use Rattle.std.specs.Vec.{vec_len, vec_capacity}
+use Rattle.arrow_select.proofs.Common.{vec_len, vec_capacity}
 use Rattle.arrow_select.proofs.SetLemmas.{TakesUpTo}
 use Rattle.arrow_select.proofs.filter.words.push_set.Given as goal
 

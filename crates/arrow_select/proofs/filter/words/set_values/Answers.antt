@@ -1,5 +1,4 @@
-use Rattle.std.proofs.Common.{arith, ap, length}
-use Rattle.arrow_select.specs.Selected.{at_set}
+use Rattle.arrow_select.proofs.Common.{arith, ap, length, at_set}
 use Rattle.arrow_select.proofs.SetLemmas.{length-at_set}
 use Rattle.arrow_select.proofs.filter.words.set_values.Goals as goal
 

@@ -1,4 +1,4 @@
-use Rattle.std.proofs.Common.{arith}
+use Rattle.arrow_select.proofs.Common.{arith}
 use Rattle.arrow_select.proofs.SetLemmas.{length-at_set}
 use Rattle.arrow_select.proofs.filter.words.set_values_and_bits.Goals as goal
 

@@ -1,6 +1,4 @@
-use Rattle.arrow_types.specs.TypeOf.{type_of}
-use Rattle.arrow_select.specs.Arrays.{rows_in}
-use Rattle.arrow_select.specs.Batches.{predicates_in}
+use Rattle.arrow_select.proofs.Common.{type_of, rows_in, predicates_in}
 use Rattle.arrow_select.proofs.BatchLemmas.{chosen_joined}
 use Rattle.arrow_select.proofs.laws.batches.choice_goes_by_batches.Goals as goal
 

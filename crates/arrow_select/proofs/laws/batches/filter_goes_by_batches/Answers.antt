@@ -1,5 +1,4 @@
-use Rattle.arrow_select.specs.Arrays.{rows_in}
-use Rattle.arrow_select.specs.Batches.{predicates_in}
+use Rattle.arrow_select.proofs.Common.{rows_in, predicates_in}
 use Rattle.arrow_select.proofs.BatchLemmas.{kept_joined}
 use Rattle.arrow_select.proofs.laws.batches.filter_goes_by_batches.Goals as goal
 

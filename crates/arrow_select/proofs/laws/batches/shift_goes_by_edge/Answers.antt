@@ -1,5 +1,4 @@
-use Rattle.arrow_types.specs.TypeOf.{type_of}
-use Rattle.arrow_arrays.specs.Any.{any_array_rows}
+use Rattle.arrow_select.proofs.Common.{type_of, any_array_rows}
 use Rattle.arrow_select.proofs.BatchLemmas.{shifted_at_edge}
 use Rattle.arrow_select.proofs.laws.batches.shift_goes_by_edge.Goals as goal
 

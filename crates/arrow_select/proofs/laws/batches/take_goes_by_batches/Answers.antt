@@ -1,7 +1,4 @@
-use Rattle.std.proofs.Common.{map}
-use Rattle.arrow_types.specs.TypeOf.{type_of}
-use Rattle.arrow_flat.specs.Parts.{rows_by}
-use Rattle.arrow_arrays.specs.Any.{any_array_rows}
+use Rattle.arrow_select.proofs.Common.{map, type_of, rows_by, any_array_rows}
 use Rattle.arrow_select.proofs.BatchLemmas.{gather_joined}
 use Rattle.arrow_select.proofs.laws.batches.take_goes_by_batches.Goals as goal
 

@@ -1,7 +1,4 @@
-use Rattle.std.proofs.Common.{map}
-use Rattle.arrow_types.specs.TypeOf.{type_of}
-use Rattle.arrow_flat.specs.Parts.{rows_by}
-use Rattle.arrow_select.specs.Arrays.{rows_in}
+use Rattle.arrow_select.proofs.Common.{map, type_of, rows_by, rows_in}
 use Rattle.arrow_select.proofs.BatchLemmas.{taken_joined}
 use Rattle.arrow_select.proofs.laws.batches.take_goes_by_parts.Goals as goal
 

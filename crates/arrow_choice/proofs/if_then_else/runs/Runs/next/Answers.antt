@@ -1,6 +1,4 @@
-use Rattle.std.proofs.Common.{◌-◌, drop, subst}
-use Rattle.arrow_flat.specs.Parts.{boolean_rows}
-use Rattle.arrow_choice.specs.Runs.{TakesRun}
+use Rattle.arrow_choice.proofs.Common.{◌-◌, drop, subst, boolean_rows, TakesRun}
 use Rattle.arrow_choice.proofs.SideLemmas.{takes_run}
 use Rattle.arrow_choice.proofs.if_then_else.runs.Runs.next.Goals as goal
 

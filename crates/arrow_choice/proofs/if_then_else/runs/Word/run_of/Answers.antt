@@ -1,5 +1,4 @@
-use Rattle.std.proofs.Common.{◌-◌, ◌/◌, ◌<◌, ◌^◌, arith}
-use Rattle.arrow_memory.proofs.RunLemmas.{low_zeros}
+use Rattle.arrow_choice.proofs.Common.{◌-◌, ◌/◌, ◌<◌, ◌^◌, arith, low_zeros}
 use Rattle.arrow_choice.proofs.SideLemmas.{run_in}
 use Rattle.arrow_choice.proofs.if_then_else.runs.Word.run_of.Goals as goal
 

@@ -1,5 +1,4 @@
-use Rattle.std.proofs.Common.{ap, length, sym, ◌∙◌}
-use Rattle.arrow_types.specs.Ranges.{named}
+use Rattle.arrow_select.proofs.Common.{ap, length, sym, ◌∙◌, named}
 use Rattle.arrow_select.proofs.PlanLemmas.{length-mask_at}
 use Rattle.arrow_select.proofs.filter.prepared.Filter.mask_len.Goals as goal
 
