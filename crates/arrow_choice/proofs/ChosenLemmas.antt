@@ -166,17 +166,6 @@ validity_chosen answered p left right len bits is gives all =
       each = λ i below. get_or_default bits i true false (omega (arith, below, size, is)) ∙ answered_each answered len (valid_chosen p left right) each bits all i (omega (arith, below, is));
     }
 
-valid_anyway : (b : Bool) → true ≡ (if b then true else true)
-valid_anyway true = refl
-valid_anyway false = refl
-
--- where there is none at all, all are valid
-pub validity_none : (p : Parts (List Bool)) (left right : Option (List Bool)) → p.validity ≡ None → left ≡ None → right ≡ None → MarksChosen p left right None
-validity_none p left right none no_left no_right = record {
-  fits = tt;
-  each = λ i below. valid_anyway (get_or p.values i false) ∙ (λ t. valid_at (sym none t) i && (if get_or p.values i false then valid_at (sym no_left t) i else valid_at (sym no_right t) i));
-}
-
 -- ---- rows
 
 pub get_or-chosen : (ps ls rs : List Slot) (t : ArrowType) (i : ℕ) (d : Slot) → length ls ≡ length ps → length rs ≡ length ps → i < length ps → get_or (chosen ps ls rs t) i d ≡ choice t (get_or ps i Null) (get_or ls i Null) (get_or rs i Null)

@@ -100,10 +100,6 @@ apart s i (Some t ∷ ls) h =
     let more = cuts (Some (t, suc i)) (labelled (suc (suc i)) ls) in
     ap (λ b. if b then more else suc more) one
 
--- at first nothing is named
-pub names_none : (labels : List (Option ℕ)) → NamesUpTo [] 0 labels labels
-names_none labels = record { names = refl; count = omega arith }
-
 -- rows without a label are passed
 pub names_past : (rs : List (ℕ × ℕ × ℕ)) (row n : ℕ) (left labels : List (Option ℕ)) → NamesUpTo rs row (replicate n None ++ left) labels → NamesUpTo rs (row + n) left labels
 names_past rs row n left labels h =

@@ -9,7 +9,8 @@ pub use Rattle.std.proofs.lemmas.Int.{ints}
 pub use Rattle.std.proofs.lemmas.List.{append-nil, drop-append-le, drop-drop, drop-replicate, ext_get_or, get_or-drop, get_or-map, get_or-replicate, get_or-take, get_or_default, length-drop, length-map, length-replicate, length-set, map-append, replicate-append-replicate, take-append-le, take-replicate, take_all, take_more, take_more_set}
 pub use Rattle.std.proofs.lemmas.List.Elements.{All-append, All-cons, All-drop, All-nil, All-push, All-take}
 pub use Rattle.std.proofs.lemmas.List.FromFn.{get_or-map-range_with_len}
-pub use Rattle.std.proofs.lemmas.List.Sums.{sum_by-append, sum_by-cons}
+pub use Rattle.std.proofs.lemmas.List.Sums.{sum_by-append, sum_by-cons, sum_by-take-drop, sum_by-take-le}
+pub use Rattle.std.proofs.lemmas.List.Folds.{sum_by-replicate}
 pub use Rattle.std.proofs.lemmas.Nat.{and_le_l, shr-shr}
 pub use Rattle.std.proofs.lemmas.Nat.Bits.{bit_at-lt, bit_at-trailing_zeros, bit_at_above, bit_at_and, bit_at_cat_low, bit_at_clear_other, bit_at_clear_same, bit_at_not, bit_at_ones, bit_at_ones_above, ones_shr, shr_and_one}
 pub use Rattle.std.proofs.lemmas.Option.{get_or_from_slice_get, slice_get-get_or, slice_get_read}
@@ -72,3 +73,7 @@ pub use Rattle.arrow_types.specs.declared.datatypes.IntegerType.{IntegerType}
 pub use Rattle.arrow_types.specs.declared.datatypes.IntegerType.TheVariants.{Int16, Int32, Int64, Int8, UInt16, UInt32, UInt64, UInt8}
 pub use Rattle.arrow_types.specs.declared.datatypes.physical_type.PhysicalType.{PhysicalType}
 pub use Rattle.arrow_types.specs.declared.error.Error.{Error}
+pub use Rattle.arrow_flat.specs.ByteRows.{ByteParts}
+pub use Rattle.arrow_flat_growable.specs.GrownParts.{IsBound}
+pub use Rattle.arrow_flat_growable.specs.Waiting.{AreWaiting, BindsParts, LieThere, Waits, WaitsFor, bound_parts, part_of_bound, waiting_rows, with_waiting}
+pub use Rattle.arrow_flat_growable.specs.declared.growable.waiting.Waiting.{Waiting}

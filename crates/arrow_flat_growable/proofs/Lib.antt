@@ -17,3 +17,4 @@ pub mod StoreLemmas
 pub mod StoredKeyLemmas
 pub mod ValidRowLemmas
 pub mod ValidityLemmas
+pub mod WaitingLemmas

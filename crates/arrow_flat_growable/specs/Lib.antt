@@ -11,3 +11,4 @@ pub mod Keys
 pub mod MaskLaws
 pub mod Nulls
 pub mod Validity
+pub mod Waiting

@@ -16,12 +16,13 @@ mod parts;
 mod primitive;
 mod utf8;
 mod validity;
+mod waiting;
 
 use arrow_arrays::array::AnyArray;
 use arrow_types::error::Error;
 pub use binary::GrowableBinary;
 pub use boolean::{GrowableBits, GrowableBoolean};
-pub use byte_rows::{GrowableBytes, GrowableKind};
+pub use byte_rows::GrowableKind;
 pub use fixed_binary::{GrowableFixedRows, GrowableFixedSizeBinary};
 pub use flat::{FlatGrowable, GrowableValues};
 pub use keys::GrowableKeys;
@@ -30,6 +31,7 @@ pub use parts::GrowableParts;
 pub use primitive::GrowablePrimitive;
 pub use utf8::GrowableUtf8;
 pub use validity::GrowableValidity;
+pub use waiting::GrowableBytes;
 
 /// An array under construction, to which rows of the arrays that are bound to it are appended, and null
 /// slots. After a call that refused it has failed: [`Growable::len`] answers the rows from before that

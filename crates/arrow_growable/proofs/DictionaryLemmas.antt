@@ -56,20 +56,6 @@ item_valid count xs (fields slots) key = absurd key
 item_valid count xs (Dict slot) key = absurd key
 item_valid count xs (Variant id slot) key = absurd key
 
-pub is_key_in : (count : ℕ) (s : Slot) → IsKey count s → IsKeyIn s
-is_key_in count Null key = tt
-is_key_in count (Number (pos n)) key = tt
-is_key_in count (Number (negsuc n)) key = absurd key
-is_key_in count (Boolean b) key = absurd key
-is_key_in count (DayTime days ms) key = absurd key
-is_key_in count (MonthDayNano months days ns) key = absurd key
-is_key_in count (Bytes bytes) key = absurd key
-is_key_in count (Text bytes) key = absurd key
-is_key_in count (Items slots) key = absurd key
-is_key_in count (fields slots) key = absurd key
-is_key_in count (Dict slot) key = absurd key
-is_key_in count (Variant id slot) key = absurd key
-
 -- all keys
 
 next : (P : Slot → Type 0) (s : Slot) (ks : List Slot) → All P (s ∷ ks) → All P ks
@@ -81,9 +67,6 @@ first P s ks held = held 0 s (omega arith)
 cons : (P : Slot → Type 0) (s : Slot) (ks : List Slot) → P s → All P ks → All P (s ∷ ks)
 cons P s ks here rest zero d within = here
 cons P s ks here rest (suc k) d within = rest k d (omega (arith, within))
-
-pub are_keys_in : (count : ℕ) (ks : List Slot) → AreKeys count ks → All IsKeyIn ks
-are_keys_in count ks held = λ k d within. is_key_in count _ (held k d within)
 
 named : (values xs ks : List Slot) (by : ℕ) → ((k : ℕ) → k < length xs → get_or values (k + by) Null ≡ get_or xs k Null) → AreKeys (length xs) ks → dictionary_rows values (map is_valid ks) (map (grown_key by) ks) ≡ map (keyed_item xs) (keys_in ks)
 named values xs [] by same held = refl

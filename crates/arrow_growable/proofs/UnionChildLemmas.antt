@@ -75,10 +75,6 @@ nulls_well n gs news are fits =
     let here : get_or news k d ≡ grown_by_nulls n (get_or gs k d) = ap (λ hs. get_or hs k d) are ∙ get_or-map (grown_by_nulls n) gs k d d long in
     record { well = ap (λ g. g.failed) here; fits = fits k d within }
 
-pub nulls_run : (n : ℕ) (gs : List Grown) → 0 < length gs → map (grown_by_nulls n) gs ≡ with_run None 0 (null_rows_of (nth_grown gs 0) n) n gs
-nulls_run n [] some = absurd (omega (arith, some))
-nulls_run n (g ∷ gs) some = refl
-
 -- as many children as of the same types
 pub as_many_types : (xs ys : List AnyGrowable) (ts : List ArrowType) → map (λ g. g.arrow_type) (map grown_of xs) ≡ ts → map (λ g. g.arrow_type) (map grown_of ys) ≡ ts → length xs ≡ length ys
 as_many_types xs ys ts first second =

@@ -223,12 +223,3 @@ module _ (p : UnionParts) (sparse : IsSparse p) (start len : ℕ) (part : start 
         let both = (variant_fits p.arrow_type f (held ++ more) over.kind.1 (omega (arith, within, as_many p.arrow_type gs over.types)) fits).1 in
         let parts : field_part p.arrow_type f (held ++ more) ≡ (nth_grown gs f).rows ++ field_part p.arrow_type f more = part-append (mode_in p.arrow_type) (id_at all_ids f) u held more ∙ ap (λ xs. xs ++ field_part p.arrow_type f more) (sym (part_of_child p.arrow_type types None gs holds f within)) in
         refused.2 (subst {A = ArrowType × List Slot} (λ q. Fits q.0 q.1) (λ j. (sym (type_there p.arrow_type gs f over.types within) j, parts j)) both)
-
--- an array of sparse unions among those that are bound
-pub no_places : (child_rows : Option (List ℕ)) (mode : UnionMode) → mode ≡ mode_by child_rows → None ≡ option_map (map pos) child_rows → (child_rows ≡ None) × (mode ≡ Sparse)
-no_places None mode is none = (refl, is)
-no_places (Some ns) mode is none = cc
-
-pub no_offsets_there : (offsets : Option (List ℤ)) → mode_by (child_rows_of offsets) ≡ Sparse → offsets ≡ None
-no_offsets_there None sparse = refl
-no_offsets_there (Some os) sparse = cc

@@ -96,10 +96,6 @@ natural_behind (Some os) place n natural =
     let same : os ≡ map pos (map child_row_of os) = cc in
     ap Some ((λ j. same j ++ map pos (range_with_len place n)) ∙ (sym (map-append pos (map child_row_of os) (range_with_len place n)) ∙ ap (map pos) (sym (placed_rows os place n))))
 
-mode_behind : (offsets : Option (List ℤ)) (place n : ℕ) → mode_by (child_rows_of (placed_behind offsets place n)) ≡ mode_by (child_rows_of offsets)
-mode_behind None place n = refl
-mode_behind (Some os) place n = refl
-
 -- the places behind those of before: in a sparse union a child has as many rows as the union
 places_behind : (offsets : Option (List ℤ)) (types run : List ℤ) (place n : ℕ) → length run ≡ n → (mode_by (child_rows_of offsets) ≡ Sparse → place ≡ length types) → places_by (types ++ run) (placed_behind offsets place n) ≡ places_by types offsets ++ range_with_len place n
 places_behind None types run place n many whole =

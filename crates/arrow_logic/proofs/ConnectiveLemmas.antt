@@ -214,15 +214,6 @@ known_in_both op v w vs xs ws ys left right fits other same =
     let there = subst (λ o. FitsRows o (length (map Boolean ys))) right other ∙ length-map ys Boolean in
     ap Some (known_of_bits op vs xs ws ys here there same) ∙ (λ i. known_of op (sym left i) xs (sym right i) ys)
 
-pub known_in_left : (op : Connective) (v w : Option (List Bool)) (xs ys : List Bool) → w ≡ None → known_side v (map (decides op) (masked w (map Boolean ys))) ≡ known_of op v xs w ys
-known_in_left op None w xs ys right = λ i. known_of op None xs (sym right i) ys
-known_in_left op (Some vs) w xs ys right =
-    ap (λ o. known_side (Some vs) (map (decides op) (masked o (map Boolean ys)))) right ∙ (λ i. known_of op (Some vs) xs (sym right i) ys)
-
-pub known_in_right : (op : Connective) (v w : Option (List Bool)) (xs ys : List Bool) → v ≡ None → known_side w (map (decides op) (masked v (map Boolean xs))) ≡ known_of op v xs w ys
-known_in_right op v w xs ys left =
-    ap (λ o. known_side w (map (decides op) (masked o (map Boolean xs)))) left ∙ (λ i. known_of op (sym left i) xs w ys)
-
 -- and the words that tell it of 64 rows
 pub known_of_and : (v x w y k : ℕ) → x < 2 ^ 64 → y < 2 ^ 64 → k < 64 → (bit_at (bit_and (bit_or v (bit_and w (bit_not w64 y))) (bit_or w (bit_and v (bit_not w64 x)))) k == 1) ≡ known_bit And (bit_at v k == 1) (bit_at x k == 1) (bit_at w k == 1) (bit_at y k == 1)
 known_of_and v x w y k fits other below =

@@ -190,10 +190,6 @@ last_begin bs p place left count follows within is told one =
     let before : count_by begins bs - count ≡ count_by begins (take p bs) = omega (arith, all, first, bit) in
     sym (ap (λ k. skipped k bs) before ∙ skipped_at bs p (omega arith) is)
 
--- of what is left of a text, all or so many characters
-pub rest_all : (bs cs : List ℕ) (place : ℕ) → drop place bs ≡ encode_utf8_all cs → sliced bs place (length bs - place) ≡ encode_utf8_all cs
-rest_all bs cs place is = take_all _ (drop place bs) (omega (arith, length-drop place bs)) ∙ is
-
 pub rest_some : (bs cs : List ℕ) (place k n : ℕ) → drop place bs ≡ encode_utf8_all cs → n ≡ skipped k (drop place bs) → sliced bs place (place + n - place) ≡ encode_utf8_all (take k cs)
 rest_some bs cs place k n is counted =
     let long : place + n - place ≡ skipped k (drop place bs) = omega (arith, counted) in

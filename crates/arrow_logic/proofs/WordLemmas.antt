@@ -5,11 +5,6 @@ use Rattle.arrow_logic.proofs.MaskedLemmas.{bits_of, length-bits_of, masked-by_b
 
 -- ---- one row
 
-pub value_selects : (xs : List Bool) (i : ℕ) → get_or xs i false ≡ selects (get_or (map Boolean xs) i Null)
-value_selects [] i = refl
-value_selects (x ∷ xs) zero = refl
-value_selects (x ∷ xs) (suc i) = value_selects xs i
-
 and_false : (b : Bool) → b && false ≡ false
 and_false true = refl
 and_false false = refl

@@ -50,9 +50,6 @@ all_decide xs ys n result long other_long told =
 pub record Packs (words : List ℕ) (bits : List Bool) : Type 0 where
   pub each : (i : ℕ) → i < 64 * length words → is_set words i ≡ get_or bits i false
 
-pub Packs-none : (bits : List Bool) → Packs [] bits
-Packs-none bits = record { each = λ i h. absurd (omega (arith, h)) }
-
 -- the next 64 bits, or what is left
 chunk_is : (rest chunk next : List Bool) → rest ≡ chunk ++ next → length chunk ≡ min 64 (length rest) → chunk ≡ take 64 rest
 chunk_is rest chunk next e long =

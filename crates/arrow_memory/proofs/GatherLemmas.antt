@@ -72,9 +72,6 @@ pub record AnswersUpTo (answered : ℕ → ℕ → Type 0) (words : List ℕ) (j
   pub long : length words ≡ j
   pub each : (i : ℕ) → i < j → answered i (slice_index words i)
 
-pub answers_none : (answered : ℕ → ℕ → Type 0) → AnswersUpTo answered [] 0
-answers_none answered = record { long = refl; each = λ i below. absurd (omega (arith, below)) }
-
 pub answers_more : (answered : ℕ → ℕ → Type 0) (words : List ℕ) (j word : ℕ) → AnswersUpTo answered words j → answered j word → AnswersUpTo answered (words ++ word ∷ []) (j + 1)
 answers_more answered words j word so_far one = record {
   long = omega (arith, length_push words word, so_far.long);

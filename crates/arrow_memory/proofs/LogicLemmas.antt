@@ -35,9 +35,6 @@ pub record GivesUpTo (give : Bool → ℕ → Bool) (old new : List ℕ) (j : �
   pub given : (i : ℕ) → i < 64 * j → is_set new i ≡ give (is_set old i) i
   pub left : (i : ℕ) → 64 * j ≤ i → is_set new i ≡ is_set old i
 
-pub gives_none : (give : Bool → ℕ → Bool) (words : List ℕ) → GivesUpTo give words words 0
-gives_none give words = record { given = λ i below. absurd (omega (arith, below)); left = λ i from. refl }
-
 pub gives_more : (give : Bool → ℕ → Bool) (old words : List ℕ) (j value : ℕ) → GivesUpTo give old words j → j < length words → ((i : ℕ) → i / 64 ≡ j → (bit_at value (i % 64) == 1) ≡ give (is_set words i) i) → GivesUpTo give old (set words j value) (j + 1)
 gives_more give old words j value before within word =
     let other : (i : ℕ) → (i / 64 ≡ j → ⊥) → is_set (set words j value) i ≡ is_set words i = λ i there. ap (λ w. bit_at w (i % 64) == 1) (get_or-set_other words j (i / 64) value 0 there) in

@@ -14,11 +14,6 @@ pub word_of_mask : (bits : Option (List Bool)) (word len : ℕ) → IsMask bits 
 word_of_mask None word len few within = ap (low_bits word) (length-low_bits word len)
 word_of_mask (Some bits) word len many within = absurd (omega (arith, within, many.0, many.1))
 
--- all bits of a bitmap, read as a word
-pub first_bits_of : (bits : List Bool) (word len : ℕ) → word ≡ word_of (sliced bits 0 len) → len ≡ length bits → low_bits word len ≡ bits
-first_bits_of bits word len is long =
-    bits_of_word bits word len (is ∙ ap word_of (take_all len bits (omega (arith, long)))) (sym long)
-
 -- bits that were answered
 pub answered_word : (answered : ℕ → Bool → Type 0) (len count word : ℕ) → count ≡ len → GathersBits answered 0 count word → AnswersBits answered len (low_bits word len)
 answered_word answered len count word all gathered =

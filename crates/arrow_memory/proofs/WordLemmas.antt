@@ -236,10 +236,6 @@ word_of-low words place n h =
     let small : word_of low < 2 ^ n = rw long at (mask_l-lt low) in
     rw (both, long, add-mul-mod_self_left (word_of low) (2 ^ n) (word_of high)) (mod-eq_of_lt small)
 
--- the first of the 64 bits that are read
-pub word_of-first : (words : List ℕ) (place count word : ℕ) → count ≤ 64 → word ≡ word_of (bits_in words place 64) → word_of (low_bits word count) ≡ word_of (bits_in words place count)
-word_of-first words place count word within read = word_of-low_bits word count ∙ rw read (word_of-low words place count within)
-
 -- the bits from a place on, of the word in which they begin and that in which they end
 pub word_of-ends : (words : List ℕ) (place count high : ℕ) → slice_index words (place / 64) < 2 ^ 64 → count ≤ 64 → (64 < place % 64 + count → high ≡ slice_index words (place / 64 + 1)) → bit_or (slice_index words (place / 64) / 2 ^ (place % 64)) (high * 2 ^ (64 - place % 64) % 2 ^ 64) % 2 ^ count ≡ word_of (bits_in words place count)
 word_of-ends words place count high small in_word next =

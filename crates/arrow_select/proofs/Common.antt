@@ -41,7 +41,7 @@ pub use Rattle.arrow_arrays.specs.UnionParts.{FitsMode, UnionParts, mode_by, uni
 pub use Rattle.arrow_arrays.specs.declared.array.any.AnyArray.{AnyArray}
 pub use Rattle.arrow_choice.proofs.ChosenLists.{all_kept, lists_are, lists_fit}
 pub use Rattle.arrow_choice.proofs.KeyLemmas.{rows_alone}
-pub use Rattle.arrow_choice.proofs.RangeLemmas.{NamesUpTo, all_named, all_shortest, cuts, cuts_on, goes_on, kept_label, least, named_on_side, names_none, names_past, names_run, on_side, plain_named, plain_shortest, shortest}
+pub use Rattle.arrow_choice.proofs.RangeLemmas.{NamesUpTo, all_named, all_shortest, cuts, cuts_on, goes_on, kept_label, least, named_on_side, names_past, names_run, on_side, plain_named, plain_shortest, shortest}
 pub use Rattle.arrow_choice.specs.Keys.{HasNoDictionary}
 pub use Rattle.arrow_flat.proofs.PartsLemmas.{length-masked}
 pub use Rattle.arrow_flat.proofs.PieceLemmas.{length-byte_slots, length-pieces, piece_at}

@@ -1,5 +1,5 @@
 -- The ranges of a mask: found in a walk over its runs, and the mask that they hold.
-use Rattle.arrow_select.proofs.Common.{arith, inl, inr, ◌≡◌, ◌+◌, ◌-◌, ◌<◌, ◌≤◌, ℕ, zero, suc, Bool, true, false, Option, Some, None, List, [], ◌∷◌, ◌++◌, length, map, replicate, drop, get_or, if◌then◌else◌, refl, ap, sym, subst, ◌∙◌, append_assoc, ◌==◌, count_by, nat_eq, slice_get, bit_at, cases_lt, nat_tests, append-nil, drop-drop, drop_all, get_or_past, map-append, replicate-append-replicate, take-append-drop, All-push, sum_by-cons, bit_at-zero, named, true_rows, AreAlike, alike_are, IsPlan, IsRangesOf, ended, mask_at, IsLowestRun, NamesUpTo, all_named, all_shortest, kept_label, names_none, names_past, names_run, on_side, plain_named, plain_shortest}
+use Rattle.arrow_select.proofs.Common.{arith, inl, inr, ◌≡◌, ◌+◌, ◌-◌, ◌<◌, ◌≤◌, ℕ, zero, suc, Bool, true, false, Option, Some, None, List, [], ◌∷◌, ◌++◌, length, map, replicate, drop, get_or, if◌then◌else◌, refl, ap, sym, subst, ◌∙◌, append_assoc, ◌==◌, count_by, nat_eq, slice_get, bit_at, cases_lt, nat_tests, append-nil, drop-drop, drop_all, get_or_past, map-append, replicate-append-replicate, take-append-drop, All-push, sum_by-cons, bit_at-zero, named, true_rows, AreAlike, alike_are, IsPlan, IsRangesOf, ended, mask_at, IsLowestRun, NamesUpTo, all_named, all_shortest, kept_label, names_past, names_run, on_side, plain_named, plain_shortest}
 use Rattle.std.specs.List.{All}
 
 -- ---- the mask that ranges hold
@@ -66,13 +66,6 @@ pub record OpensUpTo (ranges : List (ℕ × ℕ)) (first count : ℕ) (mask : Li
   pub upto : NamesUpTo (map on_side ranges) first (replicate count (Some 0) ++ map kept_label (drop (first + count) mask)) (map kept_label mask)
   pub within : All (λ (r : ℕ × ℕ). r.0 + r.1 ≤ length mask) ranges
   pub inside : first + count ≤ length mask
-
-opens_none : (mask : List Bool) → OpensUpTo [] 0 0 mask
-opens_none mask = record {
-  upto = names_none (map kept_label mask);
-  within = λ k d has. absurd (omega (arith, has));
-  inside = omega arith;
-}
 
 module _ (ranges : List (ℕ × ℕ)) (first count : ℕ) (mask : List Bool) (so_far : OpensUpTo ranges first count mask) where
   -- the run goes on
@@ -171,25 +164,6 @@ pub record WalksUpTo (ranges : List (ℕ × ℕ)) (first count base : ℕ) (mask
   pub opens : OpensUpTo ranges first count mask
   pub gap : AreAlike mask (first + count) base false
   pub below : first + count ≤ base
-
-pub walks_none : (mask : List Bool) → WalksUpTo [] 0 0 0 mask
-walks_none mask = record {
-  opens = opens_none mask;
-  gap = λ i from to. absurd (omega (arith, to));
-  below = omega arith;
-}
-
--- into the next word
-pub walks_in : (ranges : List (ℕ × ℕ)) (first count base word : ℕ) (mask : List Bool) → WalksUpTo ranges first count base mask → ((k : ℕ) → k < 64 → (bit_at word k == 1) ≡ get_or mask (base + k) false) → WalksWord ranges first count word base mask
-walks_in ranges first count base word mask walk each = record {
-  opens = walk.opens;
-  gap = walk.gap;
-  below = omega (arith, walk.below);
-  left = record {
-    gone = λ k to. absurd (omega (arith, to, walk.below));
-    same = λ k within from. each k within;
-  };
-}
 
 -- and out of it, where no bit is left
 pub walks_out : (ranges : List (ℕ × ℕ)) (first count word base next : ℕ) (mask : List Bool) → word ≡ 0 → next ≡ base + 64 → WalksWord ranges first count word base mask → WalksUpTo ranges first count next mask

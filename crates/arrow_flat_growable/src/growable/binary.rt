@@ -2,7 +2,8 @@
 
 ghost use Rattle.std.specs.Prelude.{true, false, refl};
 
-use crate::growable::byte_rows::{GrowableBytes, GrowableKind};
+use crate::growable::byte_rows::GrowableKind;
+use crate::growable::waiting::GrowableBytes;
 use crate::growable::flat::FlatGrowable;
 use arrow_flat::array::Binary;
 

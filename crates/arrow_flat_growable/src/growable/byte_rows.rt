@@ -1,24 +1,25 @@
-//! What texts and bytes under construction share.
+//! Rows of bytes that grow by those of arrays, which are read and appended at once.
 
-ghost use Rattle.std.specs.Prelude.{◌≡◌, ◌+◌, ◌-◌, ◌<◌, ◌≤◌, [], ◌++◌, Bool, List, ℕ, length, map, replicate, slice_index, slice_index_or, Err, IfOk, IfErr, OnOk, OnErr, IsOkUnless, IsTrue, refl};
+ghost use Rattle.std.specs.Prelude.{◌≡◌, ◌+◌, ◌-◌, ◌<◌, ◌≤◌, [], ◌++◌, Bool, List, ℕ, length, map, replicate, slice_index, slice_index_or, Err, IfOk, IfErr, OnOk, OnErr, IsOkUnless};
 ghost use Rattle.std.specs.List.{All};
 ghost use Rattle.std.specs.Vec.{vec_len, vec_capacity};
 ghost use Rattle.arrow_types.specs.declared.error.Error.{Error};
 ghost use Rattle.arrow_types.specs.Fits.{byte_count};
-ghost use Rattle.arrow_types.specs.Physical.{physical_type_of};
+ghost use Rattle.arrow_types.specs.TypeOf.{type_of};
 ghost use Rattle.arrow_memory.specs.Grown.{IsGrowthError};
 ghost use Rattle.arrow_memory.specs.Offsets.{IsOffsets, last_of, valid_items, with_rows, with_valid_rows};
 ghost use Rattle.arrow_memory.specs.Sliced.{sliced};
-ghost use Rattle.arrow_flat.specs.ByteRows.{byte_slots, row_bytes};
+ghost use Rattle.arrow_flat.specs.ByteRows.{row_bytes};
+ghost use Rattle.arrow_flat.specs.Faults.{IsCarriedAs};
+ghost use Rattle.arrow_flat.specs.Parts.{FitsRows};
 ghost use Rattle.arrow_flat.specs.Pieces.{pieces};
-ghost use Rattle.arrow_flat_growable.specs.Bytes.{BeginsWith, IsBytesType, SparesBytes, stored_rows};
+ghost use Rattle.arrow_flat_growable.specs.Bytes.{BeginsWith, IsBytesType, stored_rows};
 ghost use Rattle.arrow_flat_growable.specs.GrownParts.{AppendsParts, IsBound};
 ghost use Rattle.arrow_flat_growable.specs.GrownRows.{filled, total, valid_values};
 
 use crate::growable::empty_nulls::are_nulls_empty;
-use crate::growable::flat::GrowableValues;
 use crate::growable::parts::{GrowableParts, Part, copy_all};
-use arrow_arrays::array::{AnyArray, AnyOffset, AnyRows};
+use arrow_arrays::array::AnyRows;
 use arrow_flat::array::{ByteKind, ByteRows, FlatArray};
 use arrow_memory::bitmap::{BitRuns, Bitmap, Mask, WORD_BITS};
 use arrow_memory::buffer::Buffer;
@@ -48,15 +49,15 @@ pub trait GrowableKind: AnyRows {
     ghost lies_as_bytes: { (is_large : Bool) → IsBytesType is_large (Self.physical_type is_large) };
 }
 
-/// Rows of bytes that lie one behind the other, and that rows are appended to. A null row has no bytes.
+/// Rows of bytes that lie one behind the other, and that rows are appended to. A null row has no bytes. Their bytes wait as parts.
 #[derive(Drop)]
-pub struct GrowableBytes<O: Offset, K: ByteKind> {
+pub(super) struct GrownBytes<O: Offset, K: ByteKind> {
     offsets: Offsets<O>,
     bytes: GrowableParts<u8>,
     kind: PhantomData<K>,
 }
 
-impl<O: Offset, K: ByteKind> Model for GrowableBytes<O, K> {
+impl<O: Offset, K: ByteKind> Model for GrownBytes<O, K> {
     ghost use Rattle.arrow_flat.specs.ByteRows.{ByteParts, byte_parts_code};
     ghost use Rattle.std.specs.Coded.{coded_list, coded×, coded_ℕ};
     ghost use Rattle.std.specs.Prelude.{ℕ, List};
@@ -72,37 +73,51 @@ impl<O: Offset, K: ByteKind> Model for GrowableBytes<O, K> {
     ghost invariant = { λ a. AreGrownBytes K.Allows (record { offsets = a.offsets; bytes = a.bytes.1 }) };
 }
 
-impl<O: Offset, K: GrowableKind> GrowableBytes<O, K> {
+impl<O: Offset, K: GrowableKind> GrownBytes<O, K> {
     /// No rows, and room for so many, but for their bytes.
-    fn empty(
+    pub(super) fn empty(
         alloc: Global,
         bytes: GrowableParts<u8>,
         capacity: usize,
-    ) -> Result<GrowableBytes<O, K>, Error>
+    ) -> Result<GrownBytes<O, K>, Error>
         requires { bytes.1 ≡ [] }
         ensures bytes { IfOk result (λ rows. rows.0 ≡ bytes.0) }
         ensures ok { IfOk result (λ rows. row_bytes rows.1 ≡ []) }
         ensures err { IsOkUnless result Error.OutOfMemory }
     {
-        Ok(GrowableBytes {
+        Ok(GrownBytes {
             offsets: Offsets::with_capacity(alloc, capacity)?,
             bytes,
             kind: PhantomData,
         })
     }
 
-    /// How many rows there are.
-    fn len(&self) -> usize
-        ensures rows { result ≡ length (row_bytes self.now.1) }
-        ensures bytes { total (row_bytes self.now.1) ≤ O.greatest }
+    /// No rows, which grow by those of the same arrays.
+    pub(super) fn fresh(&self) -> Result<GrownBytes<O, K>, Error>
+        ensures bytes { IfOk result (λ rows. rows.0 ≡ self.now.0) }
+        ensures ok { IfOk result (λ rows. row_bytes rows.1 ≡ []) }
+        ensures err { IsOkUnless result Error.OutOfMemory }
+    {
+        GrownBytes::empty(self.allocator(), self.bytes.without_values()?, 0)
+    }
+
+    /// The allocator of the rows.
+    pub(super) fn allocator(&self) -> Global {
+        self.bytes.allocator()
+    }
+
+    /// How many bytes all rows have.
+    pub(super) fn total(&self) -> usize
+        ensures bytes { result ≡ total (row_bytes self.now.1) }
+        ensures fits { result ≤ O.greatest }
     {
         // The last offset is the count of all bytes, and at most the greatest of its type.
-        let _ = self.offsets.last().to_usize();
-        self.offsets.len() - 1
+        prove!(0 < self.offsets.len());
+        self.offsets.last().to_usize()
     }
 
     /// Appends so many rows of no bytes.
-    fn append_empty(&mut self, additional: usize) -> Result<(), Error>
+    pub(super) fn append_empty(&mut self, additional: usize) -> Result<(), Error>
         ensures same { self.new.0 ≡ self.old.0 }
         ensures ok { OnOk result (row_bytes self.new.1 ≡ row_bytes self.old.1 ++ replicate additional []) }
         ensures err { IsOkUnless result Error.OutOfMemory }
@@ -112,7 +127,7 @@ impl<O: Offset, K: GrowableKind> GrowableBytes<O, K> {
     }
 
     /// Appends rows of an array, null or not, with their bytes.
-    fn append_all(
+    pub(super) fn append_all(
         &mut self,
         index: usize,
         array: &FlatArray<ByteRows<O, K>>,
@@ -177,7 +192,7 @@ impl<O: Offset, K: GrowableKind> GrowableBytes<O, K> {
     }
 
     /// Appends rows of an array from row `start` on, a row for each bit: those without bytes whose bit is not set.
-    fn append_under(
+    pub(super) fn append_under(
         &mut self,
         index: usize,
         array: &FlatArray<ByteRows<O, K>>,
@@ -207,7 +222,7 @@ impl<O: Offset, K: GrowableKind> GrowableBytes<O, K> {
     }
 
     /// Appends rows of an array, those that are null without bytes.
-    fn append(
+    pub(super) fn append(
         &mut self,
         index: usize,
         array: &FlatArray<ByteRows<O, K>>,
@@ -235,6 +250,25 @@ impl<O: Offset, K: GrowableKind> GrowableBytes<O, K> {
                 self.append_valid(index, rows, values, validity, start, len)
             }
         }
+    }
+
+    /// An array of all rows under a validity.
+    pub(super) fn into_array(
+        self,
+        data_type: DataType,
+        validity: Option<Bitmap>,
+    ) -> Result<FlatArray<ByteRows<O, K>>, Error>
+        requires kind { IsCarriedAs (K.physical_type O.IS_LARGE) (type_of data_type) }
+        requires fits { FitsRows validity (length (row_bytes self.1)) }
+        ensures ok { IfOk result (λ array. array
+            ≡ record { arrow_type = type_of data_type; values = self.1; validity = validity; }) }
+        ensures err { IsOkUnless result Error.OutOfMemory }
+    {
+        let alloc = self.allocator();
+        let GrownBytes { offsets, bytes, .. } = self;
+        let offsets = offsets.into_buffer()?;
+        let bytes = Buffer::from_vec(alloc, bytes.into_vec()?)?;
+        Ok(FlatArray::<ByteRows<O, K>>::new(data_type, offsets, bytes, validity))
     }
 }
 
@@ -615,8 +649,8 @@ fn append_bytes<O: Offset>(
     append_span(bytes, values, first, end, values.len(), BLOCK)
 }
 
-// The bytes of each array, shared.
-fn bytes_of<O: Offset, K: ByteKind>(
+/// The bytes of each array, shared.
+pub(super) fn bytes_of<O: Offset, K: ByteKind>(
     alloc: Global,
     arrays: &[&FlatArray<ByteRows<O, K>>],
 ) -> Result<Vec<Buffer<u8>>, Error>
@@ -630,133 +664,3 @@ fn bytes_of<O: Offset, K: ByteKind>(
     Ok(sources)
 }
 
-impl<O: AnyOffset, K: GrowableKind> GrowableValues for GrowableBytes<O, K> {
-    ghost use Rattle.std.proofs.lemmas.List.{length-replicate};
-    ghost use Rattle.arrow_flat_growable.specs.ByteLaws as laws;
-
-    type Array = FlatArray<ByteRows<O, K>>;
-
-    ghost type_in = { λ array. array.arrow_type };
-
-    ghost bits_in = { λ array. array.validity };
-
-    ghost stored_in = { λ array. byte_slots K.slot array.values };
-
-    ghost slots = { λ rows. byte_slots K.slot rows.1 };
-
-    ghost are_of = { λ rows t. physical_type_of t ≡ K.physical_type O.IS_LARGE };
-
-    ghost kind = { K.any_kind O.IS_LARGE };
-
-    ghost binds = { λ rows i array. IsBound rows.0 i array.values.bytes };
-
-    ghost stored_slice = { λ array bits start len. map K.slot
-        (filled bits (sliced (row_bytes array.values) start len)) };
-
-    ghost blanks = { λ rows n. replicate n (K.slot []) };
-
-    ghost spares = { SparesBytes };
-
-    fn data_type(array: &FlatArray<ByteRows<O, K>>) -> &DataType {
-        array.data_type()
-    }
-
-    fn validity(array: &FlatArray<ByteRows<O, K>>) -> Option<&Bitmap> {
-        array.validity()
-    }
-
-    fn with_capacity(
-        alloc: Global,
-        array: &FlatArray<ByteRows<O, K>>,
-        arrays: &[&FlatArray<ByteRows<O, K>>],
-        capacity: usize,
-    ) -> Result<GrowableBytes<O, K>, Error> {
-        // That rows of the type are stored so follows from the array.
-        let _ = array.data_type();
-        let sources = bytes_of(alloc, arrays)?;
-        let bytes = GrowableParts::with_capacity(alloc, sources, 0)?;
-        GrowableBytes::empty(alloc, bytes, capacity)
-    }
-
-    fn fresh(&self) -> Result<GrowableBytes<O, K>, Error> {
-        GrowableBytes::empty(self.bytes.allocator(), self.bytes.without_values()?, 0)
-    }
-
-    fn extend(
-        &mut self,
-        index: usize,
-        array: &FlatArray<ByteRows<O, K>>,
-        start: usize,
-        len: usize,
-    ) -> Result<(), Error> {
-        self.append(index, array, start, len)?;
-        // The bytes are then at most the greatest offset, so the rows fit.
-        let _ = self.len();
-        Ok(())
-    }
-
-    fn extend_under(
-        &mut self,
-        index: usize,
-        array: &FlatArray<ByteRows<O, K>>,
-        start: usize,
-        bits: &Mask,
-    ) -> Result<(), Error> {
-        self.append_under(index, array, start, bits)?;
-        // The bytes are then at most the greatest offset, so the rows fit.
-        let _ = self.len();
-        Ok(())
-    }
-
-    fn extend_nulls(&mut self, additional: usize) -> Result<(), Error> {
-        self.append_empty(additional)?;
-        // The bytes are then at most the greatest offset, so the rows fit.
-        let _ = self.len();
-        Ok(())
-    }
-
-    fn into_array(
-        self,
-        data_type: DataType,
-        validity: Option<Bitmap>,
-    ) -> Result<FlatArray<ByteRows<O, K>>, Error> {
-        let alloc = self.bytes.allocator();
-        let GrowableBytes { offsets, bytes, .. } = self;
-        let offsets = offsets.into_buffer()?;
-        let bytes = Buffer::from_vec(alloc, bytes.into_vec()?)?;
-        Ok(FlatArray::<ByteRows<O, K>>::new(data_type, offsets, bytes, validity))
-    }
-
-    fn of_any(array: &AnyArray) -> &FlatArray<ByteRows<O, K>> {
-        K::of_any(array)
-    }
-
-    fn into_any(array: FlatArray<ByteRows<O, K>>) -> Result<AnyArray, Error> {
-        K::to_any(&array)
-    }
-
-    ghost rows_of_slice = { λ a bits start len many within. laws.rows_of_slice K.slot bits a.values start
-        len many within };
-
-    ghost length_of_slice = { λ a bits start len many within. laws.length_of_slice K.slot bits a.values
-        start len many within };
-
-    ghost length_of_blanks = { λ x n. length-replicate n (K.slot []) };
-
-    ghost null_of = { λ x t kind. laws.null_of O.IS_LARGE t (K.physical_type O.IS_LARGE)
-        (K.lies_as_bytes O.IS_LARGE) kind };
-
-    ghost spares_none = { refl };
-
-    ghost spares_slice = { λ bits stored a more start len many within spares same. laws.spares_slice K.slot
-        K.counts bits stored more a.values start len many within spares same };
-
-    ghost spares_blanks = { λ bits stored x n spares same. laws.spares_blanks (K.slot []) (K.counts []) bits
-        stored n spares same };
-
-    ghost fits_stored = { λ x t bits stored kind spares same fits. laws.fits_stored O.IS_LARGE t
-        (K.physical_type O.IS_LARGE) (K.lies_as_bytes O.IS_LARGE) kind bits stored spares same fits };
-
-    ghost fits_rows = { λ x t bits stored kind same fits. laws.fits_rows O.IS_LARGE t
-        (K.physical_type O.IS_LARGE) (K.lies_as_bytes O.IS_LARGE) kind bits stored same fits };
-}

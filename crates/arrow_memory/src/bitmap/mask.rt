@@ -59,13 +59,25 @@ impl Mask {
     {
         let len = bits.len();
         if len <= WORD_BITS {
-            return Mask::from_word(bits.bits_from(0, len), len);
+            return Mask::from_part(&bits, 0, len);
         }
         Mask {
             word: 0,
             len,
             bits: Some(bits),
         }
+    }
+
+    /// The `len` bits of a bitmap from bit `start` on.
+    ///
+    /// # Requires
+    /// `len` is at most 64, and `start + len` at most the count of the bitmap's bits.
+    pub fn from_part(bits: &Bitmap, start: usize, len: usize) -> Mask
+        requires few { len ≤ 64 }
+        requires within { start + len ≤ length bits.now }
+        ensures { result ≡ sliced bits.now start len }
+    {
+        Mask::from_word(bits.bits_from(start, len), len)
     }
 
     /// The bits that `test` answers of the rows below `len`. It is called once for each, in their order.

@@ -1,0 +1,16 @@
+use Rattle.arrow_flat_growable.proofs.Common.{◌≡◌, ◌∙◌, ◌++◌, ◌<◌, ap, subst, map, row_bytes, total, stored_rows, with_waiting}
+use Rattle.arrow_flat_growable.proofs.ResultLemmas.{on_ok}
+use Rattle.arrow_flat_growable.proofs.WaitingLemmas.{appended_behind, not_waiting}
+use Rattle.arrow_flat_growable.proofs.growable.waiting.GrowableBytes.append.Goals as goal
+
+pub returns-clause-ok : goal.returns-clause-ok
+returns-clause-ok g c =
+    let kept = not_waiting c.in_ok-wait_for.field-0 c.wait_for.new.self.1 _ c.args.self.now.1 c.in_ok-wait_for.ensures.ok c.if-branch.false in
+    let done : row_bytes c.copy_waiting.new.rows.1 ≡ c.args.self.now.1 = c.in_ok-copy_waiting.ensures.ok ∙ (ap (λ xs. with_waiting (map (λ x. x.values) xs) (row_bytes c.self.inside.rows.1) c.self.inside.waiting.items) c.deref.ensures.value ∙ (ap (λ v. v.1) c.self.view_is ∙ kept)) in
+    on_ok c.append-appended.result c.append-appended.ensures.ok (λ is. appended_behind _ c.args.self.now.1 (row_bytes c.copy_waiting.new.rows.1) _ _ c.copy_waiting.new.waiting.items c.in_ok-copy_waiting.ensures.none done is)
+
+pub returns-clause-overflow : goal.returns-clause-overflow
+returns-clause-overflow g c over =
+    let kept = not_waiting c.in_ok-wait_for.field-0 c.wait_for.new.self.1 _ c.args.self.now.1 c.in_ok-wait_for.ensures.ok c.if-branch.false in
+    let done : row_bytes c.copy_waiting.new.rows.1 ≡ c.args.self.now.1 = c.in_ok-copy_waiting.ensures.ok ∙ (ap (λ xs. with_waiting (map (λ x. x.values) xs) (row_bytes c.self.inside.rows.1) c.self.inside.waiting.items) c.deref.ensures.value ∙ (ap (λ v. v.1) c.self.view_is ∙ kept)) in
+    subst (λ xs. g.O.Index.greatest < total (xs ++ stored_rows c.args.array.now.validity c.args.array.now.values c.args.start c.args.len)) done (c.append-appended.ensures.overflow over)
