@@ -41,7 +41,7 @@ pub use Rattle.arrow_flat_growable.specs.Ends.{concatenated, row_length}
 pub use Rattle.arrow_flat_growable.specs.Flat.{BindsAll, IsGrownFlat, KeepsBound, flat_layout}
 pub use Rattle.arrow_flat_growable.specs.FlatLaws.{fits_count, fits_counted, is_counted}
 pub use Rattle.arrow_flat_growable.specs.Grown.{CannotHold, FitsItself, FitsWith, Grown, NamesRows, RefusedBy, appended, first_type, named_rows, null_rows_of, rows_among, source_at}
-pub use Rattle.arrow_flat_growable.specs.GrownParts.{LiesIn, part_values, with_parts}
+pub use Rattle.arrow_flat_growable.specs.GrownParts.{AppendsParts, LiesIn, part_values, with_parts}
 pub use Rattle.arrow_flat_growable.specs.GrownRows.{AreEmptyNulls, AreGrown, filled, total, valid_values}
 pub use Rattle.arrow_flat_growable.specs.Keys.{BindsKeys, KeyFits, PassesGreatest, StoresAt, StoresKey, StoresKeys, fitting_keys, grown_key, zero_key}
 pub use Rattle.arrow_flat_growable.specs.MaskLaws.{length-bits_of_slice, mask-append, mask-part, mask-set, mask-unset}

@@ -1,6 +1,6 @@
 -- Parts of a source that wait, one for each run of rows.
-use Rattle.arrow_flat_growable.proofs.Common.{arith, ◌≡◌, ◌+◌, ◌-◌, ◌<◌, ◌≤◌, ◌∙◌, ℕ, Bool, true, false, List, [], ◌∷◌, ◌++◌, length, replicate, get_or, slice_index, ap, subst, sym, All, flat_map, flat_map-append, append-nil, All-push, IsOffsets, last_of, at_most_last, offsets_rise, Part, Of, LiesIn, part_values, valid_values}
-use Rattle.arrow_flat_growable.proofs.ValidRowLemmas.{run_copied, run_long}
+use Rattle.arrow_flat_growable.proofs.Common.{arith, ◌≡◌, ◌+◌, ◌-◌, ◌<◌, ◌≤◌, ◌∙◌, ℕ, Bool, true, false, List, [], ◌∷◌, ◌++◌, length, replicate, get_or, slice_index, ap, subst, sym, All, flat_map, flat_map-append, append-nil, All-push, IsOffsets, last_of, at_most_last, offsets_rise, Part, Of, AppendsParts, LiesIn, part_values, sliced, valid_items, valid_values}
+use Rattle.arrow_flat_growable.proofs.ValidRowLemmas.{all_valid, run_copied, run_long}
 
 -- parts so far, of which the values of some rows are still to come
 pub record PartsSoFar {A : Type 0} (sources : List (List A)) (old new : List (Part A)) (left all : List A) : Type 0 where
@@ -27,4 +27,16 @@ module _ {A : Type 0} (sources : List (List A)) (index : ℕ) (others : List ℕ
       record {
         lie = λ lie. subst (All (LiesIn sources)) (sym next) (All-push (LiesIn sources) parts p (so_far.lie lie) (there, omega (arith, rises, below, within)));
         values = run_copied others source held within nulls count bits rest i is inside _ (flat_map (part_values sources) parts) _ copied so_far.values;
+      }
+
+  -- the part of all rows, where those whose bit is not set have no values
+  pub one_part : (old new : List (Part A)) (bits : List Bool) (i first last : ℕ) → i + length bits < length others → first ≡ slice_index others i → last ≡ slice_index others (i + length bits) → last - first ≤ valid_items bits others i → new ≡ old ++ Of index first (last - first) ∷ [] → AppendsParts sources old new (valid_values bits others source i)
+  one_part old new bits i first last inside first_is last_is all grown =
+      let p : Part A = Of index first (last - first) in
+      let rises = offsets_rise others i (i + length bits) held (omega arith) inside in
+      let below = at_most_last others (i + length bits) held inside in
+      let values : sliced source first (last - first) ≡ valid_values bits others source i = (λ t. sliced source (first_is t) (last_is t - first_is t)) ∙ sym (all_valid others source held within bits i inside (omega (arith, all, first_is, last_is))) in
+      record {
+        lie = λ lie. subst (All (LiesIn sources)) (sym grown) (All-push (LiesIn sources) old p lie (there, omega (arith, rises, below, within, first_is, last_is)));
+        values = ap (flat_map (part_values sources)) grown ∙ (flat_map-append (part_values sources) old (p ∷ []) ∙ ap (λ xs. flat_map (part_values sources) old ++ xs) (append-nil (part_values sources p) ∙ values));
       }

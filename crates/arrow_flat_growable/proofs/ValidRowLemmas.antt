@@ -56,6 +56,20 @@ module _ {A : Type 0} (others : List ℕ) (values : List A) (held : IsOffsets ot
   item_long true i inside = row_long i inside
   item_long false i inside = refl
 
+  -- a row has no more values than lie there, and all of them where it has as many
+  valid_few : (b : Bool) (i : ℕ) → slice_index others i ≤ slice_index others (i + 1) → valid_length b others i ≤ slice_index others (i + 1) - slice_index others i
+  valid_few true i low = omega arith
+  valid_few false i low = omega arith
+
+  all_of : (b : Bool) (i : ℕ) → slice_index others (i + 1) - slice_index others i ≤ valid_length b others i → item b i ≡ row i
+  all_of true i all = refl
+  all_of false i all =
+      let none : slice_index others (i + 1) - slice_index others i ≡ 0 = omega (arith, all) in
+      ap (λ n. sliced values (slice_index others i) n) (sym none)
+
+  zero_behind : (i : ℕ) → i + 0 ≡ i
+  zero_behind i = omega arith
+
   pub length-valid_values : (bits : List Bool) (i : ℕ) → i + length bits < length others → length (valid_values bits others values i) ≡ valid_items bits others i
   length-valid_values [] i inside = refl
   length-valid_values (b ∷ bits) i inside =
@@ -107,6 +121,32 @@ module _ {A : Type 0} (others : List ℕ) (values : List A) (held : IsOffsets ot
       let tail : valid_values (replicate n true ++ bits) others values (i + 1) ≡ sliced values behind (end - behind) ++ rest =
       set_run n bits (i + 1) (omega (arith, inside)) ∙ (λ t. sliced values behind (slice_index others (next t) - behind) ++ valid_values bits others values (next t)) in
       ap (λ ys. row i ++ ys) tail ∙ (sym (append_assoc (row i) (sliced values behind (end - behind)) rest) ∙ ap (λ ys. ys ++ rest) (sliced-cut values here behind end low high))
+
+  -- valid rows have no more values than all
+  items_few : (bits : List Bool) (i : ℕ) → i + length bits < length others → valid_items bits others i ≤ slice_index others (i + length bits) - slice_index others i
+  items_few [] i inside = omega arith
+  items_few (b ∷ bits) i inside =
+      let next : i + 1 + length bits ≡ i + suc (length bits) = omega arith in
+      let low = offsets_rise others i (i + 1) held (omega arith) (omega (arith, inside)) in
+      let high = offsets_rise others (i + 1) (i + 1 + length bits) held (omega arith) (omega (arith, inside)) in
+      omega (arith, valid_few b i low, items_few bits (i + 1) (omega (arith, inside)), ap (slice_index others) next, low, high)
+
+  -- where they have as many, no other has any
+  pub all_valid : (bits : List Bool) (i : ℕ) → i + length bits < length others → slice_index others (i + length bits) - slice_index others i ≤ valid_items bits others i → valid_values bits others values i ≡ sliced values (slice_index others i) (slice_index others (i + length bits) - slice_index others i)
+  all_valid [] i inside all =
+      let none : slice_index others (i + 0) - slice_index others i ≡ 0 = omega (arith, ap (slice_index others) (zero_behind i)) in
+      rw none refl
+  all_valid (b ∷ bits) i inside all =
+      let next : i + 1 + length bits ≡ i + suc (length bits) = omega arith in
+      let here = slice_index others i in
+      let behind = slice_index others (i + 1) in
+      let end = slice_index others (i + suc (length bits)) in
+      let end_is = ap (slice_index others) next in
+      let low = offsets_rise others i (i + 1) held (omega arith) (omega (arith, inside)) in
+      let high = offsets_rise others (i + 1) (i + 1 + length bits) held (omega arith) (omega (arith, inside)) in
+      let few = items_few bits (i + 1) (omega (arith, inside)) in
+      let rest : valid_values bits others values (i + 1) ≡ sliced values behind (end - behind) = all_valid bits (i + 1) (omega (arith, inside)) (omega (arith, all, end_is, few, low, high, valid_few b i low)) ∙ ap (λ e. sliced values behind (e - behind)) end_is in
+      ap (λ ys. item b i ++ ys) rest ∙ (ap (λ ys. ys ++ sliced values behind (end - behind)) (all_of b i (omega (arith, all, end_is, few, low, high))) ∙ sliced-cut values here behind end low (omega (arith, high, end_is)))
 
   -- the values of a run at the head, and those of the rest
   pub run_taken : (nulls count : ℕ) (old bits : List Bool) (i : ℕ) → old ≡ replicate nulls false ++ (replicate count true ++ bits) → i + length old < length others → valid_values old others values i ≡ sliced values (slice_index others (i + nulls)) (slice_index others (i + nulls + count) - slice_index others (i + nulls)) ++ valid_values bits others values (i + (nulls + count))

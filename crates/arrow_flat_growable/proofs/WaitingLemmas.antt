@@ -1,7 +1,9 @@
 -- Rows that wait: how many bytes they have, and that they come behind those that are there.
-use Rattle.arrow_flat_growable.proofs.Common.{arith, ◌≡◌, ◌+◌, ◌<◌, ◌≤◌, ◌^◌, ◌∙◌, Bor, ℕ, Bool, true, false, List, [], ◌∷◌, ◌++◌, length, map, replicate, take, drop, slice_index_or, take_more, get_or, if◌then◌else◌, refl, ap, sym, subst, All, All-push, append_assoc, append-nil, flat_map, flat_map-append, get_or-map, length-append, length-map, length-replicate, length-sliced, length-low_bits, low_bits, sum_by-append, sum_by-cons, sum_by-replicate, sum_by-take-drop, sum_by-take-le, IsOffsets, last_of, sliced, pieces, row_bytes, filled, total, IsBound, Slot, ByteParts, Waiting, AreWaiting, BindsParts, LieThere, Waits, part_of_bound, bound_parts, waiting_rows, with_waiting}
+use Rattle.arrow_flat_growable.proofs.Common.{arith, ◌≡◌, ◌+◌, ◌<◌, ◌≤◌, ◌^◌, ◌∙◌, Bor, ℕ, zero, suc, Bool, true, false, List, [], ◌∷◌, ◌++◌, length, map, replicate, take, drop, slice_index_or, take_more, get_or, if◌then◌else◌, refl, ap, sym, subst, All, All-push, append_assoc, append-nil, flat_map, flat_map-append, get_or-map, length-append, length-map, length-replicate, length-sliced, length-low_bits, low_bits, sum_by-append, sum_by-cons, sum_by-replicate, sum_by-take-drop, sum_by-take-le, IsOffsets, last_of, sliced, pieces, row_bytes, filled, total, IsBound, Slot, ByteParts, Waiting, AreWaiting, BindsParts, LieThere, Waits, part_of_bound, bound_parts, waiting_rows, with_waiting}
 use Rattle.std.proofs.lemmas.List.{take-append-drop}
+use Rattle.std.proofs.lemmas.List.{nil_from_length}
 use Rattle.arrow_flat_growable.proofs.GrownRowLemmas.{total_pieces}
+use Rattle.arrow_flat_growable.proofs.ValidRowLemmas.{run_long}
 
 -- rows of which some have no bytes have no more
 total-filled : (bits : List Bool) (rows : List (List ℕ)) → total (filled bits rows) ≤ total rows
@@ -125,3 +127,38 @@ binds_shared values arrays own is i r below at =
     let within : i < length (map values own) = omega (arith, below, ap length is, length-map arrays (λ q. q.now), length-map own values) in
     let read : r.now ≡ slice_index_or own i r.now = sym (ap (λ xs. slice_index_or xs i r.now) is ∙ (get_or-map (λ q. q.now) arrays i r r.now below ∙ ap (λ q. q.now) (sym at))) in
     (within, bound_at values own i r.now within read)
+
+-- bits of which the first run is all, or of which none is set
+module _ (bits rest : List Bool) (nulls count len : ℕ) (are : bits ≡ replicate nulls false ++ (replicate count true ++ rest)) (long : length bits ≡ len) where
+  many : nulls + (count + length rest) ≡ len
+  many = sym (run_long nulls count bits rest are) ∙ long
+
+  no_rest : length rest ≡ 0 → rest ≡ []
+  no_rest none = nil_from_length rest none
+
+  pub all_bits_set : count ≡ len → bits ≡ replicate len true
+  all_bits_set all =
+      let none : nulls ≡ 0 = omega (arith, many, all) in
+      are ∙ ((λ t. replicate (none t) false ++ (replicate (all t) true ++ no_rest (omega (arith, many, all)) t)) ∙ append-nil (replicate len true))
+
+  pub no_bit_set : nulls ≡ len → bits ≡ replicate len false
+  no_bit_set all =
+      let none : count ≡ 0 = omega (arith, many, all) in
+      are ∙ ((λ t. replicate (all t) false ++ (replicate (none t) true ++ no_rest (omega (arith, many, all)) t)) ∙ append-nil (replicate len false))
+
+filled-unset : (n : ℕ) (rows : List (List ℕ)) → length rows ≡ n → filled (replicate n false) rows ≡ replicate n []
+filled-unset zero [] long = refl
+filled-unset zero (row ∷ rows) long = absurd (omega (arith, long))
+filled-unset (suc n) [] long = absurd (omega (arith, long))
+filled-unset (suc n) (row ∷ rows) long = ap (λ xs. [] ∷ xs) (filled-unset n rows (omega (arith, long)))
+
+pub rows_unset : (rows : List (List ℕ)) (start len : ℕ) → start + len ≤ length rows → filled (replicate len false) (sliced rows start len) ≡ replicate len []
+rows_unset rows start len within = filled-unset len (sliced rows start len) (length-sliced rows start len within)
+
+-- rows of an array, wherever it is bound
+pub lie_there : (arrays : List ByteParts) (array : ByteParts) (i start len : ℕ) → BindsParts arrays i array → 0 < len → start + len ≤ length (row_bytes array) → LieThere arrays i start len
+lie_there arrays array i start len bound some within = record {
+  some = some;
+  bound = bound.0;
+  within = subst (λ p. start + len ≤ length (row_bytes p)) (sym bound.1) within;
+}

@@ -34,9 +34,6 @@ use std::marker::{Model, PhantomData};
 /// How many bytes a run of rows is copied as where it has no more: eight moves.
 const BLOCK: usize = 128;
 
-/// The most rows whose runs wait as parts. The runs of more rows are read one behind the other, so a copy waits for few.
-const FEW: usize = 32;
-
 /// Which rows of bytes can grow.
 pub trait GrowableKind: AnyRows {
     // a row may be without bytes
@@ -104,6 +101,14 @@ impl<O: Offset, K: GrowableKind> GrownBytes<O, K> {
     /// The allocator of the rows.
     pub(super) fn allocator(&self) -> Global {
         self.bytes.allocator()
+    }
+
+    /// Makes room for so many bytes more, where memory is given.
+    pub(super) fn reserve_bytes(&mut self, additional: usize)
+        ensures { self.new ≡ self.old }
+    {
+        // It is a wish: a copy asks for what it needs.
+        let _ = self.bytes.values.reserve(additional);
     }
 
     /// How many bytes all rows have.
@@ -371,55 +376,10 @@ fn copy_valid_rows<O: Offset>(
     if are_nulls_empty(rows, validity, start, len) {
         return copy_rows(offsets, bytes, index, rows, values, start, len);
     }
-    if len <= FEW {
-        return part_set_rows(offsets, bytes, index, rows, validity, start, len);
-    }
     copy_set_rows(offsets, bytes, rows, values, validity, start, len)
 }
 
-// The same, a part for each run.
-fn part_set_rows<O: Offset>(
-    offsets: &mut Offsets<O>,
-    bytes: &mut GrowableParts<u8>,
-    index: usize,
-    rows: &OffsetsBuffer<O>,
-    validity: &Bitmap,
-    start: usize,
-    len: usize,
-) -> Result<(), Error>
-    requires part { start + len < length rows.now }
-    requires covered { start + len ≤ length validity.now }
-    requires there { index < length bytes.old.0 }
-    requires within { last_of rows.now ≤ length (slice_index_or bytes.old.0 index []) }
-    ensures sound { IsOffsets offsets.old }
-    ensures rows_sound { IsOffsets rows.now }
-    ensures same { bytes.new.0 ≡ bytes.old.0 }
-    ensures ok { OnOk result ((offsets.new
-        ≡ with_valid_rows offsets.old (sliced validity.now start len) rows.now start)
-        × (bytes.new.1 ≡ bytes.old.1 ++ valid_values (sliced validity.now start len) rows.now
-        (slice_index_or bytes.old.0 index []) start)) }
-    ensures overflow { result ≡ Err Error.Overflow
-        → O.greatest < last_of offsets.old + valid_items (sliced validity.now start len) rows.now start }
-    ensures others { IfErr result IsGrowthError }
-    ensures unchanged { OnErr result ((offsets.new ≡ offsets.old) × (bytes.new.1 ≡ bytes.old.1)) }
-{
-    prove!(0 < offsets.len());
-    prove!(start < rows.len());
-    bytes.copy_many()?;
-    bytes.parts.reserve(len)?;
-    offsets.try_extend_from_valid(rows, validity, start, len)?;
-    push_runs(
-        &mut bytes.parts,
-        index,
-        rows,
-        validity.runs(start, len),
-        start,
-        len,
-    );
-    Ok(())
-}
-
-// The same of at most 64 rows from row `start` on, a row for each bit of a mask, for whose bytes there is room.
+// The same of at most 64 rows from row `start` on, a row for each bit of a mask, for whose bytes there is room: their bytes wait.
 fn part_masked_rows<O: Offset>(
     offsets: &mut Offsets<O>,
     bytes: &mut GrowableParts<u8>,
@@ -428,6 +388,7 @@ fn part_masked_rows<O: Offset>(
     bits: &Mask,
     start: usize,
 ) -> Result<(), Error>
+    requires some { 0 < length bits.now }
     requires in_word { length bits.now ≤ 64 }
     requires part { start + length bits.now < length rows.now }
     requires there { index < length bytes.old.0 }
@@ -448,9 +409,43 @@ fn part_masked_rows<O: Offset>(
     let len = bits.len();
     bytes.copy_many()?;
     bytes.parts.reserve(len)?;
+    let before = offsets.last().to_usize();
     offsets.extend_from_word(rows, start, bits.word(), len)?;
-    push_runs(&mut bytes.parts, index, rows, bits.runs(), start, len);
+    let count = offsets.last().to_usize() - before;
+    push_valid(&mut bytes.parts, index, rows, bits.runs(), start, len, count);
     Ok(())
+}
+
+// Appends the bytes of those of `len` rows from row `start` on whose bit is set, so many: as one part where no other row has any,
+// and else as a part for each run. There is room for as many parts as there are rows.
+#[inline(always)]
+fn push_valid<O: Offset>(
+    parts: &mut Vec<Part<u8>>,
+    index: usize,
+    rows: &OffsetsBuffer<O>,
+    runs: BitRuns<'_>,
+    start: usize,
+    len: usize,
+    count: usize,
+)
+    requires some { 0 < len }
+    requires part { start + len < length rows.now }
+    requires covered { length runs ≡ len }
+    requires room { vec_len parts.old + len ≤ vec_capacity parts.old }
+    requires counted { count ≡ valid_items runs rows.now start }
+    ensures { (sources : List (List ℕ)) → index < length sources
+        → last_of rows.now ≤ length (slice_index_or sources index [])
+        → AppendsParts sources parts.old.items parts.new.items
+        (valid_values runs.entry rows.now (slice_index_or sources index []) start) }
+{
+    let (first, end) = rows.range(start, len);
+    if count < end - first {
+        push_runs(parts, index, rows, runs, start, len);
+        return;
+    }
+    let Ok(()) = parts.push(Part::Of(index, first, end - first)) else {
+        unreachable!();
+    };
 }
 
 // Appends a part of a source for each run of those of `len` rows from row `start` on whose bit is set. There is room for as many

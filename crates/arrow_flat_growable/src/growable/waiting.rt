@@ -7,10 +7,10 @@ ghost use Rattle.arrow_types.specs.Fits.{byte_count};
 ghost use Rattle.arrow_types.specs.Physical.{physical_type_of};
 ghost use Rattle.arrow_memory.specs.Grown.{IsGrowthError};
 ghost use Rattle.arrow_memory.specs.Sliced.{sliced};
-ghost use Rattle.arrow_flat.specs.ByteRows.{byte_slots, row_bytes};
+ghost use Rattle.arrow_flat.specs.ByteRows.{ByteParts, byte_slots, row_bytes};
 ghost use Rattle.arrow_flat_growable.specs.Bytes.{SparesBytes, stored_rows};
 ghost use Rattle.arrow_flat_growable.specs.GrownRows.{filled, total};
-ghost use Rattle.arrow_flat_growable.specs.Waiting.{BindsParts, Waits, WaitsFor, waiting_rows, with_waiting};
+ghost use Rattle.arrow_flat_growable.specs.Waiting.{BindsParts, LieThere, Waits, WaitsFor, waiting_rows, with_waiting};
 
 use crate::growable::byte_rows::{GrowableKind, GrownBytes, bytes_of};
 use crate::growable::flat::GrowableValues;
@@ -189,10 +189,7 @@ impl<O: Offset, K: GrowableKind> GrowableBytes<O, K> {
         if len == 0 || len > WORD_BITS {
             return Ok(false);
         }
-        self.wait(
-            Waiting::Under(index, start, len, bits.word()),
-            bytes_in(array),
-        )
+        self.wait(rows_under(index, start, bits), bytes_in(array))
     }
 
     // Lets rows wait that have at most so many bytes, where all rows then end at the greatest offset at most: whether they do.
@@ -266,10 +263,27 @@ fn few_rows<O: Offset, K: ByteKind>(
     prove!(len <= array.len());
     match array.validity() {
         None => Waiting::Of(index, start, len),
-        Some(validity) => {
-            let bits = Mask::from_part(validity, start, len);
-            Waiting::Under(index, start, len, bits.word())
-        }
+        Some(validity) => rows_under(index, start, &Mask::from_part(validity, start, len)),
+    }
+}
+
+// The same of a row for each bit: those without bytes whose bit is not set.
+#[inline(always)]
+fn rows_under(index: usize, start: usize, bits: &Mask) -> Waiting
+    requires some { 0 < length bits.now }
+    requires few { length bits.now ≤ 64 }
+    ensures { (array : ByteParts) → start + length bits.now ≤ length (row_bytes array) → WaitsFor index array
+        (filled bits.now (sliced (row_bytes array) start (length bits.now))) result }
+{
+    let len = bits.len();
+    let mut runs = bits.runs();
+    let (nulls, count) = runs.next_set();
+    if count == len {
+        Waiting::Of(index, start, len)
+    } else if nulls == len {
+        Waiting::Empty(len)
+    } else {
+        Waiting::Under(index, start, len, bits.word())
     }
 }
 
@@ -313,10 +327,55 @@ fn copy_waiting<O: Offset, K: GrowableKind>(
     ensures fits { most.new ≤ O.greatest }
     ensures err { IsOkUnless result Error.OutOfMemory }
 {
+    rows.reserve_bytes(bytes_named(arrays, waiting));
     let copied = append_waiting(rows, arrays, waiting);
     waiting.clear();
     *most = rows.total();
     copied
+}
+
+// How many bytes the arrays have where the rows of all calls lie. Their places are read here one behind the other, with nothing
+// between, so that a processor reads many of them at once; they are in a cache where the rows are appended.
+fn bytes_named<O: Offset, K: ByteKind>(
+    arrays: &[FlatArray<ByteRows<O, K>>],
+    waiting: &[Waiting],
+) -> usize
+    requires { All (Waits (map (λ x. x.values) arrays.now)) waiting.now }
+{
+    let mut bytes: usize = 0;
+    for part in waiting {
+        bytes = bytes.saturating_add(bytes_of_call(arrays, *part));
+    }
+    bytes
+}
+
+// The same of one call.
+#[inline(always)]
+fn bytes_of_call<O: Offset, K: ByteKind>(
+    arrays: &[FlatArray<ByteRows<O, K>>],
+    part: Waiting,
+) -> usize
+    requires { Waits (map (λ x. x.values) arrays.now) part }
+{
+    match part {
+        Waiting::Of(index, start, len) => bytes_between(arrays, index, start, len),
+        Waiting::Under(index, start, len, _) => bytes_between(arrays, index, start, len),
+        Waiting::Empty(_) => 0,
+    }
+}
+
+// How many bytes an array has from where the first of some rows begins to where the last of them ends.
+#[inline(always)]
+fn bytes_between<O: Offset, K: ByteKind>(
+    arrays: &[FlatArray<ByteRows<O, K>>],
+    index: usize,
+    start: usize,
+    len: usize,
+) -> usize
+    requires { LieThere (map (λ x. x.values) arrays.now) index start len }
+{
+    let (first, end) = arrays[index].offsets().range(start, len);
+    end - first
 }
 
 // Appends rows that wait, one call's behind the other's.
