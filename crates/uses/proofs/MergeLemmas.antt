@@ -46,6 +46,9 @@ pub record Merges (ls rs : List Slot) (i j : ℕ) (rows : List Slot) : Type 0 wh
   pub left : AreSorted ls → AreSorted rs → AreSorted (rows ++ drop i ls)
   pub right : AreSorted ls → AreSorted rs → AreSorted (rows ++ drop j rs)
 
+pub merges_none : (ls rs : List Slot) → Merges ls rs 0 0 []
+merges_none ls rs = record { same = IsPermutation-refl []; left = λ a b. a; right = λ a b. b }
+
 pub merges_left : (ls rs rows : List Slot) (i j : ℕ) → i < length ls → j < length rs → MayPrecede (get_or ls i Null) (get_or rs j Null) → Merges ls rs i j rows → Merges ls rs (i + 1) j (rows ++ sliced ls i 1)
 merges_left ls rs rows i j here there first so_far =
     let x = get_or ls i Null in
