@@ -1,5 +1,5 @@
 -- Rows that wait: how many bytes they have, and that they come behind those that are there.
-use Rattle.arrow_flat_growable.proofs.Common.{arith, ◌≡◌, ◌+◌, ◌<◌, ◌≤◌, ◌^◌, ◌∙◌, Bor, ℕ, zero, suc, Bool, true, false, List, [], ◌∷◌, ◌++◌, length, map, replicate, take, drop, slice_index_or, take_more, get_or, if◌then◌else◌, refl, ap, sym, subst, All, All-push, append_assoc, append-nil, flat_map, flat_map-append, get_or-map, length-append, length-map, length-replicate, length-sliced, length-low_bits, low_bits, sum_by-append, sum_by-cons, sum_by-replicate, sum_by-take-drop, sum_by-take-le, IsOffsets, last_of, sliced, pieces, row_bytes, filled, total, IsBound, Slot, ByteParts, Waiting, AreWaiting, BindsParts, LieThere, Waits, part_of_bound, bound_parts, waiting_rows, with_waiting}
+use Rattle.arrow_flat_growable.proofs.Common.{arith, ◌≡◌, ◌+◌, ◌<◌, ◌≤◌, ◌^◌, ◌∙◌, Bor, ℕ, zero, suc, Bool, true, false, List, [], ◌∷◌, ◌++◌, length, map, replicate, take, drop, slice_index_or, take_more, if◌then◌else◌, refl, ap, sym, subst, All, All-push, append_assoc, append-nil, flat_map, flat_map-append, get_or-map, length-append, length-map, length-replicate, length-sliced, length-low_bits, low_bits, sum_by-append, sum_by-cons, sum_by-take-drop, sum_by-take-le, IsOffsets, last_of, sliced, pieces, row_bytes, filled, total, Slot, ByteParts, Waiting, AreWaiting, BindsParts, LieThere, Waits, part_of_bound, bound_parts, waiting_rows, with_waiting}
 use Rattle.std.proofs.lemmas.List.{take-append-drop}
 use Rattle.std.proofs.lemmas.List.{nil_from_length}
 use Rattle.arrow_flat_growable.proofs.GrownRowLemmas.{total_pieces}
@@ -25,19 +25,6 @@ filled_few bits rows start len = omega (arith, total-filled bits (sliced rows st
 -- rows have no more bytes than they lie in
 pub rows_few : (os bytes : List ℕ) → IsOffsets os → last_of os ≤ length bytes → total (pieces os bytes) ≤ length bytes
 rows_few os bytes sound within = omega (arith, total_pieces os bytes sound within, within)
-
--- rows without bytes
-pub total-empty : (n : ℕ) → total {A = ℕ} (replicate n []) ≡ 0
-total-empty n = omega (arith, sum_by-replicate {X = List ℕ} length n [])
-
-pub empty_few : (rows : List (List ℕ)) (n : ℕ) → total (rows ++ replicate n []) ≡ total rows
-empty_few rows n = omega (arith, sum_by-append length rows (replicate n []), total-empty n)
-
--- the bytes of an array that is bound
-pub bytes_bound : (arrays : List ByteParts) (bound : List (List ℕ)) (i : ℕ) (array : ByteParts) → bound ≡ map (λ p. p.bytes) arrays → BindsParts arrays i array → IsBound bound i array.bytes
-bytes_bound arrays bound i array are binds =
-    let same : get_or bound i [] ≡ array.bytes = ap (λ xs. get_or xs i []) are ∙ (get_or-map (λ p. p.bytes) arrays i (record { offsets = []; bytes = [] }) [] binds.0 ∙ ap (λ p. p.bytes) binds.1) in
-    (omega (arith, binds.0, ap length are, length-map arrays (λ p. p.bytes)), same)
 
 -- a call's rows behind those that wait
 pub waits_behind : (arrays : List ByteParts) (rows : List (List ℕ)) (waiting new : List Waiting) (w : Waiting) → new ≡ waiting ++ w ∷ [] → with_waiting arrays rows new ≡ with_waiting arrays rows waiting ++ waiting_rows arrays w

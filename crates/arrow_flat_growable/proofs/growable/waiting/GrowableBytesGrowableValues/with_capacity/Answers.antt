@@ -1,4 +1,4 @@
-use Rattle.arrow_flat_growable.proofs.Common.{◌≡◌, ◌∙◌, arith, ap, sym, map, row_bytes, total}
+use Rattle.arrow_flat_growable.proofs.Common.{◌∙◌, arith, ap, sym, map, row_bytes, total}
 use Rattle.arrow_flat_growable.proofs.WaitingLemmas.{binds_shared, bytes_of_arrays, none_waiting}
 use Rattle.arrow_flat_growable.proofs.growable.waiting.GrowableBytesGrowableValues.with_capacity.Goals as goal
 
