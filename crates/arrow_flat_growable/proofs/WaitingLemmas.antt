@@ -30,8 +30,8 @@ rows_few os bytes sound within = omega (arith, total_pieces os bytes sound withi
 pub waits_behind : (arrays : List ByteParts) (rows : List (List ℕ)) (waiting new : List Waiting) (w : Waiting) → new ≡ waiting ++ w ∷ [] → with_waiting arrays rows new ≡ with_waiting arrays rows waiting ++ waiting_rows arrays w
 waits_behind arrays rows waiting new w is =
     ap (λ ws. rows ++ flat_map (waiting_rows arrays) ws) is
-        ∙ (ap (λ xs. rows ++ xs) (flat_map-append (waiting_rows arrays) waiting (w ∷ []) ∙ ap (λ xs. flat_map (waiting_rows arrays) waiting ++ xs) (append-nil (waiting_rows arrays w)))
-        ∙ sym (append_assoc rows (flat_map (waiting_rows arrays) waiting) (waiting_rows arrays w)))
+    ∙ (ap (λ xs. rows ++ xs) (flat_map-append (waiting_rows arrays) waiting (w ∷ []) ∙ ap (λ xs. flat_map (waiting_rows arrays) waiting ++ xs) (append-nil (waiting_rows arrays w)))
+    ∙ sym (append_assoc rows (flat_map (waiting_rows arrays) waiting) (waiting_rows arrays w)))
 
 pub still_waiting : (arrays : List ByteParts) (bound rows : List (List ℕ)) (waiting new : List Waiting) (most greatest bytes more : ℕ) (w : Waiting) → AreWaiting arrays bound rows waiting most greatest → Waits arrays w → total (waiting_rows arrays w) ≤ bytes → new ≡ waiting ++ w ∷ [] → more ≡ most + bytes → more ≤ greatest → AreWaiting arrays bound rows new more greatest
 still_waiting arrays bound rows waiting new most greatest bytes more w all waits few is sum fits =

@@ -3,8 +3,8 @@
 ghost use Rattle.std.specs.Prelude.{true, false, refl};
 
 use crate::growable::byte_rows::GrowableKind;
-use crate::growable::waiting::GrowableBytes;
 use crate::growable::flat::FlatGrowable;
+use crate::growable::waiting::GrowableBytes;
 use arrow_flat::array::Binary;
 
 /// An array of bytes under construction, under offsets of 32 or of 64 bits.

@@ -266,7 +266,7 @@ impl<O: Offset, K: GrowableKind> GrownBytes<O, K> {
         requires kind { IsCarriedAs (K.physical_type O.IS_LARGE) (type_of data_type) }
         requires fits { FitsRows validity (length (row_bytes self.1)) }
         ensures ok { IfOk result (λ array. array
-            ≡ record { arrow_type = type_of data_type; values = self.1; validity = validity; }) }
+            ≡ record { arrow_type = type_of data_type; values = self.1; validity = validity }) }
         ensures err { IsOkUnless result Error.OutOfMemory }
     {
         let alloc = self.allocator();
@@ -412,7 +412,15 @@ fn part_masked_rows<O: Offset>(
     let before = offsets.last().to_usize();
     offsets.extend_from_word(rows, start, bits.word(), len)?;
     let count = offsets.last().to_usize() - before;
-    push_valid(&mut bytes.parts, index, rows, bits.runs(), start, len, count);
+    push_valid(
+        &mut bytes.parts,
+        index,
+        rows,
+        bits.runs(),
+        start,
+        len,
+        count,
+    );
     Ok(())
 }
 
@@ -658,4 +666,3 @@ pub(super) fn bytes_of<O: Offset, K: ByteKind>(
     }
     Ok(sources)
 }
-

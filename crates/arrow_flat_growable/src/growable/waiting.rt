@@ -61,8 +61,10 @@ impl<O: Offset, K: ByteKind> Model for GrowableBytes<O, K> {
 
     ghost coded = { coded× (coded_list byte_parts_code) (coded_list (coded_list coded_ℕ)) };
 
-    ghost view = { λ a. (map (λ x. x.values) a.arrays.items,
-        with_waiting (map (λ x. x.values) a.arrays.items) (row_bytes a.rows.1) a.waiting.items) };
+    ghost view = { λ a. (
+      map (λ x. x.values) a.arrays.items,
+      with_waiting (map (λ x. x.values) a.arrays.items) (row_bytes a.rows.1) a.waiting.items,
+    ) };
 
     ghost invariant = { λ a. AreWaiting (map (λ x. x.values) a.arrays.items) a.rows.0 (row_bytes a.rows.1)
         a.waiting.items a.most O.greatest };

@@ -7,6 +7,7 @@ append_rows-requires-clause-few g c =
     few_so_far (map (λ x. x.values) c.args.arrays.now) (row_bytes c.args.rows.now.1) (row_bytes c.loop-part.rows.1) c.args.waiting.now c.loop-part.part-index _ _ c.loop-part-test.true c.loop-part.invariant.1 c.requires.few
 
 pub loop-part-preserved : goal.loop-part-preserved
-loop-part-preserved g c =
-    ( c.in_ok-append_rows.ensures.same ∙ c.loop-part.invariant.0,
-      one_call_more (map (λ x. x.values) c.args.arrays.now) (row_bytes c.args.rows.now.1) (row_bytes c.loop-part.rows.1) (row_bytes c.append_rows.new.rows.1) c.args.waiting.now c.loop-part.part-index _ c.loop-part-test.true c.loop-part.invariant.1 c.in_ok-append_rows.ensures.ok )
+loop-part-preserved g c = (
+  c.in_ok-append_rows.ensures.same ∙ c.loop-part.invariant.0,
+  one_call_more (map (λ x. x.values) c.args.arrays.now) (row_bytes c.args.rows.now.1) (row_bytes c.loop-part.rows.1) (row_bytes c.append_rows.new.rows.1) c.args.waiting.now c.loop-part.part-index _ c.loop-part-test.true c.loop-part.invariant.1 c.in_ok-append_rows.ensures.ok,
+)
