@@ -7,6 +7,8 @@ use Rattle.arrow_types.specs.Slot.{Slot, Null, Number, Variant}
 use Rattle.arrow_arrays.specs.Layout.{flat}
 use Rattle.arrow_flat_growable.specs.Grown.{Grown, appended, bound_to, empty_over, named_rows, null_rows_of}
 use Rattle.arrow_flat_growable.specs.Keys.{StoresKeys}
+use Rattle.arrow_flat_growable.specs.Waiting.{with_waiting}
+use Rattle.arrow_flat_growable.specs.declared.growable.waiting.Waiting.TheVariants.{Of, Under}
 
 abbrev int32 : ArrowType
 int32 = plain (integer Int32)
@@ -45,3 +47,7 @@ null_of_union = refl
 -- the keys null and 9 of an array that stores 7 beneath the null
 keys_stored : StoresKeys (one 7 ∷ one 9 ∷ []) (None ∷ Some 9 ∷ [])
 keys_stored = (tt, (refl, tt))
+
+-- a row x, behind which two calls wait: rows 1 and 2 of the array with the rows a, bc and an empty one, and all three of which row 1 alone has bytes
+two_calls_wait : with_waiting (record { offsets = 0 ∷ 1 ∷ 3 ∷ 3 ∷ []; bytes = 97 ∷ 98 ∷ 99 ∷ [] } ∷ []) ((120 ∷ []) ∷ []) (Of 0 1 2 ∷ Under 0 0 3 2 ∷ []) ≡ (120 ∷ []) ∷ (98 ∷ 99 ∷ []) ∷ [] ∷ [] ∷ (98 ∷ 99 ∷ []) ∷ [] ∷ []
+two_calls_wait = refl
