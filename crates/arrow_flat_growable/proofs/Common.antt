@@ -10,7 +10,6 @@ pub use Rattle.std.proofs.lemmas.List.{append-nil, drop-append-le, drop-drop, dr
 pub use Rattle.std.proofs.lemmas.List.Elements.{All-append, All-cons, All-drop, All-nil, All-push, All-take}
 pub use Rattle.std.proofs.lemmas.List.FromFn.{get_or-map-range_with_len}
 pub use Rattle.std.proofs.lemmas.List.Sums.{sum_by-append, sum_by-cons, sum_by-take-drop, sum_by-take-le}
-pub use Rattle.std.proofs.lemmas.List.Folds.{sum_by-replicate}
 pub use Rattle.std.proofs.lemmas.Nat.{and_le_l, shr-shr}
 pub use Rattle.std.proofs.lemmas.Nat.Bits.{bit_at-lt, bit_at-trailing_zeros, bit_at_above, bit_at_and, bit_at_cat_low, bit_at_clear_other, bit_at_clear_same, bit_at_not, bit_at_ones, bit_at_ones_above, ones_shr, shr_and_one}
 pub use Rattle.std.proofs.lemmas.Option.{get_or_from_slice_get, slice_get-get_or, slice_get_read}
@@ -28,8 +27,8 @@ pub use Rattle.arrow_arrays.specs.KeyedParts.{AreKeys, IsKey, KeyedParts, key_in
 pub use Rattle.arrow_arrays.specs.Layout.{Layout, rows, type_of_layout}
 pub use Rattle.arrow_flat.proofs.FixedLemmas.{count_fits, length-fixed_slots}
 pub use Rattle.arrow_flat.proofs.PartsLemmas.{length-masked, masked-sliced, nulls-sliced}
-pub use Rattle.arrow_flat.proofs.PieceLemmas.{last_of_part, length-byte_slots, length-pieces, part_of_offsets, slot_of_row}
-pub use Rattle.arrow_flat.specs.ByteRows.{byte_slots, row_bytes}
+pub use Rattle.arrow_flat.proofs.PieceLemmas.{last_of_part, length-pieces, part_of_offsets, slot_of_row}
+pub use Rattle.arrow_flat.specs.ByteRows.{ByteParts, byte_slots, row_bytes}
 pub use Rattle.arrow_flat.specs.FixedRows.{AreFixedRows, FitsBytes, FixedParts, fixed_size_in, fixed_slots}
 pub use Rattle.arrow_flat.specs.NullParts.{NullParts}
 pub use Rattle.arrow_flat.specs.Parts.{FitsRows, bits_of_slice, rows_by, with_bits}
@@ -47,8 +46,10 @@ pub use Rattle.arrow_flat_growable.specs.Keys.{BindsKeys, KeyFits, PassesGreates
 pub use Rattle.arrow_flat_growable.specs.MaskLaws.{length-bits_of_slice, mask-append, mask-part, mask-set, mask-unset}
 pub use Rattle.arrow_flat_growable.specs.Nulls.{IsGrownNull, null_layout, with_sources}
 pub use Rattle.arrow_flat_growable.specs.Validity.{AppendsValidity, bits_by, valid_in_both}
+pub use Rattle.arrow_flat_growable.specs.Waiting.{AreWaiting, BindsParts, LieThere, Waits, bound_parts, part_of_bound, waiting_rows, with_waiting}
 pub use Rattle.arrow_flat_growable.specs.declared.growable.parts.Part.{Part}
 pub use Rattle.arrow_flat_growable.specs.declared.growable.parts.Part.TheVariants.{Of}
+pub use Rattle.arrow_flat_growable.specs.declared.growable.waiting.Waiting.{Waiting}
 pub use Rattle.arrow_memory.proofs.AppendLemmas.{bit_at-shr}
 pub use Rattle.arrow_memory.proofs.OffsetLemmas.{at_most_last, left_next, map_sliced, offsets_rise, same_at}
 pub use Rattle.arrow_memory.proofs.SlicedLemmas.{length-sliced, sliced-cut, sliced-sliced}
@@ -73,7 +74,3 @@ pub use Rattle.arrow_types.specs.declared.datatypes.IntegerType.{IntegerType}
 pub use Rattle.arrow_types.specs.declared.datatypes.IntegerType.TheVariants.{Int16, Int32, Int64, Int8, UInt16, UInt32, UInt64, UInt8}
 pub use Rattle.arrow_types.specs.declared.datatypes.physical_type.PhysicalType.{PhysicalType}
 pub use Rattle.arrow_types.specs.declared.error.Error.{Error}
-pub use Rattle.arrow_flat.specs.ByteRows.{ByteParts}
-pub use Rattle.arrow_flat_growable.specs.GrownParts.{IsBound}
-pub use Rattle.arrow_flat_growable.specs.Waiting.{AreWaiting, BindsParts, LieThere, Waits, WaitsFor, bound_parts, part_of_bound, waiting_rows, with_waiting}
-pub use Rattle.arrow_flat_growable.specs.declared.growable.waiting.Waiting.{Waiting}
