@@ -1,6 +1,7 @@
 -- Bits that are appended a word at a time.
 use Rattle.arrow_memory.proofs.Common.{◌≡◌, ℕ, ◌+◌, ◌-◌, ◌*◌, ◌/◌, ◌%◌, ◌^◌, ◌<◌, ◌≤◌, Bool, true, false, ◌||◌, List, [], ◌∷◌, ◌++◌, length, get_or, take, drop, replicate, zero, suc, refl, ap, sym, ◌∙◌, subst, arith, slice_index, inl, inr, add-zero, zero-add, append_assoc, length-append, post_of, bit_or, set, bit_at, cases_lt, cases_eq, get_or-set_same, get_or-set_other, get_or_append_left, get_or-append_right, get_or_past, get_or-take, get_or-drop, length-set, length-take, length-take-le, length-drop, take_all, drop_all, take-append-drop, append-nil, length-replicate, replicate-append-replicate, shr-shr, shr_split, pow_pos, bit_at-zero, bit_at_cat_low, bit_at_cat_high, mask_l-lt, take-append-add, add-mul-div_left, div-eq_of_lt, is_set, bits_in, word_of, Reads, AppendsWord, AppendsBits}
 use Rattle.std.specs.Prelude.{◌==◌}
+use Rattle.std.proofs.lemmas.List.{nil_from_length}
 use Rattle.arrow_memory.proofs.BitmapLemmas.{bit_of-word_of}
 use Rattle.arrow_memory.proofs.LogicLemmas.{or_each}
 use Rattle.arrow_memory.proofs.WordLemmas.{length-bits_in, get_or-bits_in, word_of-append}
@@ -238,5 +239,10 @@ appends_both old mid new place next ys zs front back at = λ xs reads long.
     subst (Reads new) (append_assoc xs ys zs) (back (xs ++ ys) (front xs reads long) behind_front)
 
 -- a word of these bits
+pub appends_none : (words others : List ℕ) (place from count : ℕ) → count ≡ 0 → AppendsBits words words place (bits_in others from count)
+appends_none words others place from count none = λ xs reads long.
+    let empty : bits_in others from count ≡ [] = nil_from_length (bits_in others from count) (length-bits_in others from count ∙ none) in
+    subst (Reads words) (sym (ap (λ ys. xs ++ ys) empty ∙ append-nil xs)) reads
+
 pub word_appends : (old new : List ℕ) (place word count : ℕ) (ys : List Bool) → AppendsWord old new place word count → word ≡ word_of ys → length ys ≡ count → AppendsBits old new place ys
 word_appends old new place word count ys appends is long = λ xs reads at. appends xs ys reads at is long

@@ -1,5 +1,5 @@
 -- Masks, and the bits of a word as those of a mask.
-use Rattle.arrow_memory.proofs.Common.{◌≡◌, ℕ, ◌<◌, ◌≤◌, ◌==◌, Bool, false, Option, None, Some, List, [], ◌∷◌, length, map, get_or, refl, ap, sym, ◌∙◌, arith, subst₂, zero-add, bit_at, range_with_len, ext_get_or, take_all, get_or-map-range_with_len, length-map-range_with_len, paired, AnswersBits, GathersBits, IsMask, mask_in, sliced, bits_in, is_set, low_bits, word_of}
+use Rattle.arrow_memory.proofs.Common.{◌≡◌, ℕ, ◌<◌, ◌≤◌, ◌==◌, Bool, false, Option, None, Some, List, [], ◌∷◌, length, map, get_or, refl, ap, sym, ◌∙◌, arith, subst₂, zero-add, bit_at, range_with_len, ext_get_or, get_or-map-range_with_len, length-map-range_with_len, paired, AnswersBits, GathersBits, IsMask, mask_in, bits_in, is_set, low_bits}
 use Rattle.arrow_memory.proofs.BitLemmas.{bits_of_word}
 use Rattle.arrow_memory.proofs.LengthLemmas.{bit_of}
 use Rattle.arrow_memory.proofs.WordLemmas.{length-low_bits}

@@ -172,6 +172,7 @@ pub(crate) fn fill_last(words: &mut Vec<u64>, place: usize, word: u64, count: us
     requires some { 0 < count }
     requires room { count ≤ (64 - place % 64) % 64 }
     ensures full { length words.new.items ≡ div_ceil (place + count) 64 }
+    ensures room { vec_capacity words.new ≡ vec_capacity words.old }
     ensures appended { AppendsWord words.old.items words.new.items place word count }
 {
     words[place / WORD_BITS] |= word << (place % WORD_BITS);
@@ -236,17 +237,43 @@ fn append_more(words: &mut Vec<u64>, place: usize, others: &[u64], from: usize, 
     ensures full { length words.new.items ≡ div_ceil (place + len) 64 }
     ensures appended { AppendsBits words.old.items words.new.items place (bits_in others.now from len) }
 {
-    let head = WORD_BITS - place % WORD_BITS;
-    append_word(words, place, bits_from(others, from, head), head);
+    let head = (WORD_BITS - place % WORD_BITS) % WORD_BITS;
+    fill_from(words, place, others, from, head);
     let (whole, tail) = ((len - head) / WORD_BITS, (len - head) % WORD_BITS);
     append_words(words, others, from + head, whole);
-    let done = len - tail;
-    append_word(
-        words,
-        place + done,
-        bits_from(others, from + done, tail),
-        tail,
-    );
+    push_from(words, others, from + (len - tail), tail);
+}
+
+// Puts so many bits from place `from` of others into the last word, which has room for them, behind the first `place` ones.
+#[inline(always)]
+fn fill_from(words: &mut Vec<u64>, place: usize, others: &[u64], from: usize, count: usize)
+    requires full { length words.old.items ≡ div_ceil place 64 }
+    requires room { count ≤ (64 - place % 64) % 64 }
+    requires part { from + count ≤ 64 * length others.now }
+    requires ends { from + count < 2 ^ 64 }
+    ensures full { length words.new.items ≡ div_ceil (place + count) 64 }
+    ensures room { vec_capacity words.old ≤ vec_capacity words.new }
+    ensures appended { AppendsBits words.old.items words.new.items place (bits_in others.now from count) }
+{
+    if count > 0 {
+        fill_last(words, place, bits_from(others, from, count), count);
+    }
+}
+
+// Puts a word of so many bits from place `from` of others behind whole words, if they are any.
+#[inline(always)]
+fn push_from(words: &mut Vec<u64>, others: &[u64], from: usize, count: usize)
+    requires in_word { count < 64 }
+    requires room { div_ceil (64 * length words.old.items + count) 64 ≤ vec_capacity words.old }
+    requires part { from + count ≤ 64 * length others.now }
+    requires ends { from + count < 2 ^ 64 }
+    ensures full { length words.new.items ≡ div_ceil (64 * length words.old.items + count) 64 }
+    ensures appended { AppendsBits words.old.items words.new.items (64 * length words.old.items)
+        (bits_in others.now from count) }
+{
+    if count > 0 {
+        words.push_reserved(bits_from(others, from, count));
+    }
 }
 
 // Puts a bit so many times, more often than a word has bits, behind the first `place` bits.

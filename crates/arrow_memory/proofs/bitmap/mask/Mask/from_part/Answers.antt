@@ -1,4 +1,4 @@
-use Rattle.arrow_memory.proofs.Common.{◌∙◌, arith, sliced}
+use Rattle.arrow_memory.proofs.Common.{◌∙◌, sliced}
 use Rattle.arrow_memory.proofs.BitLemmas.{bits_of_word}
 use Rattle.arrow_memory.proofs.SlicedLemmas.{length-sliced}
 use Rattle.arrow_memory.proofs.bitmap.mask.Mask.from_part.Goals as goal
