@@ -46,7 +46,7 @@ pub use Rattle.arrow_flat_growable.specs.Keys.{BindsKeys, KeyFits, PassesGreates
 pub use Rattle.arrow_flat_growable.specs.MaskLaws.{length-bits_of_slice, mask-append, mask-part, mask-set, mask-unset}
 pub use Rattle.arrow_flat_growable.specs.Nulls.{IsGrownNull, null_layout, with_sources}
 pub use Rattle.arrow_flat_growable.specs.Validity.{AppendsValidity, bits_by, valid_in_both}
-pub use Rattle.arrow_flat_growable.specs.Waiting.{AreWaiting, BindsParts, LieThere, Waits, bound_parts, part_of_bound, waiting_rows, with_waiting}
+pub use Rattle.arrow_flat_growable.specs.Waiting.{AreWaiting, BindsParts, JoinsLast, LieThere, WaitBehind, Waits, bound_parts, part_of_bound, waiting_rows, with_waiting}
 pub use Rattle.arrow_flat_growable.specs.declared.growable.parts.Part.{Part}
 pub use Rattle.arrow_flat_growable.specs.declared.growable.parts.Part.TheVariants.{Of}
 pub use Rattle.arrow_flat_growable.specs.declared.growable.waiting.Waiting.{Waiting}

@@ -1,7 +1,9 @@
 -- Rows that wait: how many bytes they have, and that they come behind those that are there.
-use Rattle.arrow_flat_growable.proofs.Common.{arith, ◌≡◌, ◌+◌, ◌<◌, ◌≤◌, ◌^◌, ◌∙◌, Bor, ℕ, zero, suc, Bool, true, false, List, [], ◌∷◌, ◌++◌, length, map, replicate, take, drop, slice_index_or, take_more, if◌then◌else◌, refl, ap, sym, subst, All, All-push, append_assoc, append-nil, flat_map, flat_map-append, get_or-map, length-append, length-map, length-replicate, length-sliced, length-low_bits, low_bits, sum_by-append, sum_by-cons, sum_by-take-drop, sum_by-take-le, IsOffsets, last_of, sliced, pieces, row_bytes, filled, total, Slot, ByteParts, Waiting, AreWaiting, BindsParts, LieThere, Waits, part_of_bound, bound_parts, waiting_rows, with_waiting}
+use Rattle.arrow_flat_growable.proofs.Common.{arith, ◌≡◌, ◌+◌, ◌-◌, ◌<◌, ◌≤◌, ◌^◌, ◌∙◌, Bor, ℕ, zero, suc, Bool, true, false, List, [], ◌∷◌, ◌++◌, length, map, replicate, take, drop, slice_index_or, take_more, if◌then◌else◌, refl, ap, sym, subst, All, All-push, append_assoc, append-nil, flat_map, flat_map-append, get_or-map, length-append, length-map, length-replicate, length-sliced, length-low_bits, low_bits, set, sliced-cut, sum_by-append, sum_by-cons, sum_by-take-drop, sum_by-take-le, IsOffsets, last_of, sliced, pieces, row_bytes, filled, total, Slot, ByteParts, Waiting, AreWaiting, BindsParts, JoinsLast, LieThere, WaitBehind, Waits, part_of_bound, bound_parts, waiting_rows, with_waiting}
 use Rattle.std.proofs.lemmas.List.{take-append-drop}
-use Rattle.std.proofs.lemmas.List.{nil_from_length}
+use Rattle.std.proofs.lemmas.List.{length-set, nil_from_length, take_more_set}
+use Rattle.std.proofs.lemmas.List.Elements.{All-set}
+use Rattle.std.proofs.Math.Seq.{take-length}
 use Rattle.arrow_flat_growable.proofs.GrownRowLemmas.{total_pieces}
 use Rattle.arrow_flat_growable.proofs.ValidRowLemmas.{run_long}
 
@@ -33,13 +35,36 @@ waits_behind arrays rows waiting new w is =
     ∙ (ap (λ xs. rows ++ xs) (flat_map-append (waiting_rows arrays) waiting (w ∷ []) ∙ ap (λ xs. flat_map (waiting_rows arrays) waiting ++ xs) (append-nil (waiting_rows arrays w)))
     ∙ sym (append_assoc rows (flat_map (waiting_rows arrays) waiting) (waiting_rows arrays w)))
 
-pub still_waiting : (arrays : List ByteParts) (bound rows : List (List ℕ)) (waiting new : List Waiting) (most greatest bytes more : ℕ) (w : Waiting) → AreWaiting arrays bound rows waiting most greatest → Waits arrays w → total (waiting_rows arrays w) ≤ bytes → new ≡ waiting ++ w ∷ [] → more ≡ most + bytes → more ≤ greatest → AreWaiting arrays bound rows new more greatest
-still_waiting arrays bound rows waiting new most greatest bytes more w all waits few is sum fits =
-    let behind = waits_behind arrays rows waiting new w is in
+pub pushed_behind : (waiting new : List Waiting) (w : Waiting) → new ≡ waiting ++ w ∷ [] → WaitBehind waiting w new
+pushed_behind waiting new w is arrays wait waits =
+    (subst (All (Waits arrays)) (sym is) (All-push (Waits arrays) waiting w wait waits), λ rows. waits_behind arrays rows waiting new w is)
+
+-- or as one call with the last
+all_of : {A : Type 0} (xs : List A) (n : ℕ) → n ≡ length xs → take n xs ≡ xs
+all_of xs n is = ap (λ k. take k xs) is ∙ take-length xs
+
+pub joined_behind : (waiting new : List Waiting) (w both : Waiting) → 0 < length waiting → JoinsLast waiting w both → new ≡ set waiting (length waiting - 1) both → WaitBehind waiting w new
+joined_behind waiting new w both some joins is arrays wait waits =
+    let k = length waiting - 1 in
+    let last = slice_index_or waiting k w in
+    let below : k < length waiting = omega (arith, some) in
+    let joined = joins arrays (wait k w below) waits in
+    let first = take k waiting in
+    let old_is : waiting ≡ first ++ last ∷ [] = sym (all_of waiting (k + 1) (omega (arith, some))) ∙ take_more waiting k w below in
+    let new_is : new ≡ first ++ both ∷ [] = is ∙ (sym (all_of (set waiting k both) (k + 1) (omega (arith, some, length-set waiting k both))) ∙ take_more_set waiting k both below) in
+    (subst (All (Waits arrays)) (sym is) (All-set (Waits arrays) waiting k both joined.0 wait),
+     λ rows. waits_behind arrays rows first new both new_is
+       ∙ (ap (λ xs. with_waiting arrays rows first ++ xs) joined.1
+       ∙ (sym (append_assoc (with_waiting arrays rows first) (waiting_rows arrays last) (waiting_rows arrays w))
+       ∙ ap (λ xs. xs ++ waiting_rows arrays w) (sym (waits_behind arrays rows first waiting last old_is)))))
+
+pub still_waiting : (arrays : List ByteParts) (bound rows : List (List ℕ)) (waiting new : List Waiting) (most greatest bytes more : ℕ) (w : Waiting) → AreWaiting arrays bound rows waiting most greatest → Waits arrays w → total (waiting_rows arrays w) ≤ bytes → WaitBehind waiting w new → more ≡ most + bytes → more ≤ greatest → AreWaiting arrays bound rows new more greatest
+still_waiting arrays bound rows waiting new most greatest bytes more w all waits few behind sum fits =
+    let both = behind arrays all.wait waits in
     record {
       bytes = all.bytes;
-      wait = subst (All (Waits arrays)) (sym is) (All-push (Waits arrays) waiting w all.wait waits);
-      few = omega (arith, ap total behind, sum_by-append length (with_waiting arrays rows waiting) (waiting_rows arrays w), all.few, few, sum);
+      wait = both.0;
+      few = omega (arith, ap total (both.1 rows), sum_by-append length (with_waiting arrays rows waiting) (waiting_rows arrays w), all.few, few, sum);
       fits = fits;
     }
 
@@ -51,6 +76,13 @@ appended_behind arrays all done more new none are same is =
 -- where a call did not wait
 pub not_waiting : (waits : Bool) (rows more old : List (List ℕ)) → rows ≡ (if waits then more else old) → waits ≡ false → rows ≡ old
 not_waiting waits rows more old is false_is = is ∙ ap (λ b. if b then more else old) false_is
+
+-- rows of two calls, one behind the other, as those of one
+pub rows_joined : (arrays : List ByteParts) (i start len end more both : ℕ) → LieThere arrays i start len → LieThere arrays i end more → end ≡ start + len → both ≡ len + more → LieThere arrays i start both × (part_of_bound arrays i start both ≡ part_of_bound arrays i start len ++ part_of_bound arrays i end more)
+rows_joined arrays i start len end more both first second behind sum =
+    let rows = row_bytes (bound_parts arrays i) in
+    (record { some = omega (arith, first.some, sum); bound = first.bound; within = omega (arith, second.within, behind, sum) },
+     ap (sliced rows start) sum ∙ (sliced-cut rows start len more ∙ ap (λ k. sliced rows start len ++ sliced rows k more) (sym behind)))
 
 -- none that waits
 pub none_waiting : (arrays : List ByteParts) (bound rows : List (List ℕ)) (none : List Waiting) (most greatest : ℕ) → bound ≡ map (λ p. p.bytes) arrays → none ≡ [] → most ≡ total rows → most ≤ greatest → AreWaiting arrays bound rows none most greatest

@@ -1,5 +1,5 @@
 -- Rows of bytes that wait, for some calls, to be appended ("Variable-size Binary Layout").
-use Rattle.std.specs.Prelude.{ℕ, ◌≡◌, ◌+◌, ◌<◌, ◌≤◌, ◌++◌, [], List, length, map, replicate, slice_index_or}
+use Rattle.std.specs.Prelude.{ℕ, ◌≡◌, ◌+◌, ◌-◌, ◌<◌, ◌≤◌, ◌++◌, [], List, length, map, replicate, slice_index_or}
 use Rattle.std.specs.List.{All, flat_map}
 use Rattle.arrow_memory.specs.Sliced.{sliced}
 use Rattle.arrow_memory.specs.Words.{low_bits}
@@ -41,6 +41,14 @@ waiting_rows arrays (Empty count) = replicate count []
 -- rows that are there, and behind them those that wait
 abbrev pub with_waiting : List ByteParts → List (List ℕ) → List Waiting → List (List ℕ)
 with_waiting arrays rows waiting = rows ++ flat_map (waiting_rows arrays) waiting
+
+-- rows wait behind those that do, whatever the arrays are
+abbrev pub WaitBehind : List Waiting → Waiting → List Waiting → Type 0
+WaitBehind waiting w new = (arrays : List ByteParts) → All (Waits arrays) waiting → Waits arrays w → All (Waits arrays) new × ((rows : List (List ℕ)) → with_waiting arrays rows new ≡ with_waiting arrays rows waiting ++ waiting_rows arrays w)
+
+-- rows that wait are those of the last call, and others behind them
+abbrev pub JoinsLast : List Waiting → Waiting → Waiting → Type 0
+JoinsLast waiting w both = (arrays : List ByteParts) → Waits arrays (slice_index_or waiting (length waiting - 1) w) → Waits arrays w → Waits arrays both × (waiting_rows arrays both ≡ waiting_rows arrays (slice_index_or waiting (length waiting - 1) w) ++ waiting_rows arrays w)
 
 -- these rows wait, wherever the array is bound under the number
 abbrev pub WaitsFor : ℕ → ByteParts → List (List ℕ) → Waiting → Type 0

@@ -1,6 +1,6 @@
 //! Texts and bytes under construction: few rows of a call wait for those of others.
 
-ghost use Rattle.std.specs.Prelude.{◌≡◌, ◌+◌, ◌<◌, ◌≤◌, ◌++◌, [], true, Bool, List, ℕ, length, map, replicate, Err, IfOk, IfErr, IfSome, OnOk, IsOkUnless, IsTrue, if◌then◌else◌, refl};
+ghost use Rattle.std.specs.Prelude.{◌≡◌, ◌+◌, ◌<◌, ◌≤◌, ◌++◌, [], true, Bool, List, ℕ, length, map, replicate, Err, IfOk, IfErr, IfSome, OnErr, OnOk, IsOkUnless, IsTrue, if◌then◌else◌, refl};
 ghost use Rattle.std.specs.List.{All};
 ghost use Rattle.arrow_types.specs.declared.error.Error.{Error};
 ghost use Rattle.arrow_types.specs.Fits.{byte_count};
@@ -10,7 +10,7 @@ ghost use Rattle.arrow_memory.specs.Sliced.{sliced};
 ghost use Rattle.arrow_flat.specs.ByteRows.{ByteParts, byte_slots, row_bytes};
 ghost use Rattle.arrow_flat_growable.specs.Bytes.{SparesBytes, stored_rows};
 ghost use Rattle.arrow_flat_growable.specs.GrownRows.{filled, total};
-ghost use Rattle.arrow_flat_growable.specs.Waiting.{BindsParts, LieThere, Waits, WaitsFor, waiting_rows, with_waiting};
+ghost use Rattle.arrow_flat_growable.specs.Waiting.{BindsParts, JoinsLast, LieThere, WaitBehind, Waits, WaitsFor, waiting_rows, with_waiting};
 
 use crate::growable::byte_rows::{GrowableKind, GrownBytes, bytes_of};
 use crate::growable::flat::GrowableValues;
@@ -24,7 +24,7 @@ use arrow_types::types::{Index, Offset};
 use std::alloc::Global;
 use std::marker::Model;
 
-/// How many calls' rows wait, at most.
+/// How many calls' rows wait, at most; those of calls that name rows one behind the other count as one.
 const CALLS: usize = 64;
 
 /// Rows of bytes that lie one behind the other, and that rows are appended to. A null row has no bytes. Few rows of a call wait,
@@ -209,7 +209,7 @@ impl<O: Offset, K: GrowableKind> GrowableBytes<O, K> {
         let Some(most) = sum_within::<O>(self.most, bytes) else {
             return Ok(false);
         };
-        self.waiting.push(rows)?;
+        push_rows(&mut self.waiting, rows)?;
         self.most = most;
         Ok(true)
     }
@@ -286,6 +286,45 @@ fn rows_under(index: usize, start: usize, bits: &Mask) -> Waiting
         Waiting::Empty(len)
     } else {
         Waiting::Under(index, start, len, bits.word())
+    }
+}
+
+// Lets rows wait behind those that do: as rows of one call where they lie right behind those of the last one.
+#[inline(always)]
+fn push_rows(waiting: &mut Vec<Waiting>, rows: Waiting) -> Result<(), Error>
+    ensures ok { OnOk result (WaitBehind waiting.old.items rows waiting.new.items) }
+    ensures err { IsOkUnless result Error.OutOfMemory }
+    ensures unchanged { OnErr result (waiting.new.items ≡ waiting.old.items) }
+{
+    match joined(waiting, rows) {
+        Some(both) => {
+            let last = waiting.len() - 1;
+            waiting[last] = both;
+        }
+        None => waiting.push(rows)?,
+    }
+    Ok(())
+}
+
+// The rows of the last call and rows that lie right behind them, as those of one call.
+#[inline(always)]
+fn joined(waiting: &[Waiting], rows: Waiting) -> Option<Waiting>
+    ensures some { IfSome result (λ both. 0 < length waiting.now) }
+    ensures both { IfSome result (JoinsLast waiting.now rows) }
+{
+    let last = waiting.len().checked_sub(1)?;
+    let Waiting::Of(index, start, len) = waiting[last] else {
+        return None;
+    };
+    let Waiting::Of(same, next, more) = rows else {
+        return None;
+    };
+    let end = start.checked_add(len)?;
+    let both = len.checked_add(more)?;
+    if index == same && end == next {
+        Some(Waiting::Of(index, start, both))
+    } else {
+        None
     }
 }
 
