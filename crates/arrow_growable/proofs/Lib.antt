@@ -12,6 +12,7 @@ pub mod FinishLemmas
 pub mod FixedSizeLemmas
 pub mod GrowLemmas
 pub mod GrownLemmas
+pub mod IdLemmas
 pub mod JoinedLemmas
 pub mod KindLemmas
 pub mod ListLemmas

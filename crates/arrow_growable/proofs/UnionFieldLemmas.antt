@@ -117,13 +117,6 @@ module _ (ids : Option (List ℤ)) (columns : List (List Slot)) (apart : AreApar
       let cut : sliced col place (suc (length types)) ≡ get_or col place Null ∷ sliced col (place + 1) (length types) = ap (sliced col place) one ∙ (sliced-cut col place 1 (length types) ∙ ap (λ ys. ys ++ sliced col (place + 1) (length types)) (one_is col place Null (omega (arith, inside)))) in
       (λ j. head j ∷ rest j) ∙ sym (ap (mask (have_id own_id (id ∷ types))) cut)
 
--- which rows have an id, by a bit each
-pub bits_of_id : (answered : ℕ → Bool → Type 0) (types : List ℤ) (id : ℤ) (bits : List Bool) → AnswersBits answered (length types) bits → ((row : ℕ) (bit : Bool) → row < length types → answered row bit → bit ≡ int_eq id (get_or types row id)) → bits ≡ have_id id types
-bits_of_id answered types id bits answers each =
-    same_lists _ _ (answers.count ∙ sym (length-map types (int_eq id))) (λ i d within.
-    let inside : i < length types = omega (arith, within, answers.count) in
-    get_or_default bits i d false within ∙ (each i (get_or bits i false) inside (answers.each i inside) ∙ sym (get_or-map (int_eq id) types i id d inside)))
-
 -- one field more
 pub field_next : (t : ArrowType) (more : List Slot) (gs : List Grown) (xs : List AnyGrowable) (k : ℕ) (x : AnyGrowable) (part : List Slot) → k < length xs → GrownFields t more gs (map grown_of xs) k → GrownBy (nth_grown (map grown_of xs) k) (grown_of x) part → part ≡ field_part t k more → SameBound (nth_grown (map grown_of xs) k) (grown_of x) → GrownFields t more gs (map grown_of (set xs k x)) (k + 1)
 field_next t more gs xs k x part within so_far grows part_is same =

@@ -7,6 +7,7 @@ mod dictionary;
 pub mod fields;
 mod finish;
 mod grown_spans;
+pub mod ids;
 mod join;
 mod make;
 mod nested;

@@ -1,7 +1,6 @@
 //! Rows of sparse unions under construction, each field by itself: its own rows, and nulls where a row is of another one.
 
-ghost use Rattle.std.specs.Prelude.{◌≡◌, ◌+◌, ◌<◌, ◌≤◌, ◌++◌, Err, None, All, IfErr, IfOk, IsOkUnless, IsTrue, OnOk, length, map, slice_index_or};
-ghost use Rattle.std.specs.Ordering.{int_eq};
+ghost use Rattle.std.specs.Prelude.{◌≡◌, ◌+◌, ◌<◌, ◌≤◌, ◌++◌, Err, None, All, IfErr, IfOk, IsOkUnless, IsTrue, OnOk, length, map};
 ghost use Rattle.arrow_types.specs.declared.error.Error.{Error};
 ghost use Rattle.arrow_types.specs.declared.datatypes.physical_type.PhysicalType.TheVariants as physical;
 ghost use Rattle.arrow_types.specs.Fits.{Fits};
@@ -19,11 +18,12 @@ ghost use Rattle.arrow_growable.specs.AnyGrowable.{IsFlat, grown_of};
 ghost use Rattle.arrow_growable.specs.Child.{AreBoundAs, BindsRows, GrownBy, IsWell, SameBound, bound_rows};
 ghost use Rattle.arrow_growable.specs.Fields.{BindsFields, GrownFields, SomeFieldRefused};
 ghost use Rattle.arrow_growable.specs.GrownUnion.{GrowsVariants, HoldsVariants, IsUnionOver, variant_rows};
-ghost use Rattle.arrow_growable.specs.Variants.{IsSparse, have_id};
+ghost use Rattle.arrow_growable.specs.Variants.{IsSparse};
 
 use crate::growable::any::AnyGrowable;
+use crate::growable::ids::{changes, mask_of_id};
 use arrow_arrays::array::UnionArray;
-use arrow_memory::bitmap::{Bitmap, Mask};
+use arrow_memory::bitmap::Mask;
 use arrow_types::datatypes::DataType;
 use arrow_types::error::Error;
 use std::alloc::Global;
@@ -50,15 +50,6 @@ pub(crate) fn go_by_fields(
     let (_, _) = (array.data_type(), array.fields());
     let ids = &array.types().as_slice()[start..start + len];
     array.offsets().is_none() && len >= SOME && changes(ids) > len / SHORT && are_flat(children)
-}
-
-// How many type ids differ from the one before.
-fn changes(ids: &[i8]) -> usize {
-    let mut count: usize = 0;
-    for row in 1..ids.len() {
-        count = count.wrapping_add(usize::from(ids[row] != ids[row - 1]));
-    }
-    count
 }
 
 // Appends `len` rows of bound array `index` from row `start` on, which is a sparse union, field by field. No child has children.
@@ -169,35 +160,6 @@ fn are_flat(children: &[AnyGrowable]) -> bool
         }
     }
     true
-}
-
-/// Of which rows a type id is this one.
-///
-/// # Errors
-/// `OutOfMemory` where memory is refused.
-pub fn rows_of_id(alloc: Global, types: &[i8], id: i8) -> Result<Bitmap, Error>
-    ensures ok { IfOk result (λ own. own ≡ have_id id types.now) }
-    ensures err { IsOkUnless result Error.OutOfMemory }
-{
-    mask_of_id(alloc, types, id)?.to_bitmap(alloc)
-}
-
-// The same as a mask, which takes no memory for a few rows.
-#[inline(always)]
-fn mask_of_id(alloc: Global, types: &[i8], id: i8) -> Result<Mask, Error>
-    ensures ok { IfOk result (λ own. own ≡ have_id id types.now) }
-    ensures err { IsOkUnless result Error.OutOfMemory }
-{
-    let own = Mask::collect_bool(alloc, types.len(), |row| has_id(types, id, row))?;
-    Ok(own)
-}
-
-// Whether a row has a type id.
-fn has_id(types: &[i8], id: i8, row: usize) -> bool
-    requires { row < length types.now }
-    ensures { result ≡ int_eq id (slice_index_or types.now row id) }
-{
-    types[row] == id
 }
 
 /// The type id of a field of a union, by its number.

@@ -1,0 +1,6 @@
+use Rattle.std.proofs.Common.{ℕ, ℤ, ◌<◌, slice_index_or, w8}
+use Rattle.std.specs.Int.RustNames.{FitsSigned}
+use Rattle.arrow_growable.proofs.growable.ids.fit.Given as goal
+
+abbrev pub invariant-loop-id : goal.invariant-loop-id
+invariant-loop-id l = (k : ℕ) (d : ℤ) → k < l.id-index → FitsSigned w8 (slice_index_or l.types k d)
