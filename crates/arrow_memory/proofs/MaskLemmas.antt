@@ -1,6 +1,5 @@
 -- Masks, and the bits of a word as those of a mask.
-use Rattle.arrow_memory.proofs.Common.{◌≡◌, ℕ, ◌<◌, ◌≤◌, ◌==◌, Bool, false, Option, None, Some, List, [], ◌∷◌, length, map, get_or, refl, ap, sym, ◌∙◌, arith, subst₂, zero-add, bit_at, range_with_len, ext_get_or, get_or-map-range_with_len, length-map-range_with_len, paired, AnswersBits, GathersBits, IsMask, mask_in, bits_in, is_set, low_bits}
-use Rattle.arrow_memory.proofs.BitLemmas.{bits_of_word}
+use Rattle.arrow_memory.proofs.Common.{◌≡◌, ℕ, ◌<◌, ◌≤◌, ◌==◌, Bool, false, Option, None, Some, List, [], ◌∷◌, length, map, refl, ap, sym, ◌∙◌, arith, bit_at, range_with_len, ext_get_or, get_or-map-range_with_len, length-map-range_with_len, paired, IsMask, mask_in, bits_in, is_set, low_bits}
 use Rattle.arrow_memory.proofs.LengthLemmas.{bit_of}
 use Rattle.arrow_memory.proofs.WordLemmas.{length-low_bits}
 
@@ -13,15 +12,6 @@ mask_length (Some bits) word len many = many.0
 pub word_of_mask : (bits : Option (List Bool)) (word len : ℕ) → IsMask bits len → length (mask_in bits word len) ≤ 64 → low_bits word (length (mask_in bits word len)) ≡ mask_in bits word len
 word_of_mask None word len few within = ap (low_bits word) (length-low_bits word len)
 word_of_mask (Some bits) word len many within = absurd (omega (arith, within, many.0, many.1))
-
--- bits that were answered
-pub answered_word : (answered : ℕ → Bool → Type 0) (len count word : ℕ) → count ≡ len → GathersBits answered 0 count word → AnswersBits answered len (low_bits word len)
-answered_word answered len count word all gathered =
-    let same = bits_of_word gathered.bits word len gathered.is (gathered.long ∙ all) in
-    record {
-      count = length-low_bits word len;
-      each = λ row below. subst₂ (λ k bits. answered k (get_or bits row false)) (zero-add row) (sym same) (gathered.each row (omega (arith, below, all)));
-    }
 
 -- both bits of two words
 pairs : (f g : ℕ → Bool) (give : Bool → Bool → Bool) (ns : List ℕ) → paired give (map f ns) (map g ns) ≡ map (λ n. give (f n) (g n)) ns

@@ -59,7 +59,7 @@ impl Bitmap {
 }
 
 // What `test` answers of the 64 rows from row `64 * j` on, as far as they are below `len`.
-pub(super) fn word_of_rows<F: Fn(usize) -> bool>(test: &F, len: usize, j: usize) -> u64
+fn word_of_rows<F: Fn(usize) -> bool>(test: &F, len: usize, j: usize) -> u64
     requires callable { (row : ℕ) → row < len → F.pre test.now row }
     requires some { 64 * j < len }
     ensures { GathersBits (F.post test.now) (64 * j) (min 64 (len - 64 * j)) result }

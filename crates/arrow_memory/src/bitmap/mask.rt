@@ -1,15 +1,13 @@
 //! Bits for some rows that a call is about, which need no memory where they are few.
 
-ghost use Rattle.std.specs.Prelude.{◌≡◌, ◌+◌, ◌<◌, ◌≤◌, ℕ, length, IfOk, IsOkUnless};
+ghost use Rattle.std.specs.Prelude.{◌≡◌, ◌+◌, ◌≤◌, ℕ, length, IfOk, IsOkUnless};
 ghost use Rattle.arrow_types.specs.declared.error.Error.{Error};
 ghost use Rattle.arrow_memory.specs.Bits.{both_bits};
-ghost use Rattle.arrow_memory.specs.Gathered.{AnswersBits};
 ghost use Rattle.arrow_memory.specs.Masks.{mask_in, IsMask};
 ghost use Rattle.arrow_memory.specs.Sliced.{sliced};
 ghost use Rattle.arrow_memory.specs.Words.{low_bits};
 
 use crate::bitmap::bitmap_ops::And;
-use crate::bitmap::collect::word_of_rows;
 use crate::bitmap::{BitRuns, Bitmap, Logic};
 use crate::words::WORD_BITS;
 use arrow_types::error::Error;
@@ -78,28 +76,6 @@ impl Mask {
         ensures { result ≡ sliced bits.now start len }
     {
         Mask::from_word(bits.bits_from(start, len), len)
-    }
-
-    /// The bits that `test` answers of the rows below `len`. It is called once for each, in their order.
-    ///
-    /// # Requires
-    /// `test` may be called on each row below `len`.
-    ///
-    /// # Errors
-    /// `OutOfMemory` as of [`Bitmap::new_zeroed`], and only of more than 64 rows.
-    pub fn collect_bool<F: Fn(usize) -> bool>(
-        alloc: Global,
-        len: usize,
-        test: F,
-    ) -> Result<Mask, Error>
-        requires { (row : ℕ) → row < len → F.pre test row }
-        ensures ok { IfOk result (λ mask. AnswersBits (F.post test) len mask) }
-        ensures err { IsOkUnless result Error.OutOfMemory }
-    {
-        if len > WORD_BITS {
-            return Ok(Mask::from_bitmap(Bitmap::collect_bool(alloc, len, test)?));
-        }
-        Ok(Mask::from_word(first_word(&test, len), len))
     }
 
     /// How many bits there are.
@@ -181,18 +157,6 @@ impl Clone for Mask {
             },
         })
     }
-}
-
-// What `test` answers of so few rows, a bit each.
-fn first_word<F: Fn(usize) -> bool>(test: &F, len: usize) -> u64
-    requires few { len ≤ 64 }
-    requires callable { (row : ℕ) → row < len → F.pre test.now row }
-    ensures { AnswersBits (F.post test.now) len (low_bits result len) }
-{
-    if len == 0 {
-        return 0;
-    }
-    word_of_rows(test, len, 0)
 }
 
 // The bits that are set in both words.
