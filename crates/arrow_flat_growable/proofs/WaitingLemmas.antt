@@ -51,12 +51,13 @@ joined_behind waiting new w both some joins is arrays wait waits =
     let joined = joins arrays (wait k w below) waits in
     let first = take k waiting in
     let old_is : waiting ≡ first ++ last ∷ [] = sym (all_of waiting (k + 1) (omega (arith, some))) ∙ take_more waiting k w below in
-    let new_is : new ≡ first ++ both ∷ [] = is ∙ (sym (all_of (set waiting k both) (k + 1) (omega (arith, some, length-set waiting k both))) ∙ take_more_set waiting k both below) in
-    (subst (All (Waits arrays)) (sym is) (All-set (Waits arrays) waiting k both joined.0 wait),
-     λ rows. waits_behind arrays rows first new both new_is
-       ∙ (ap (λ xs. with_waiting arrays rows first ++ xs) joined.1
-       ∙ (sym (append_assoc (with_waiting arrays rows first) (waiting_rows arrays last) (waiting_rows arrays w))
-       ∙ ap (λ xs. xs ++ waiting_rows arrays w) (sym (waits_behind arrays rows first waiting last old_is)))))
+    let new_is : new ≡ first ++ both ∷ [] = is ∙ (sym (all_of (set waiting k both) (k + 1) (omega (arith, some, length-set waiting k both))) ∙ take_more_set waiting k both below) in (
+      subst (All (Waits arrays)) (sym is) (All-set (Waits arrays) waiting k both joined.0 wait),
+      λ rows. waits_behind arrays rows first new both new_is
+          ∙ (ap (λ xs. with_waiting arrays rows first ++ xs) joined.1
+          ∙ (sym (append_assoc (with_waiting arrays rows first) (waiting_rows arrays last) (waiting_rows arrays w))
+          ∙ ap (λ xs. xs ++ waiting_rows arrays w) (sym (waits_behind arrays rows first waiting last old_is)))),
+    )
 
 pub still_waiting : (arrays : List ByteParts) (bound rows : List (List ℕ)) (waiting new : List Waiting) (most greatest bytes more : ℕ) (w : Waiting) → AreWaiting arrays bound rows waiting most greatest → Waits arrays w → total (waiting_rows arrays w) ≤ bytes → WaitBehind waiting w new → more ≡ most + bytes → more ≤ greatest → AreWaiting arrays bound rows new more greatest
 still_waiting arrays bound rows waiting new most greatest bytes more w all waits few behind sum fits =
@@ -80,9 +81,10 @@ not_waiting waits rows more old is false_is = is ∙ ap (λ b. if b then more el
 -- rows of two calls, one behind the other, as those of one
 pub rows_joined : (arrays : List ByteParts) (i start len end more both : ℕ) → LieThere arrays i start len → LieThere arrays i end more → end ≡ start + len → both ≡ len + more → LieThere arrays i start both × (part_of_bound arrays i start both ≡ part_of_bound arrays i start len ++ part_of_bound arrays i end more)
 rows_joined arrays i start len end more both first second behind sum =
-    let rows = row_bytes (bound_parts arrays i) in
-    (record { some = omega (arith, first.some, sum); bound = first.bound; within = omega (arith, second.within, behind, sum) },
-     ap (sliced rows start) sum ∙ (sliced-cut rows start len more ∙ ap (λ k. sliced rows start len ++ sliced rows k more) (sym behind)))
+    let rows = row_bytes (bound_parts arrays i) in (
+      record { some = omega (arith, first.some, sum); bound = first.bound; within = omega (arith, second.within, behind, sum) },
+      ap (sliced rows start) sum ∙ (sliced-cut rows start len more ∙ ap (λ k. sliced rows start len ++ sliced rows k more) (sym behind)),
+    )
 
 -- none that waits
 pub none_waiting : (arrays : List ByteParts) (bound rows : List (List ℕ)) (none : List Waiting) (most greatest : ℕ) → bound ≡ map (λ p. p.bytes) arrays → none ≡ [] → most ≡ total rows → most ≤ greatest → AreWaiting arrays bound rows none most greatest

@@ -106,7 +106,7 @@ fn fit(types: &[i8])
     }
 }
 
-// The same of the first 16 rows.
+// Of which of the first 16 rows a type id is this one, a bit each.
 #[inline(always)]
 fn block_of_id(types: &[i8], id: i8) -> u64
     requires { 16 ≤ length types.now }
