@@ -94,7 +94,7 @@ gathered id types j n word few is =
     }
 
 -- which rows have an id, by a bit each
-pub bits_of_id : (answered : ℕ → Bool → Type 0) (types : List ℤ) (id : ℤ) (bits : List Bool) → AnswersBits answered (length types) bits → ((row : ℕ) (bit : Bool) → row < length types → answered row bit → bit ≡ int_eq id (get_or types row id)) → bits ≡ have_id id types
+bits_of_id : (answered : ℕ → Bool → Type 0) (types : List ℤ) (id : ℤ) (bits : List Bool) → AnswersBits answered (length types) bits → ((row : ℕ) (bit : Bool) → row < length types → answered row bit → bit ≡ int_eq id (get_or types row id)) → bits ≡ have_id id types
 bits_of_id answered types id bits answers each =
     same_lists _ _ (answers.count ∙ sym (length-map types (int_eq id))) (λ i d within.
     let inside : i < length types = omega (arith, within, answers.count) in
