@@ -9,6 +9,7 @@ pub mod LogicLemmas
 pub mod MaskLemmas
 pub mod MutableLemmas
 pub mod OffsetLemmas
+pub mod RepeatLemmas
 pub mod RunLemmas
 pub mod SlicedLemmas
 pub mod ValidLemmas

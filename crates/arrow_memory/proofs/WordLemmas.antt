@@ -25,7 +25,7 @@ sliced-bits_in words offset len o n h =
     let place : offset + (o + k) ≡ offset + o + k = omega arith in
     get_or-take n _ k d k_below ∙ (get_or-drop o _ k d ∙ (get_or-bits_in words offset len (o + k) d within ∙ (ap (is_set words) place ∙ sym (get_or-bits_in words (offset + o) n k d k_below)))))
 
-range-add : (a m n : ℕ) → range_with_len a (m + n) ≡ range_with_len a m ++ range_with_len (a + m) n
+pub range-add : (a m n : ℕ) → range_with_len a (m + n) ≡ range_with_len a m ++ range_with_len (a + m) n
 range-add a zero n = simp (zero-add, add-zero)
 range-add a (suc m) n =
     let front : suc m + n ≡ suc (m + n) = omega arith in

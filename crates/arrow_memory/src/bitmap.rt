@@ -24,7 +24,7 @@ use arrow_types::error::Error;
 pub use mask::Mask;
 pub use mutable::MutableBitmap;
 pub use quaternary::QuaternaryLogic;
-pub use runs::BitRuns;
+pub use runs::{BitRuns, WordRuns};
 use std::alloc::{AllocError, Global};
 use std::marker::Model;
 use std::rc::Rc;

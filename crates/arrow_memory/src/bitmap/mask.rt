@@ -1,15 +1,16 @@
 //! Bits for some rows that a call is about, which need no memory where they are few.
 
-ghost use Rattle.std.specs.Prelude.{◌≡◌, ◌+◌, ◌≤◌, ℕ, length, IfOk, IsOkUnless};
+ghost use Rattle.std.specs.Prelude.{◌≡◌, ◌+◌, ◌*◌, ◌≤◌, ℕ, length, replicate, IfOk, IsOkUnless};
+ghost use Rattle.std.specs.List.{flat_map};
 ghost use Rattle.arrow_types.specs.declared.error.Error.{Error};
 ghost use Rattle.arrow_memory.specs.Bits.{both_bits};
 ghost use Rattle.arrow_memory.specs.Masks.{mask_in, IsMask};
 ghost use Rattle.arrow_memory.specs.Sliced.{sliced};
-ghost use Rattle.arrow_memory.specs.Words.{low_bits};
+ghost use Rattle.arrow_memory.specs.Words.{low_bits, word_of};
 
 use crate::bitmap::bitmap_ops::And;
-use crate::bitmap::{BitRuns, Bitmap, Logic};
-use crate::words::WORD_BITS;
+use crate::bitmap::{Bitmap, Logic, WordRuns};
+use crate::words::{WORD_BITS, equal_bits};
 use arrow_types::error::Error;
 use std::alloc::{AllocError, Global};
 use std::marker::Model;
@@ -78,6 +79,18 @@ impl Mask {
         Mask::from_word(bits.bits_from(start, len), len)
     }
 
+    /// The `len` bits of a bitmap from bit `start` on, each of them `times` times.
+    ///
+    /// # Requires
+    /// `len * times` is at most 64, and `start + len` at most the count of the bitmap's bits.
+    pub fn repeated(bits: &Bitmap, start: usize, len: usize, times: usize) -> Mask
+        requires few { len * times ≤ 64 }
+        requires within { start + len ≤ length bits.now }
+        ensures { result ≡ flat_map (replicate times) (sliced bits.now start len) }
+    {
+        Mask::from_word(repeated_word(bits, start, len, times), len * times)
+    }
+
     /// How many bits there are.
     pub fn len(&self) -> usize
         ensures { result ≡ length self.now }
@@ -133,14 +146,35 @@ impl Mask {
     }
 
     /// The bits, to be taken a run at a time.
-    pub fn runs(&self) -> BitRuns<'_>
+    ///
+    /// # Requires
+    /// There are at most 64.
+    #[inline(always)]
+    pub fn word_runs(&self) -> WordRuns
+        requires { length self.now ≤ 64 }
         ensures { result ≡ self.now }
     {
-        match &self.bits {
-            Some(bits) => bits.runs(0, self.len),
-            None => BitRuns::of_word(&self.word, self.len),
-        }
+        WordRuns::new(self.word(), self.len)
     }
+}
+
+// The bits of `len` rows from row `start` on, each of them `times` times, as a word.
+fn repeated_word(bits: &Bitmap, start: usize, len: usize, times: usize) -> u64
+    requires few { len * times ≤ 64 }
+    requires within { start + len ≤ length bits.now }
+    ensures { result ≡ word_of (flat_map (replicate times) (sliced bits.now start len)) }
+{
+    if len == 0 || times == 0 {
+        return 0;
+    }
+    let rows = bits.bits_from(start, len);
+    let set = equal_bits(times, true);
+    let mut word = 0;
+    for row in 0..len {
+        let run = if rows >> row & 1 == 1 { set } else { 0 };
+        word |= run << (row * times);
+    }
+    word
 }
 
 /// A clone shares the bits of a bitmap, and copies those of a word.

@@ -115,6 +115,7 @@ impl MutableBitmap {
     ///
     /// # Errors
     /// As of [`MutableBitmap::push`], `Overflow` where there are to be more than 2^64 - 1 bits.
+    #[inline(always)]
     pub fn extend_from_bitmap(
         &mut self,
         bitmap: &Bitmap,

@@ -11,7 +11,6 @@ use crate::words::{WORD_BITS, low_run};
 use arrow_types::error::Error;
 use std::alloc::Global;
 use std::marker::Model;
-use std::slice;
 
 /// The bits of a part of a bitmap that are left, which are taken from the front, a run at a time.
 #[derive(Drop)]
@@ -38,20 +37,6 @@ impl<'a> Model for BitRuns<'a> {
 
 #[tactic(auto, using(crate::proofs::WordLemmas::bit_lengths))]
 impl<'a> BitRuns<'a> {
-    /// The `len` lowest bits of a word.
-    pub(super) fn of_word(word: &'a u64, len: usize) -> BitRuns<'a>
-        requires { len ≤ 64 }
-        ensures { result ≡ low_bits word.now len }
-    {
-        BitRuns {
-            words: slice::from_ref(word),
-            place: 0,
-            left: len,
-            word: *word,
-            count: len,
-        }
-    }
-
     /// Takes the next run of set bits and those before it, found a word at a time: how many bits come
     /// before it that are not set, and how long it is. It is empty only where no set bit is left.
     #[inline(always)]
@@ -69,6 +54,55 @@ impl<'a> BitRuns<'a> {
         self.place = next;
         self.left = end - next;
         (set - start, next - set)
+    }
+}
+
+/// The bits of a word that are left, which are taken from the front, a run at a time.
+#[derive(Drop)]
+pub struct WordRuns {
+    /// The first one lowest.
+    word: u64,
+    count: usize,
+}
+
+impl Model for WordRuns {
+    ghost use Rattle.std.specs.Prelude.{◌≤◌, Bool, List};
+    ghost use Rattle.arrow_memory.specs.Words.{low_bits};
+
+    ghost Value = { List Bool };
+
+    ghost view = { λ a. low_bits a.word a.count };
+
+    ghost invariant = { λ a. a.count ≤ 64 };
+}
+
+#[tactic(auto, using(crate::proofs::WordLemmas::bit_lengths))]
+impl WordRuns {
+    /// The `count` lowest bits of a word.
+    pub(super) fn new(word: u64, count: usize) -> WordRuns
+        requires { count ≤ 64 }
+        ensures { result ≡ low_bits word count }
+    {
+        WordRuns { word, count }
+    }
+
+    /// Takes the next run of set bits and those before it, as [`BitRuns::next_set`] does.
+    #[inline(always)]
+    pub fn next_set(&mut self) -> (usize, usize)
+        ensures bits { self.old ≡ replicate result.0 false ++ (replicate result.1 true ++ self.new) }
+        ensures longest { slice_get self.new 0 ≢ Some true }
+        ensures some { 0 < length self.old → 0 < result.0 + result.1 }
+    {
+        let unset = low_run(self.word, self.count, false);
+        if unset == self.count {
+            self.count = 0;
+            return (unset, 0);
+        }
+        let word = self.word >> unset;
+        let set = low_run(word, self.count - unset, true);
+        self.count -= unset + set;
+        self.word = if self.count > 0 { word >> set } else { 0 };
+        (unset, set)
     }
 }
 
