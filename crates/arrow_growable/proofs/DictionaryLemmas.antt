@@ -1,5 +1,5 @@
 -- Rows of dictionaries behind others: keys that grow by the values before their own name the same values.
-use Rattle.arrow_growable.proofs.Common.{arith, Bor, ◌≡◌, ◌+◌, ◌-◌, ◌<◌, ◌≤◌, ◌^◌, ◌⊎◌, inl, inr, ℕ, zero, suc, pos, negsuc, Bool, true, false, not, List, [], ◌∷◌, ◌++◌, Option, Some, None, length, map, take, drop, get_or, replicate, refl, ap, sym, subst, ◌∙◌, length-append, IfSome, option_copied, slice_get, eq-or-lt_of_le, lt_of_not-le, get_or-append_seam, take-suc, drop-replicate, get_or_append_left, get_or-append-add, get_or-drop, get_or-take, length-map, length-replicate, map-append, take-replicate, get_or_default_zero, All-append, All-drop, All-take, sum_by-append, sum_by-cons, IntegerType, ArrowType, plain, list, struct, union, dictionary, extension, null, Fits, greatest_number, physical_type_of, is_null, mask, Slot, Null, Boolean, Number, DayTime, MonthDayNano, Bytes, Text, Items, Dict, Variant, length-mask, sliced, map_sliced, length-sliced, IsValue, MarksNulls, bits_of_slice, CrowdedRow, child_of, greatest_key, values_before, AreKeys, IsKey, IsKeyIn, KeyedParts, key_in, keyed_layout, keyed_rows, keys_in, key_read, dictionary_shape, list_shaped, plain_shape, shape_in, Layout, flat, keyed_item, rows, type_of_layout, AreCrowded, source_at, KeyFits, SomePasses, grown_key, zero_key, appended_rows, source_is, AreUncrowded, HoldsKeys, IsGrownDictionary, dictionary_rows, joined_values}
+use Rattle.arrow_growable.proofs.Common.{arith, Bor, ◌≡◌, ◌+◌, ◌-◌, ◌<◌, ◌≤◌, ◌^◌, ◌⊎◌, inl, inr, ℕ, zero, suc, pos, negsuc, Bool, true, false, not, List, [], ◌∷◌, ◌++◌, Option, Some, None, length, map, take, drop, get_or, replicate, refl, ap, sym, subst, ◌∙◌, length-append, IfSome, option_copied, slice_get, eq-or-lt_of_le, lt_of_not-le, get_or-append_seam, take-suc, drop-replicate, get_or_append_left, get_or-append-add, get_or-drop, get_or-take, length-map, length-replicate, map-append, take-replicate, get_or_default_zero, All-append, All-drop, All-take, sum_by-append, sum_by-cons, IntegerType, ArrowType, plain, list, struct, union, dictionary, extension, null, Fits, greatest_number, physical_type_of, is_null, mask, Slot, Null, Boolean, Number, DayTime, MonthDayNano, Bytes, Text, Items, Dict, Variant, length-mask, sliced, map_sliced, length-sliced, IsValue, MarksNulls, bits_of_slice, CrowdedRow, child_of, greatest_key, values_before, AreKeys, IsKey, KeyedParts, key_in, keyed_layout, keyed_rows, keys_in, key_read, dictionary_shape, list_shaped, plain_shape, shape_in, Layout, flat, keyed_item, rows, type_of_layout, AreCrowded, source_at, KeyFits, SomePasses, grown_key, zero_key, appended_rows, source_is, AreUncrowded, HoldsKeys, IsGrownDictionary, dictionary_rows, joined_values}
 use Rattle.std.specs.Prelude.{if◌then◌else◌}
 use Rattle.std.specs.List.{All}
 use Rattle.arrow_types.specs.declared.datatypes.physical_type.PhysicalType.TheVariants as physical

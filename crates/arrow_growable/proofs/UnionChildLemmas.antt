@@ -1,5 +1,5 @@
 -- The children of unions under construction: one that is changed, and what a call on it answers.
-use Rattle.arrow_growable.proofs.Common.{arith, ◌≡◌, ◌+◌, ◌<◌, ℕ, zero, suc, List, [], ◌∷◌, None, length, map, get_or, refl, ap, sym, subst, ◌∙◌, OnOk, OnErr, set, get_or-map, length-map, All-cons, Error, ArrowType, Slot, sliced, Grown, AreThere, CountsRows, FitsItself, HasFailed, NamesRows, appended, named_rows, null_rows_of, rows_among, grown_of, AreBoundAs, BindsRows, GrownBy, IsWell, SameBound, bound_rows, grown_by_nulls, source_rows, absent, nth_grown, with_rows, with_run, AnyGrowable}
+use Rattle.arrow_growable.proofs.Common.{arith, ◌≡◌, ◌+◌, ◌<◌, ℕ, zero, suc, List, [], ◌∷◌, length, map, get_or, refl, ap, sym, subst, ◌∙◌, OnOk, OnErr, set, get_or-map, length-map, All-cons, Error, ArrowType, Slot, sliced, Grown, AreThere, CountsRows, FitsItself, HasFailed, NamesRows, appended, named_rows, rows_among, grown_of, AreBoundAs, BindsRows, GrownBy, IsWell, SameBound, bound_rows, grown_by_nulls, source_rows, absent, nth_grown, with_rows, AnyGrowable}
 use Rattle.std.specs.Prelude.{Result, Ok, Err}
 use Rattle.std.specs.List.{All}
 

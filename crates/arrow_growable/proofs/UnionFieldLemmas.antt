@@ -1,5 +1,5 @@
 -- Rows of a sparse union behind others: what each child holds of them, field by field.
-use Rattle.arrow_growable.proofs.Common.{arith, ◌≡◌, ◌+◌, ◌<◌, ◌≤◌, ℕ, zero, suc, ℤ, pos, Bool, true, false, Option, Some, None, List, [], ◌∷◌, ◌++◌, drop, length, map, replicate, get_or, inl, inr, if◌then◌else◌, refl, ap, sym, subst, ◌∙◌, set, range_with_len, zip, int_eq, Decides-int_eq, append-nil, get_or-map, get_or_default, length-map, same_lists, All-drop, All-take, get_or-range_with_len, length-range_with_len, length-zip, option_map, UnionMode, Sparse, ArrowType, Fits, sparse_part, mask, Slot, Null, Variant, id_at, null_slot, sliced, length-sliced, sliced-cut, column_of_id, field_ids, rows, type_of_layout, union_items, variant_at, field_types, mode_in, IsKnown, SpansRows, UnionParts, child_rows_by, child_rows_of, mode_by, rows_of_field, union_rows, Grown, appended, AnyGrowable, grown_of, GrownBy, SameBound, bound_rows, BindsFields, GrownFields, SomeFieldRefused, GrowsVariants, HoldsVariants, IsUnionOver, nth_grown, variant_rows, rows_of_all, HoldsColumns, IsSparse, field_part, have_id, part_of_id, run_rows, variant_type, range-sliced, union_items-sliced}
+use Rattle.arrow_growable.proofs.Common.{arith, ◌≡◌, ◌+◌, ◌<◌, ◌≤◌, ℕ, zero, suc, ℤ, pos, Bool, true, false, Option, None, List, [], ◌∷◌, ◌++◌, drop, length, map, replicate, get_or, inl, inr, if◌then◌else◌, refl, ap, sym, subst, ◌∙◌, set, range_with_len, zip, int_eq, Decides-int_eq, append-nil, get_or-map, get_or_default, length-map, same_lists, All-drop, All-take, get_or-range_with_len, length-range_with_len, length-zip, Sparse, ArrowType, Fits, sparse_part, mask, Slot, Null, Variant, id_at, null_slot, sliced, length-sliced, sliced-cut, column_of_id, field_ids, rows, type_of_layout, union_items, variant_at, field_types, mode_in, IsKnown, SpansRows, UnionParts, child_rows_by, rows_of_field, union_rows, Grown, appended, AnyGrowable, grown_of, GrownBy, SameBound, bound_rows, BindsFields, GrownFields, SomeFieldRefused, GrowsVariants, HoldsVariants, IsUnionOver, nth_grown, variant_rows, rows_of_all, HoldsColumns, IsSparse, field_part, have_id, part_of_id, run_rows, variant_type, range-sliced, union_items-sliced}
 use Rattle.std.specs.List.{All}
 use Rattle.std.proofs.lemmas.List.{append_assoc, length-append}
 use Rattle.arrow_growable.proofs.UnionBoundLemmas.{part_of_child}

@@ -89,6 +89,7 @@ impl GrowableValues for GrowableBits {
         })
     }
 
+    #[inline(always)]
     fn extend(
         &mut self,
         _index: usize,

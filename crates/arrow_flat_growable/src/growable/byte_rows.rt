@@ -21,7 +21,7 @@ use crate::growable::empty_nulls::are_nulls_empty;
 use crate::growable::parts::{GrowableParts, Part, copy_all};
 use arrow_arrays::array::AnyRows;
 use arrow_flat::array::{ByteKind, ByteRows, FlatArray};
-use arrow_memory::bitmap::{BitRuns, Bitmap, Mask, WORD_BITS};
+use arrow_memory::bitmap::{Bitmap, Mask, WORD_BITS, WordRuns};
 use arrow_memory::buffer::Buffer;
 use arrow_memory::bytes::append_span;
 use arrow_memory::offset::{Offsets, OffsetsBuffer};
@@ -416,7 +416,7 @@ fn part_masked_rows<O: Offset>(
         &mut bytes.parts,
         index,
         rows,
-        bits.runs(),
+        bits.word_runs(),
         start,
         len,
         count,
@@ -431,7 +431,7 @@ fn push_valid<O: Offset>(
     parts: &mut Vec<Part<u8>>,
     index: usize,
     rows: &OffsetsBuffer<O>,
-    runs: BitRuns<'_>,
+    runs: WordRuns,
     start: usize,
     len: usize,
     count: usize,
@@ -444,16 +444,14 @@ fn push_valid<O: Offset>(
     ensures { (sources : List (List ℕ)) → index < length sources
         → last_of rows.now ≤ length (slice_index_or sources index [])
         → AppendsParts sources parts.old.items parts.new.items
-        (valid_values runs.entry rows.now (slice_index_or sources index []) start) }
+        (valid_values runs rows.now (slice_index_or sources index []) start) }
 {
     let (first, end) = rows.range(start, len);
     if count < end - first {
         push_runs(parts, index, rows, runs, start, len);
         return;
     }
-    let Ok(()) = parts.push(Part::Of(index, first, end - first)) else {
-        unreachable!();
-    };
+    parts.push_reserved(Part::Of(index, first, end - first));
 }
 
 // Appends a part of a source for each run of those of `len` rows from row `start` on whose bit is set. There is room for as many
@@ -462,7 +460,7 @@ fn push_runs<O: Offset>(
     parts: &mut Vec<Part<u8>>,
     index: usize,
     rows: &OffsetsBuffer<O>,
-    runs: BitRuns<'_>,
+    runs: WordRuns,
     start: usize,
     len: usize,
 )
@@ -472,7 +470,7 @@ fn push_runs<O: Offset>(
     ensures { (sources : List (List ℕ)) → index < length sources
         → last_of rows.now ≤ length (slice_index_or sources index [])
         → AppendsParts sources parts.old.items parts.new.items
-        (valid_values runs.entry rows.now (slice_index_or sources index []) start) }
+        (valid_values runs rows.now (slice_index_or sources index []) start) }
 {
     prove!(start < rows.len());
     let mut left = runs;
@@ -481,9 +479,7 @@ fn push_runs<O: Offset>(
     while row < end {
         let (nulls, count) = left.next_set();
         let (first, last) = rows.range(row + nulls, count);
-        let Ok(()) = parts.push(Part::Of(index, first, last - first)) else {
-            unreachable!();
-        };
+        parts.push_reserved(Part::Of(index, first, last - first));
         row += nulls + count;
     }
 }

@@ -191,7 +191,7 @@ fn append_set(bits: &mut Option<MutableBitmap>, len: usize) -> Result<(), Error>
 }
 
 // Appends a part of a bitmap to the bits of so many rows.
-#[inline(always)]
+#[inline(never)]
 fn append_part(
     alloc: Global,
     bits: &mut Option<MutableBitmap>,

@@ -278,7 +278,7 @@ fn rows_under(index: usize, start: usize, bits: &Mask) -> Waiting
         (filled bits.now (sliced (row_bytes array) start (length bits.now))) result }
 {
     let len = bits.len();
-    let mut runs = bits.runs();
+    let mut runs = bits.word_runs();
     let (nulls, count) = runs.next_set();
     if count == len {
         Waiting::Of(index, start, len)

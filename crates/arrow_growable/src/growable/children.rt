@@ -18,12 +18,12 @@ use crate::growable::any::AnyGrowable;
 use crate::growable::fields::extend_flat;
 use crate::growable::spans::Spans;
 use arrow_arrays::array::AnyArray;
-use arrow_memory::bitmap::{Bitmap, Mask};
+use arrow_memory::bitmap::{Bitmap, Mask, WORD_BITS};
 use arrow_types::error::Error;
 use std::alloc::Global;
 
 /// The fewest rows of fixed-size lists whose items are appended under a validity of their own, where some may be null.
-const SOME: usize = 32;
+const SOME: usize = 8;
 
 // Appends to each child what `len` rows of bound array `index` name of it, from row `start` on: null slots for
 // those that are null.
@@ -90,16 +90,47 @@ fn extend_child(
 {
     match validity {
         None => extend_run(child, rows, index, start, len),
-        Some(validity) => {
-            if rows.have_none_beneath(validity, start, len) {
-                return extend_run(child, rows, index, start, len);
-            }
-            if go_under(child, rows, len) {
-                return extend_under(alloc, child, rows, validity, index, start, len);
-            }
-            extend_runs(child, rows, validity, index, start, len)
-        }
+        Some(validity) => extend_nullable(alloc, child, rows, validity, index, start, len),
     }
+}
+
+// The same of rows of which some may be null: a call of its own, so that those without nulls need few registers.
+#[cycle(extend)]
+#[inline(never)]
+fn extend_nullable(
+    alloc: Global,
+    child: &mut AnyGrowable,
+    rows: &Spans,
+    validity: &Bitmap,
+    index: usize,
+    start: usize,
+    len: usize,
+) -> Result<(), Error>
+    requires sound { AreSpans rows.now }
+    requires part { start + len ≤ span_count rows.now }
+    requires covered { start + len ≤ length validity.now }
+    requires bound { BindsRows (grown_of child.old) index (span_place rows.now (span_count rows.now)) }
+    requires well { IsWell (grown_of child.old) }
+    ensures ok { OnOk result (GrownBy (grown_of child.old) (grown_of child.new)
+        (spread (span_nulls rows.now) (null_slot (grown_of child.old).arrow_type)
+        (sliced validity.now start len) (span_place rows.now)
+        (bound_rows (grown_of child.old) index) start)) }
+    ensures kept { SameBound (grown_of child.old) (grown_of child.new) }
+    ensures overflow { result ≡ Err Error.Overflow
+        → CannotGrow (grown_of child.old) index
+        (LiesIn (sliced validity.now start len) (span_place rows.now) start)
+        (spread (span_nulls rows.now) (null_slot (grown_of child.old).arrow_type)
+        (sliced validity.now start len) (span_place rows.now)
+        (bound_rows (grown_of child.old) index) start) }
+    ensures others { IfErr result IsGrowthError }
+{
+    if rows.have_none_beneath(validity, start, len) {
+        return extend_run(child, rows, index, start, len);
+    }
+    if go_under(child, rows, len) {
+        return extend_under(alloc, child, rows, validity, index, start, len);
+    }
+    extend_runs(child, rows, validity, index, start, len)
 }
 
 // Whether `len` rows, of which some may be null, name rows of a child that are appended under a validity of their own: many
@@ -161,6 +192,9 @@ fn mask_of_items(
     ensures ok { IfOk result (λ own. own ≡ flat_map (replicate size) (sliced validity.now start len)) }
     ensures err { IsOkUnless result Error.OutOfMemory }
 {
+    if len * size <= WORD_BITS {
+        return Ok(Mask::repeated(validity, start, len, size));
+    }
     let bits = validity.repeated(alloc, start, len, size)?;
     Ok(Mask::from_bitmap(bits))
 }

@@ -28,31 +28,26 @@ children::extend_child-returns-in-None-clause-overflow t c overflows =
     let all = spread_all (span_nulls spans) (null_slot g.arrow_type) (span_place spans) (bound_rows g c.args.index) (span_count spans) (rises_in spans g c.args.index c.requires.sound c.requires.bound) c.args.len c.args.start c.requires.part in
     rw c.in-None.is (subst (CannotGrow g c.args.index (LiesIn (bits_of_slice None c.args.start c.args.len) (span_place spans) c.args.start)) (sym all) (names_more g c.args.index _ _ _ (λ j within. lies_in_all c.args.len (span_place spans) c.args.start j within) (c.extend_run.ensures.overflow overflows)))
 
-pub children::extend_child-returns-else-go_under-clause-overflow : goal.children::extend_child-returns-else-go_under-clause-overflow
-children::extend_child-returns-else-go_under-clause-overflow t c overflows =
-    rw c.in-Some.is (c.extend_runs.ensures.overflow overflows)
+pub children::extend_child-returns-in-Some-clause-overflow : goal.children::extend_child-returns-in-Some-clause-overflow
+children::extend_child-returns-in-Some-clause-overflow t c overflows =
+    rw c.in-Some.is (c.extend_nullable.ensures.overflow overflows)
 
-pub children::extend_child-returns-then-go_under-clause-overflow : goal.children::extend_child-returns-then-go_under-clause-overflow
-children::extend_child-returns-then-go_under-clause-overflow t c overflows =
-    rw c.in-Some.is (c.extend_under.ensures.overflow overflows)
-
-pub children::extend_child-returns-then-have_none_beneath-clause-ok : goal.children::extend_child-returns-then-have_none_beneath-clause-ok
-children::extend_child-returns-then-have_none_beneath-clause-ok t c =
+pub children::extend_nullable-returns-then-have_none_beneath-clause-ok : goal.children::extend_nullable-returns-then-have_none_beneath-clause-ok
+children::extend_nullable-returns-then-have_none_beneath-clause-ok t c =
     let g = grown_of c.args.child.now in
     let spans = c.args.rows.now in
-    let valid = c.in-Some.validity.now in
-    let part = spread_part spans g c.args.index c.args.start c.args.len valid c.requires.sound c.requires.bound c.requires.part (search rules) (c.have_none_beneath.ensures.slots c.if-have_none_beneath.true) (c.have_none_beneath.ensures.rows c.if-have_none_beneath.true) in
-    rw c.in-Some.is (on_ok c.extend_run-then-have_none_beneath.result c.extend_run-then-have_none_beneath.ensures.ok (λ grown. subst (GrownBy g (grown_of c.extend_run-then-have_none_beneath.new.child)) (sym part) grown))
+    let part = spread_part spans g c.args.index c.args.start c.args.len c.args.validity.now c.requires.sound c.requires.bound c.requires.part (search rules) (c.have_none_beneath.ensures.slots c.if-have_none_beneath.true) (c.have_none_beneath.ensures.rows c.if-have_none_beneath.true) in
+    on_ok c.extend_run.result c.extend_run.ensures.ok (λ grown. subst (GrownBy g (grown_of c.extend_run.new.child)) (sym part) grown)
 
-pub children::extend_child-returns-then-have_none_beneath-clause-overflow : goal.children::extend_child-returns-then-have_none_beneath-clause-overflow
-children::extend_child-returns-then-have_none_beneath-clause-overflow t c overflows =
+pub children::extend_nullable-returns-then-have_none_beneath-clause-overflow : goal.children::extend_nullable-returns-then-have_none_beneath-clause-overflow
+children::extend_nullable-returns-then-have_none_beneath-clause-overflow t c overflows =
     let g = grown_of c.args.child.now in
     let spans = c.args.rows.now in
-    let valid = c.in-Some.validity.now in
+    let valid = c.args.validity.now in
     let bare = c.have_none_beneath.ensures.rows c.if-have_none_beneath.true in
     let part = spread_part spans g c.args.index c.args.start c.args.len valid c.requires.sound c.requires.bound c.requires.part (search rules) (c.have_none_beneath.ensures.slots c.if-have_none_beneath.true) bare in
     let many = length-sliced valid c.args.start c.args.len (search rules) in
-    rw c.in-Some.is (subst (CannotGrow g c.args.index (LiesIn (sliced valid c.args.start c.args.len) (span_place spans) c.args.start)) (sym part) (names_more g c.args.index _ _ _ (λ j within. lies_bare (sliced valid c.args.start c.args.len) (span_place spans) c.args.start j bare (within.0, omega (arith, within.1, ap (λ k. span_place spans (c.args.start + k)) many))) (c.extend_run-then-have_none_beneath.ensures.overflow overflows)))
+    subst (CannotGrow g c.args.index (LiesIn (sliced valid c.args.start c.args.len) (span_place spans) c.args.start)) (sym part) (names_more g c.args.index _ _ _ (λ j within. lies_bare (sliced valid c.args.start c.args.len) (span_place spans) c.args.start j bare (within.0, omega (arith, within.1, ap (λ k. span_place spans (c.args.start + k)) many))) (c.extend_run.ensures.overflow overflows))
 
 -- all children
 

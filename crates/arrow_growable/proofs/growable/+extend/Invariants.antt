@@ -8,7 +8,10 @@ abbrev pub decreases-children::extend_children : goal.decreases-children::extend
 decreases-children::extend_children l = 10 * deepest (map (λ g. g.arrow_type) (map grown_of l.children.now))
 
 abbrev pub decreases-children::extend_child : goal.decreases-children::extend_child
-decreases-children::extend_child l = 10 * type_depth ((grown_of l.child.now).arrow_type) + 8
+decreases-children::extend_child l = 10 * type_depth ((grown_of l.child.now).arrow_type) + 9
+
+abbrev pub decreases-children::extend_nullable : goal.decreases-children::extend_nullable
+decreases-children::extend_nullable l = 10 * type_depth ((grown_of l.child.now).arrow_type) + 8
 
 abbrev pub decreases-children::extend_runs : goal.decreases-children::extend_runs
 decreases-children::extend_runs l = 10 * type_depth ((grown_of l.child.now).arrow_type) + 7

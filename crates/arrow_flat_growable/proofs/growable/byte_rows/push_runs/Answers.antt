@@ -12,4 +12,4 @@ loop-row-preserved g c =
     let before = c.loop-row.invariant in
     let bits = c.next_set-nulls.ensures.bits in
     let long = run_long nulls count c.loop-row.left c.next_set-nulls.new.self bits in
-    (omega (arith, before.0, long), omega (arith, before.1, c.in-Ok.ensures.len, c.in-Ok.ensures.capacity, c.next_set-nulls.ensures.some, before.0, long), λ sources there within. run_more sources c.args.index others there c.len.ensures.sound within c.args.parts.now.items c.loop-row.parts.items c.push.new.self.items (valid_values c.args.runs others (get_or sources c.args.index []) c.args.start) nulls count row c.range-first.result.0 c.range-first.result.1 c.loop-row.left c.next_set-nulls.new.self bits (omega (arith, before.0, c.requires.part)) c.range-first.ensures.start c.range-first.ensures.end c.in-Ok.ensures.items (before.2 sources there within))
+    (omega (arith, before.0, long), omega (arith, before.1, c.push_reserved.ensures.len, c.push_reserved.ensures.capacity, c.next_set-nulls.ensures.some, before.0, long), λ sources there within. run_more sources c.args.index others there c.len.ensures.sound within c.args.parts.now.items c.loop-row.parts.items c.push_reserved.new.self.items (valid_values c.args.runs others (get_or sources c.args.index []) c.args.start) nulls count row c.range-first.result.0 c.range-first.result.1 c.loop-row.left c.next_set-nulls.new.self bits (omega (arith, before.0, c.requires.part)) c.range-first.ensures.start c.range-first.ensures.end c.push_reserved.ensures.items (before.2 sources there within))

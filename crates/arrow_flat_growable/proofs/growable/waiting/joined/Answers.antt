@@ -1,5 +1,5 @@
 use Rattle.std.proofs.Common.{ap₂}
-use Rattle.arrow_flat_growable.proofs.Common.{arith, ◌≡◌, ◌<◌, ◌-◌, ◌++◌, ◌∙◌, ap, sym, subst, length, slice_index_or, get_or_default, LieThere, Waits, part_of_bound, waiting_rows}
+use Rattle.arrow_flat_growable.proofs.Common.{arith, ◌≡◌, ◌-◌, ◌++◌, ◌∙◌, ap, sym, subst, length, slice_index_or, get_or_default, LieThere, Waits, part_of_bound, waiting_rows}
 use Rattle.arrow_flat_growable.specs.declared.growable.waiting.Waiting.TheVariants as waiting
 use Rattle.arrow_flat_growable.proofs.WaitingLemmas.{rows_joined}
 use Rattle.arrow_flat_growable.proofs.growable.waiting.joined.Goals as goal
