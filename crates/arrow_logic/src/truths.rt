@@ -12,6 +12,7 @@ use arrow_types::datatypes::DataType;
 ///
 /// # Requires
 /// A validity has a bit for each value.
+#[inline(always)]
 pub fn truths(values: Bitmap, validity: Option<Bitmap>) -> BooleanArray
     requires { FitsRows validity (length values) }
     ensures { result ≡ record { arrow_type = plain boolean; values = values; validity = validity } }

@@ -10,6 +10,7 @@ use arrow_types::error::Error;
 ///
 /// # Errors
 /// `OutOfMemory` where the count of owners is full.
+#[inline(always)]
 pub fn shared(validity: Option<&Bitmap>) -> Result<Option<Bitmap>, Error>
     ensures ok { IfOk result (λ copy. copy ≡ option_copied validity.entry) }
     ensures err { IsOkUnless result Error.OutOfMemory }

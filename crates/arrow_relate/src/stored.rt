@@ -78,6 +78,7 @@ pub(crate) fn relate_by<R: FixedRelation, V: RelatedBy<R>>(
 }
 
 // Whether a relation holds of each row and a scalar, and null where the row is.
+#[inline(always)]
 pub(crate) fn relate_scalar_by<R: FixedRelation, V: RelatedToScalar<R, S>, S>(
     alloc: Global,
     lhs: &FlatArray<V>,
@@ -110,6 +111,7 @@ pub(crate) fn same_by<E: Sameness, V: RelatedBy<E>>(
 }
 
 // Whether each row is the scalar, or whether it differs from it: a null does. No row is null.
+#[inline(always)]
 pub(crate) fn same_scalar_by<E: Sameness, V: RelatedToScalar<E, S>, S>(
     alloc: Global,
     lhs: &FlatArray<V>,

@@ -73,6 +73,7 @@ fn known_bits(alloc: Global, spare: bool, answers: &BooleanArray) -> Result<Bitm
 }
 
 // So many answers, all null.
+#[inline(never)]
 pub(super) fn all_null(alloc: Global, len: usize) -> Result<BooleanArray, Error>
     ensures array_type { IfOk result (λ array. array.arrow_type ≡ plain boolean) }
     ensures rows { IfOk result (λ array. boolean_rows array ≡ replicate len Null) }

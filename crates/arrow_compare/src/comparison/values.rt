@@ -70,6 +70,7 @@ fn known<T: Copy>(value: Option<T>) -> T
 }
 
 // [`relate_flat`] of primitives of one element type.
+#[inline(never)]
 fn relate_primitive(
     alloc: Global,
     by: Relation,

@@ -163,6 +163,7 @@ pub fn gt_eq_scalar<O: Offset>(
 ///
 /// # Errors
 /// `OutOfMemory` where memory is refused.
+#[inline(never)]
 pub fn relate_scalar<O: Offset>(
     alloc: Global,
     by: Relation,

@@ -298,6 +298,7 @@ pub fn relate(
 ///
 /// # Errors
 /// `OutOfMemory` where memory is refused.
+#[inline(never)]
 pub fn relate_scalar(
     alloc: Global,
     by: Relation,
@@ -385,6 +386,7 @@ impl<R: FixedRelation> RelatedToScalar<R, bool> for Bitmap {
 
     ghost IsScalar = { λ scalar. Unit {0} };
 
+    #[inline(always)]
     fn related_scalar_bits(alloc: Global, lhs: &BooleanArray, rhs: bool) -> Result<Bitmap, Error> {
         let unset = R::holds(false.cmp(&rhs));
         let set = R::holds(true.cmp(&rhs));
@@ -393,6 +395,7 @@ impl<R: FixedRelation> RelatedToScalar<R, bool> for Bitmap {
 }
 
 // The bits with `unset` for each that is not set, and `set` for each that is. Those that stay as they are, are shared.
+#[inline(always)]
 fn replaced(alloc: Global, bits: &Bitmap, unset: bool, set: bool) -> Result<Bitmap, Error>
     ensures ok { IfOk result (λ made. made ≡ map (λ bit. if bit then set else unset) bits.now) }
     ensures err { IsOkUnless result Error.OutOfMemory }
