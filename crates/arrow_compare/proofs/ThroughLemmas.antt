@@ -23,7 +23,7 @@ use Rattle.arrow_arrays.specs.Any.{Kind, any_array_rows, any_array_type, diction
 use Rattle.arrow_arrays.specs.KeyedParts.{KeyedParts}
 use Rattle.arrow_arrays.specs.declared.array.any.AnyArray.{AnyArray}
 use Rattle.arrow_arrays.specs.declared.array.any.AnyArray.TheVariants as array
-use Rattle.arrow_logic.proofs.MaskedLemmas.{map-masked}
+use Rattle.arrow_flat.proofs.RowLemmas.{map-masked}
 use Rattle.arrow_relate.proofs.RowLemmas.{row_by_row-replicate}
 use Rattle.arrow_compare.specs.Compared.{HasEquality, type_through}
 use Rattle.arrow_compare.specs.Kinds.{IsThrough, KindHasEquality, KindHasRelation, scalar_kind}

@@ -2,6 +2,7 @@ pub mod FixedLemmas
 pub mod LengthLemmas
 pub mod PartsLemmas
 pub mod PieceLemmas
+pub mod RowLemmas
 pub mod RunLemmas
 pub mod ScalarLemmas
 pub mod StoredLemmas

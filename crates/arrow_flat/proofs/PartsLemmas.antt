@@ -4,6 +4,7 @@ use Rattle.std.specs.Prelude.{cond, count_by, option_map, IfSome}
 use Rattle.std.specs.Bool.{Decides}
 use Rattle.std.specs.List.{All}
 use Rattle.std.proofs.lemmas.Bool.Decides.{same_from_decides}
+use Rattle.std.proofs.Math.Bool.{not-not}
 use Rattle.std.proofs.Math.Seq.{take-suc}
 use Rattle.std.proofs.lemmas.List.{drop-replicate, take-replicate, get_or-drop, length-drop}
 use Rattle.std.proofs.lemmas.List.Sums.{sum_by-cons}
@@ -98,6 +99,16 @@ null_count-mask (false ∷ bits) (x ∷ xs) values fits =
 pub null_count-masked : (v : Option (List Bool)) (xs : List Slot) → All IsValue xs → FitsRows v (length xs) → count_by is_null (masked v xs) ≡ unset_in v
 null_count-masked None xs values fits = none_null xs values
 null_count-masked (Some bits) xs values fits = null_count-mask bits xs values fits
+
+unset_are_null : (xs : List Slot) → count_by not (map (λ s. not (is_null s)) xs) ≡ count_by is_null xs
+unset_are_null [] = refl
+unset_are_null (x ∷ xs) =
+    let first : cond (not (not (is_null x))) 1 0 ≡ cond (is_null x) 1 0 = ap (λ b. cond {A = ℕ} b 1 0) (not-not (is_null x)) in
+    omega (arith, first, unset_are_null xs, sum_by-cons (λ b. cond (not b) 1 0) (not (is_null x)) (map (λ s. not (is_null s)) xs), sum_by-cons (λ s. cond (is_null s) 1 0) x xs)
+
+pub null_count-marked : (v : Option (List Bool)) (xs : List Slot) → MarksNulls v xs → count_by is_null xs ≡ unset_in v
+null_count-marked None xs values = none_null xs values
+null_count-marked (Some bits) xs marks = sym (ap (count_by not) marks ∙ unset_are_null xs)
 
 -- and they mark which
 marks-mask : (bits : List Bool) (xs : List Slot) → All IsValue xs → length bits ≡ length xs → bits ≡ map (λ s. not (is_null s)) (mask bits xs)

@@ -14,3 +14,5 @@ pub mod Pieces
 pub mod RowByRow
 pub mod ScalarFalls
 pub mod Scalars
+pub mod Truths
+pub mod Validities

@@ -22,6 +22,7 @@ mod byte_rows;
 mod fixed_size_binary;
 mod null;
 mod primitive;
+pub mod truths;
 mod utf8;
 pub mod validity;
 

@@ -1,7 +1,8 @@
 -- What a connective makes of two arrays of truth values, row by row.
 use Rattle.arrow_logic.proofs.Common.{◌≡◌, ℕ, ◌^◌, ◌<◌, w64, ◌&&◌, ◌||◌, Bool, true, false, not, Option, Some, None, List, [], ◌∷◌, length, map, if◌then◌else◌, refl, ap, sym, subst, ◌∙◌, arith, bit_or, bit_at, bit_not, length-map, both, either, kleene_both, kleene_either, mask, masked, Slot, Null, Boolean, both_bits, by_fours, either_bits, first_bits, paired, FitsRows, length-masked, bits_by, slot_by, kleene_by, decides, known_bit, known_side, row_by_row, combined, Connective, And, Or, and_each, and_not_each, length-paired, or_each}
 use Rattle.std.specs.Prelude.{◌==◌, bit_and}
-use Rattle.arrow_logic.proofs.MaskedLemmas.{bits_of, masked-by_bits, length-bits_of, bits_of-combined, fits_combined, bits_of-known_side, fits_known_side}
+use Rattle.arrow_flat.proofs.RowLemmas.{fits_combined}
+use Rattle.arrow_logic.proofs.MaskedLemmas.{bits_of, masked-by_bits, length-bits_of, bits_of-combined, bits_of-known_side, fits_known_side}
 
 -- one row: what is stored, where it is valid
 abbrev row : Bool → Bool → Slot

@@ -1,18 +1,8 @@
 -- Truth values under a validity: what a function of each row gives, and validities as bits.
 use Rattle.arrow_logic.proofs.Common.{◌≡◌, ℕ, suc, ◌&&◌, ◌||◌, Bool, true, false, Option, Some, None, List, [], ◌∷◌, length, map, replicate, refl, ap, sym, ◌∙◌, length-map, length-replicate, mask, masked, Slot, Null, Boolean, both_bits, either_bits, length-paired, FitsRows, known_side, AreOneLength, combined}
+use Rattle.arrow_flat.proofs.RowLemmas.{map-masked}
 
 -- ---- a function of each row
-
--- where it gives Null of Null, the rows under a validity are those of what is stored
-map-mask : (f : Slot → Slot) → f Null ≡ Null → (bits : List Bool) (xs : List Slot) → map f (mask bits xs) ≡ mask bits (map f xs)
-map-mask f none [] xs = refl
-map-mask f none (b ∷ bits) [] = refl
-map-mask f none (true ∷ bits) (x ∷ xs) = ap (λ ys. f x ∷ ys) (map-mask f none bits xs)
-map-mask f none (false ∷ bits) (x ∷ xs) = λ i. none i ∷ map-mask f none bits xs i
-
-pub map-masked : (f : Slot → Slot) → f Null ≡ Null → (v : Option (List Bool)) (xs : List Slot) → map f (masked v xs) ≡ masked v (map f xs)
-map-masked f none None xs = refl
-map-masked f none (Some bits) xs = map-mask f none bits xs
 
 -- where it gives the same of each truth value and of Null
 pub map-constant : (f : Slot → Slot) (c : Slot) → ((x : Bool) → f (Boolean x) ≡ c) → (xs : List Bool) → map f (map Boolean xs) ≡ replicate (length xs) c
@@ -83,11 +73,6 @@ bits_of-combined None None n fits other = ones-both n
 bits_of-combined None (Some ws) n fits other = ones-left ws ∙ ap (λ k. both_bits (replicate k true) ws) other
 bits_of-combined (Some vs) None n fits other = ones-right vs ∙ ap (λ k. both_bits vs (replicate k true)) fits
 bits_of-combined (Some vs) (Some ws) n fits other = refl
-
-pub fits_combined : (v w : Option (List Bool)) (n : ℕ) → FitsRows v n → FitsRows w n → FitsRows (combined v w) n
-fits_combined None w n fits other = other
-fits_combined (Some vs) None n fits other = fits
-fits_combined (Some vs) (Some ws) n fits other = length-paired (λ x y. x && y) vs ws (fits ∙ sym other) ∙ fits
 
 -- one with the rows at which the other side decides
 ones-either : (bits : List Bool) → replicate (length bits) true ≡ either_bits (replicate (length bits) true) bits

@@ -10,7 +10,7 @@ use Rattle.arrow_logic.specs.declared.connective.Connective.TheVariants.{And, Or
 use Rattle.arrow_logic.specs.Laws.{length_within}
 use Rattle.arrow_logic.specs.Nullif.{valid_but, within_valid}
 use Rattle.arrow_flat.specs.RowByRow.{row_by_row}
-use Rattle.arrow_logic.specs.Validities.{combined}
+use Rattle.arrow_flat.specs.Validities.{combined}
 
 -- the rows [f, t, _] and [t, t, f]
 abbrev left : List Slot

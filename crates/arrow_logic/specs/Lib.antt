@@ -11,5 +11,3 @@ pub mod Nullif
 pub mod Substring
 pub mod SubstringExamples
 pub mod SubstringLaws
-pub mod Truths
-pub mod Validities

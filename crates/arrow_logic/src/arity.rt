@@ -15,8 +15,8 @@ ghost use Rattle.arrow_logic.specs.Gathered.{answers_at, answers_parts, parts_of
 
 mod gather;
 
-use crate::utils::combine_validities;
 use arrow_flat::array::PrimitiveArray;
+use arrow_flat::array::validity::combine_validities;
 use arrow_memory::bitmap::Bitmap;
 use arrow_memory::buffer::Buffer;
 use arrow_types::datatypes::DataType;

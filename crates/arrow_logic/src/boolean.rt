@@ -13,14 +13,13 @@ ghost use Rattle.arrow_flat.specs.Scalars.{slot_by as scalar_slot};
 ghost use Rattle.arrow_arrays.specs.Any.{any_array_rows, kind_of, null_kind};
 ghost use Rattle.arrow_logic.specs.Connective.{slot_by};
 ghost use Rattle.arrow_flat.specs.RowByRow.{row_by_row};
-ghost use Rattle.arrow_logic.specs.Truths.{AnswersTruths};
+ghost use Rattle.arrow_flat.specs.Truths.{AnswersTruths};
 
 use crate::connective::Connective;
-use crate::truths::truths;
-use crate::utils::combine_validities;
-use crate::validity::shared;
 use arrow_arrays::array::AnyArray;
 use arrow_flat::array::BooleanArray;
+use arrow_flat::array::truths::truths;
+use arrow_flat::array::validity::{combine_validities, shared};
 use arrow_flat::scalar::BooleanScalar;
 use arrow_memory::bitmap::{Bitmap, WORD_BITS};
 use arrow_types::error::Error;

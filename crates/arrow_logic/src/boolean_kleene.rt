@@ -9,14 +9,14 @@ ghost use Rattle.arrow_flat.specs.Parts.{boolean_rows, FitsRows};
 ghost use Rattle.arrow_flat.specs.Scalars.{slot_by as scalar_slot};
 ghost use Rattle.arrow_logic.specs.Connective.{decides, kleene_by, known_side};
 ghost use Rattle.arrow_flat.specs.RowByRow.{row_by_row};
-ghost use Rattle.arrow_logic.specs.Validities.{combined};
-ghost use Rattle.arrow_logic.specs.Truths.{AnswersTruths};
+ghost use Rattle.arrow_flat.specs.Validities.{combined};
+ghost use Rattle.arrow_flat.specs.Truths.{AnswersTruths};
 
 use crate::boolean;
 use crate::connective::Connective;
-use crate::truths::truths;
-use crate::validity::shared;
 use arrow_flat::array::BooleanArray;
+use arrow_flat::array::truths::truths;
+use arrow_flat::array::validity::shared;
 use arrow_flat::scalar::BooleanScalar;
 use arrow_memory::bitmap::Bitmap;
 use arrow_types::error::Error;

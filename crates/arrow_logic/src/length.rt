@@ -18,8 +18,8 @@ ghost use Rattle.arrow_logic.specs.Kept.{kept};
 ghost use Rattle.arrow_memory.specs.Ends.{word_length};
 ghost use Rattle.arrow_logic.specs.Length.{HasBitsFrom, HasLength, IsLengthRefusal, length_type, stored_length, stored_numbers};
 
-use crate::validity::shared;
 use arrow_arrays::array::AnyArray;
+use arrow_flat::array::validity::shared;
 use arrow_flat::array::{AnyPrimitive, PrimitiveArray, Utf8Array};
 use arrow_memory::bitmap::{Bitmap, WORD_BITS};
 use arrow_memory::buffer::Buffer;

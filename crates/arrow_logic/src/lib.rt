@@ -11,6 +11,4 @@ pub mod laws;
 pub mod length;
 pub mod nullif;
 pub mod substring;
-pub mod truths;
 pub mod utils;
-pub mod validity;

@@ -17,8 +17,8 @@ ghost use Rattle.arrow_logic.specs.Substring.{HasParts, IsCutByBytes, IsSubstrin
 
 mod units;
 
-use crate::validity::shared;
 use arrow_arrays::array::AnyArray;
+use arrow_flat::array::validity::shared;
 use arrow_flat::array::{ByteRows, FlatArray};
 use arrow_memory::buffer::Buffer;
 use arrow_memory::bytes::append_span;

@@ -17,7 +17,7 @@ use Rattle.arrow_flat.proofs.PartsLemmas.{length-masked, row_at}
 use Rattle.arrow_flat.specs.RowByRow.{row_by_row}
 use Rattle.arrow_memory.proofs.LogicLemmas.{and_each, not_each, or_each}
 use Rattle.arrow_relate.specs.Finished.{finished}
-use Rattle.arrow_logic.proofs.PairLemmas.{get_or-row_by_row, length-row_by_row}
+use Rattle.arrow_flat.proofs.RowLemmas.{get_or-row_by_row, length-row_by_row}
 use Rattle.arrow_relate.proofs.RowLemmas.{row_by_row-replicate}
 use Rattle.arrow_relate.proofs.TruthLemmas.{is_one, not_equal_word, relates}
 

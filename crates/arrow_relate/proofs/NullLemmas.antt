@@ -8,9 +8,9 @@ use Rattle.arrow_memory.specs.Bits.{both_bits}
 use Rattle.arrow_flat.specs.Parts.{FitsRows}
 use Rattle.arrow_flat.proofs.PartsLemmas.{length-masked}
 use Rattle.arrow_flat.specs.RowByRow.{row_by_row}
-use Rattle.arrow_logic.specs.Validities.{combined}
-use Rattle.arrow_logic.proofs.MaskedLemmas.{fits_combined, map-masked}
-use Rattle.arrow_logic.proofs.PairLemmas.{length-row_by_row}
+use Rattle.arrow_flat.specs.Validities.{combined}
+use Rattle.arrow_flat.proofs.RowLemmas.{fits_combined, map-masked}
+use Rattle.arrow_flat.proofs.RowLemmas.{length-row_by_row}
 
 module _ (give : Slot → Slot → Slot) (left_null : (s : Slot) → give Null s ≡ Null) (right_null : (s : Slot) → give s Null ≡ Null) where
   left_masked : (vs : List Bool) (xs ys : List Slot) → row_by_row give (mask vs xs) ys ≡ mask vs (row_by_row give xs ys)

@@ -10,7 +10,7 @@ use Rattle.std.proofs.lemmas.Simd.{map-map, splat_is_map}
 use Rattle.arrow_types.specs.Relation.{Relation, bool_order, related}
 use Rattle.arrow_types.specs.Slot.{Slot, Boolean}
 use Rattle.arrow_flat.specs.RowByRow.{row_by_row}
-use Rattle.arrow_logic.proofs.PairLemmas.{length-row_by_row}
+use Rattle.arrow_flat.proofs.RowLemmas.{length-row_by_row}
 use Rattle.arrow_memory.specs.Bits.{paired}
 use Rattle.arrow_memory.specs.Gathered.{AnswersBits}
 use Rattle.arrow_relate.proofs.WordLemmas.{answered_rows}

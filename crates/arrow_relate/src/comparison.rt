@@ -11,7 +11,7 @@ ghost use Rattle.arrow_types.specs.Slot.{Boolean};
 ghost use Rattle.arrow_flat.specs.Parts.{FitsRows, boolean_rows};
 ghost use Rattle.arrow_relate.specs.Finished.{finished};
 ghost use Rattle.arrow_relate.specs.Words.{IsWordOf};
-ghost use Rattle.arrow_logic.specs.Truths.{AnswersTruths};
+ghost use Rattle.arrow_flat.specs.Truths.{AnswersTruths};
 
 /// A call at a relation that is known when the program runs: its first type parameter, `_`, is that relation.
 macro_rules! by_relation {
@@ -36,8 +36,8 @@ pub mod utf8;
 
 use crate::fixed::{Equal, NotEqual, Sameness};
 use arrow_flat::array::BooleanArray;
-use arrow_logic::truths::truths;
-use arrow_logic::validity::shared;
+use arrow_flat::array::truths::truths;
+use arrow_flat::array::validity::shared;
 use arrow_memory::bitmap::Bitmap;
 use arrow_types::error::Error;
 use std::alloc::Global;

@@ -2,7 +2,7 @@
 //! validities are looked at afterwards, a word at a time.
 
 ghost use Rattle.std.specs.Prelude.{◌≡◌, length, map, IfOk, IsOkUnless};
-ghost use Rattle.arrow_logic.specs.Truths.{AnswersTruths};
+ghost use Rattle.arrow_flat.specs.Truths.{AnswersTruths};
 ghost use Rattle.arrow_types.specs.declared.error.Error.{Error};
 ghost use Rattle.arrow_types.specs.ArrowType.{boolean, plain};
 ghost use Rattle.arrow_types.specs.Relation.{related};
@@ -12,10 +12,9 @@ ghost use Rattle.arrow_flat.specs.RowByRow.{row_by_row};
 
 use crate::comparison::finish;
 use crate::fixed::{FixedRelation, Sameness};
+use arrow_flat::array::truths::truths;
+use arrow_flat::array::validity::{combine_validities, shared};
 use arrow_flat::array::{BooleanArray, FlatArray, Values};
-use arrow_logic::truths::truths;
-use arrow_logic::utils::combine_validities;
-use arrow_logic::validity::shared;
 use arrow_memory::bitmap::Bitmap;
 use arrow_types::error::Error;
 use std::alloc::Global;

@@ -6,7 +6,8 @@ ghost use Rattle.arrow_types.specs.TypeOf.{type_of};
 
 use crate::parts::{self, OfPart};
 use crate::within::check_within;
-use arrow_arrays::array::{AnyArray, new_empty_array, new_null_array};
+use arrow_arrays::array::AnyArray;
+use arrow_new::{new_empty_array, new_null_array};
 use arrow_text::call::Call;
 use arrow_text::fault::Fault;
 use arrow_text::types::write_type;

@@ -1,7 +1,7 @@
 //! Validities of two sides, taken together, and lengths that are held against one another.
 
 ghost use Rattle.std.specs.Prelude.{IsTrue, option_copied};
-ghost use Rattle.arrow_logic.specs.Validities.{AreOneLength};
+ghost use Rattle.arrow_flat.specs.Validities.{AreOneLength};
 
 use arrow_arrays::array::AnyArray;
 use arrow_flat::array::BooleanArray;

@@ -70,8 +70,8 @@ pub use Rattle.arrow_logic.specs.Answers as Closures
 pub use Rattle.arrow_logic.specs.Length
 pub use Rattle.arrow_logic.specs.Nullif
 pub use Rattle.arrow_logic.specs.Substring
-pub use Rattle.arrow_logic.specs.Truths
-pub use Rattle.arrow_logic.specs.Validities
+pub use Rattle.arrow_flat.specs.Truths
+pub use Rattle.arrow_flat.specs.Validities
 pub use Rattle.arrow_relate.specs.Finished
 pub use Rattle.arrow_relate.specs.Same
 pub use Rattle.arrow_compare.specs.Can

@@ -7,12 +7,13 @@
 pub mod array {
     pub use arrow_arrays::array::{
         AnyArray, AnyKeys, AnyOffsetsBuffer, DictionaryArray, FixedSizeListArray, ListArray,
-        MapArray, StructArray, UnionArray, are_within, new_empty_array, new_null_array,
+        MapArray, StructArray, UnionArray, are_within,
     };
     pub use arrow_flat::array::{
         AnyPrimitive, BinaryArray, BooleanArray, FixedSizeBinaryArray, NullArray, PrimitiveArray,
         Utf8Array,
     };
+    pub use arrow_new::{new_empty_array, new_null_array};
     pub use arrow_types::types::DictionaryKey;
 
     /// Arrays under construction, by rows of other arrays.

@@ -1,6 +1,5 @@
 //! The example of the front page.
 
-use crate::lines::{PLAIN, check_lines};
 use arrow_arrays::array::AnyArray;
 use arrow_flat::array::{AnyPrimitive, BooleanArray, PrimitiveArray};
 use arrow_memory::bitmap::Bitmap;
@@ -12,6 +11,7 @@ use arrow_text::given::Array;
 use arrow_types::datatypes::DataType;
 use arrow_types::{ArgumentFault, Error};
 use std::alloc::Global;
+use test_lines::lines::{PLAIN, check_lines};
 
 // Numbers, as an array of any type.
 fn numbers(alloc: Global, values: Vec<i32>) -> Result<AnyArray, Error> {

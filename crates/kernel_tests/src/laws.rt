@@ -7,8 +7,6 @@ ghost use Rattle.arrow_choice.specs.Keys.{HasNoDictionary};
 ghost use Rattle.arrow_select.specs.Laws.{IsStructOrUnion, selected_of};
 ghost use Rattle.arrow_types.specs.TypeOf.{type_of};
 
-use crate::arrays::{numbers, truths};
-use crate::lines::{Answer, Line, PLAIN, check_lines};
 use arrow_arrays::array::{AnyArray, are_within};
 use arrow_arrays::chunk::Chunk;
 use arrow_compare::comparison::{can_eq, eq_and_validity};
@@ -30,6 +28,8 @@ use arrow_types::datatypes::DataType;
 use arrow_types::error::Error;
 use arrow_types::laws::{equals_both_ways, equals_itself, equals_through};
 use std::alloc::Global;
+use test_lines::arrays::{numbers, truths};
+use test_lines::lines::{Answer, Line, PLAIN, check_lines};
 
 /// The laws, by a name for those that are called together.
 const ANSWERS: [(&str, Answer); 14] = [

@@ -1,7 +1,5 @@
 //! Rows that a prepared filter copies into a growable of the caller's own, and more rows than can be printed.
 
-use crate::arrays::{numbers, truths};
-use crate::lines::{Answer, Line, PLAIN, check_lines};
 use arrow_arrays::array::AnyArray;
 use arrow_growable::growable::{Growable, GrowablePrimitive};
 use arrow_select::concatenate::concatenate;
@@ -10,6 +8,8 @@ use arrow_text::fault::Fault;
 use arrow_text::given::Array;
 use arrow_types::error::Error;
 use std::alloc::Global;
+use test_lines::arrays::{is_made, numbers, truths};
+use test_lines::lines::{Answer, Line, PLAIN, check_lines};
 
 /// What is tested, by name.
 const ANSWERS: [(&str, Answer); 2] = [("extend_into", extends), ("concatenate", joins)];
@@ -69,16 +69,6 @@ fn joins(alloc: Global, _name: &str, arrays: &[AnyArray]) -> Result<bool, Fault>
         [lhs, rhs, wanted] => is_made(alloc, concatenate(alloc, &[lhs, rhs]), wanted),
         _ => Err(Fault::Usage),
     }
-}
-
-// Whether a call made an array that is equal to another one.
-pub fn is_made(
-    alloc: Global,
-    outcome: Result<AnyArray, Error>,
-    wanted: &AnyArray,
-) -> Result<bool, Fault> {
-    let made = Array::new(alloc, outcome?)?;
-    Ok(*made.array == *wanted)
 }
 
 /// Numbers, a predicate, the rows and the count of calls that are wanted; arrays that are joined, and all rows of them.

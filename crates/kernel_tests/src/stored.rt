@@ -3,8 +3,6 @@
 ghost use Rattle.std.specs.Prelude.{◌≡◌, IsTrue};
 ghost use Rattle.arrow_arrays.specs.Any.{any_array_type};
 
-use crate::arrays::{are_same_numbers, numbers};
-use crate::lines::{Answer, Line, PLAIN, check_lines};
 use arrow_arrays::array::AnyArray;
 use arrow_growable::growable::{Growable, make_growable};
 use arrow_logic::length::length;
@@ -14,6 +12,8 @@ use arrow_text::fault::Fault;
 use arrow_text::given::Array;
 use arrow_types::error::Error;
 use std::alloc::Global;
+use test_lines::arrays::{are_same_numbers, numbers};
+use test_lines::lines::{Answer, Line, PLAIN, check_lines};
 
 /// The kernels, by name.
 const ANSWERS: [(&str, Answer); 4] = [

@@ -9,11 +9,11 @@ ghost use Rattle.arrow_flat.specs.Parts.{boolean_rows};
 ghost use Rattle.arrow_arrays.specs.AnyKeys.{key_rows};
 ghost use Rattle.arrow_arrays.specs.KeyedParts.{AreKeys};
 ghost use Rattle.arrow_compare.specs.Filled.{known_or};
-ghost use Rattle.arrow_logic.specs.Truths.{AnswersTruths};
+ghost use Rattle.arrow_flat.specs.Truths.{AnswersTruths};
 
 use arrow_arrays::array::AnyKeys;
 use arrow_flat::array::BooleanArray;
-use arrow_logic::truths::truths;
+use arrow_flat::array::truths::truths;
 use arrow_memory::bitmap::Bitmap;
 use arrow_take::take::boolean::take;
 use arrow_types::error::Error;

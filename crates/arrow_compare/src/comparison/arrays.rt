@@ -12,7 +12,7 @@ ghost use Rattle.arrow_relate.specs.Related.{relation_of};
 ghost use Rattle.arrow_relate.specs.Same.{is_same};
 ghost use Rattle.arrow_compare.specs.Compared.{HasEquality, HasRelation};
 ghost use Rattle.arrow_compare.specs.Kinds.{IsEquality, KindHasRelation};
-ghost use Rattle.arrow_logic.specs.Truths.{AnswersTruths};
+ghost use Rattle.arrow_flat.specs.Truths.{AnswersTruths};
 
 use crate::kinds::have_one_kind;
 use arrow_arrays::array::AnyArray;

@@ -13,7 +13,7 @@ ghost use Rattle.arrow_relate.specs.Related.{relation_of};
 ghost use Rattle.arrow_relate.specs.Same.{is_same};
 ghost use Rattle.arrow_compare.specs.Compared.{HasEqualityThrough, HasRelationThrough, type_through};
 ghost use Rattle.arrow_compare.specs.Kinds.{IsThrough, KindHasRelation, scalar_kind};
-ghost use Rattle.arrow_logic.specs.Truths.{AnswersTruths};
+ghost use Rattle.arrow_flat.specs.Truths.{AnswersTruths};
 
 use crate::comparison::answers::{all_null, known_or, take_answers};
 use crate::comparison::values::relate_flat;

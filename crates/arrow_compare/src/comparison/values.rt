@@ -10,7 +10,7 @@ ghost use Rattle.arrow_flat.specs.Scalars.{slot_by};
 ghost use Rattle.arrow_arrays.specs.Any.{any_array_rows, kind_of, primitive_kind};
 ghost use Rattle.arrow_relate.specs.Related.{relation_of};
 ghost use Rattle.arrow_compare.specs.Kinds.{IsEquality, KindHasRelation, scalar_kind};
-ghost use Rattle.arrow_logic.specs.Truths.{AnswersTruths};
+ghost use Rattle.arrow_flat.specs.Truths.{AnswersTruths};
 
 use arrow_arrays::array::AnyArray;
 use arrow_flat::array::{AnyElement, AnyPrimitive, BooleanArray};

@@ -125,7 +125,7 @@ impl AnyPrimitive {
     pub fn null_count(&self) -> usize
         ensures { result ≡ count_by is_null (any_rows self.now) }
     {
-        of_any!(self, array => array.null_count())
+        validity::null_count(self.validity())
     }
 
     /// Keeps `len` rows from row `offset` on. Nothing is copied.

@@ -1,15 +1,19 @@
 //! What arrays do with their validity: a bit for each row, set where the row is valid. Without it no
 //! row is null ("Validity bitmaps").
 
-ghost use Rattle.std.specs.Prelude.{◌≡◌, ◌+◌, ◌*◌, ◌≤◌, ◌<◌, ◌↔◌, ◌==◌, ℕ, length, replicate, true, IsTrue, IfSome, option_map, List, not, slice_index_or, option_copied};
+ghost use Rattle.std.specs.Prelude.{◌≡◌, ◌+◌, ◌*◌, ◌≤◌, ◌<◌, ◌↔◌, ◌==◌, ℕ, length, replicate, true, IsTrue, IfSome, option_map, List, count_by, not, slice_index_or, option_copied, IfOk, IsOkUnless};
 ghost use Rattle.std.specs.Int.{bit_at};
 ghost use Rattle.arrow_types.specs.Relation.{is_null};
+ghost use Rattle.arrow_types.specs.declared.error.Error.{Error};
 ghost use Rattle.arrow_types.specs.Rows.{valid_at};
 ghost use Rattle.arrow_types.specs.Slot.{Slot, Null};
 ghost use Rattle.arrow_memory.specs.Sliced.{sliced};
 ghost use Rattle.arrow_flat.specs.Parts.{FitsRows, unset_in, bits_of_slice, HasRow, MarksNulls};
+ghost use Rattle.arrow_flat.specs.Validities.{AreOneLength, combined};
 
 use arrow_memory::bitmap::Bitmap;
+use arrow_types::error::Error;
+use std::alloc::Global;
 
 /// Whether a validity, where there is one, has a bit for each of so many rows.
 pub fn fits_rows(validity: &Option<Bitmap>, len: usize) -> bool
@@ -47,6 +51,17 @@ pub fn row_is_valid(validity: Option<&Bitmap>, i: usize) -> bool
     match validity {
         None => true,
         Some(bits) => bits.get_bit(i),
+    }
+}
+
+/// How many rows of the array whose validity it is are null, counted a word at a time.
+pub fn null_count(validity: Option<&Bitmap>) -> usize
+    ensures { (rows : List Slot) → MarksNulls (option_copied validity.entry) rows → result
+        ≡ count_by is_null rows }
+{
+    match validity {
+        None => 0,
+        Some(bits) => bits.unset_bits(),
     }
 }
 
@@ -137,5 +152,47 @@ pub(crate) fn run_at(validity: &Option<Bitmap>, start: usize, len: usize) -> (bo
             let (is_valid, end) = bits.run_at(start, start + len);
             (is_valid, end - start)
         }
+    }
+}
+
+/// A clone of a validity, which shares its bits.
+///
+/// # Errors
+/// `OutOfMemory` where the count of owners is full.
+#[inline(always)]
+pub fn shared(validity: Option<&Bitmap>) -> Result<Option<Bitmap>, Error>
+    ensures ok { IfOk result (λ copy. copy ≡ option_copied validity.entry) }
+    ensures err { IsOkUnless result Error.OutOfMemory }
+{
+    match validity {
+        None => Ok(None),
+        Some(bits) => Ok(Some(bits.clone()?)),
+    }
+}
+
+/// The validity of rows that are null where a row of either side is: the bits that are set in both. One that is absent
+/// marks no row as null, and where both are there is none. A copy of one side shares its bits.
+///
+/// # Requires
+/// Two that are both there have as many bits.
+///
+/// # Errors
+/// `OutOfMemory` where memory is refused.
+///
+/// Source: arrow2's `combine_validities`.
+pub fn combine_validities(
+    alloc: Global,
+    lhs: Option<&Bitmap>,
+    rhs: Option<&Bitmap>,
+) -> Result<Option<Bitmap>, Error>
+    requires { AreOneLength (option_copied lhs) (option_copied rhs) }
+    ensures ok { IfOk result (λ validity. validity
+        ≡ combined (option_copied lhs.entry) (option_copied rhs.entry)) }
+    ensures err { IsOkUnless result Error.OutOfMemory }
+{
+    match (lhs, rhs) {
+        (Some(lhs), Some(rhs)) => Ok(Some(lhs.and(alloc, rhs)?)),
+        (None, _) => shared(rhs),
+        (_, None) => shared(lhs),
     }
 }

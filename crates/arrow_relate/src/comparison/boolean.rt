@@ -12,7 +12,7 @@ ghost use Rattle.arrow_flat.specs.RowByRow.{row_by_row};
 ghost use Rattle.arrow_relate.specs.Same.{is_same, differs};
 ghost use Rattle.arrow_memory.specs.Words.{word_of};
 ghost use Rattle.arrow_relate.specs.Chunked.{AnswersByWords, Chunked, TakesWords, answers_word};
-ghost use Rattle.arrow_logic.specs.Truths.{AnswersTruths};
+ghost use Rattle.arrow_flat.specs.Truths.{AnswersTruths};
 
 use crate::fixed::{Equal, FixedRelation, Greater, GreaterOrEqual, Less, LessOrEqual, NotEqual};
 use crate::relation::Relation;
@@ -20,8 +20,8 @@ use crate::stored::{
     RelatedBy, RelatedToScalar, relate_by, relate_scalar_by, same_by, same_scalar_by,
 };
 use arrow_flat::array::BooleanArray;
-use arrow_logic::truths::truths;
-use arrow_logic::validity::shared;
+use arrow_flat::array::truths::truths;
+use arrow_flat::array::validity::shared;
 use arrow_memory::bitmap::Bitmap;
 use arrow_types::error::Error;
 use std::alloc::Global;

@@ -11,7 +11,7 @@ ghost use Rattle.arrow_flat.specs.Parts.{boolean_rows, rows_by};
 ghost use Rattle.arrow_flat.specs.RowByRow.{row_by_row};
 ghost use Rattle.arrow_relate.specs.Chunked.{AnswersChunks, TakesChunks};
 ghost use Rattle.arrow_relate.specs.Same.{is_same, differs};
-ghost use Rattle.arrow_logic.specs.Truths.{AnswersTruths};
+ghost use Rattle.arrow_flat.specs.Truths.{AnswersTruths};
 
 use crate::comparison::chunked::bits_of_chunks;
 use crate::fixed::{Equal, Greater, GreaterOrEqual, Less, LessOrEqual, NotEqual, Test};
@@ -19,9 +19,9 @@ use crate::relation::Relation;
 use crate::stored::{
     RelatedBy, RelatedToScalar, relate_by, relate_scalar_by, same_by, same_scalar_by,
 };
+use arrow_flat::array::truths::truths;
+use arrow_flat::array::validity::shared;
 use arrow_flat::array::{BooleanArray, PrimitiveArray};
-use arrow_logic::truths::truths;
-use arrow_logic::validity::shared;
 use arrow_memory::bitmap::Bitmap;
 use arrow_memory::buffer::Buffer;
 use arrow_types::error::Error;

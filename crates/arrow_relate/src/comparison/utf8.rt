@@ -8,7 +8,7 @@ ghost use Rattle.arrow_types.specs.Slot.{Text};
 ghost use Rattle.arrow_flat.specs.ByteRows.{byte_slots};
 ghost use Rattle.arrow_flat.specs.Parts.{rows_by};
 ghost use Rattle.arrow_relate.specs.Same.{is_same, differs};
-ghost use Rattle.arrow_logic.specs.Truths.{AnswersTruths};
+ghost use Rattle.arrow_flat.specs.Truths.{AnswersTruths};
 
 use crate::fixed::{Equal, Greater, GreaterOrEqual, Less, LessOrEqual, NotEqual};
 use crate::relation::Relation;

@@ -9,7 +9,7 @@ ghost use Rattle.arrow_arrays.specs.AnyKeys.{key_rows, key_type_of, key_validity
 ghost use Rattle.arrow_arrays.specs.KeyedParts.{AreKeys, IsKey, IsKeyIn, key_in};
 ghost use Rattle.arrow_arrays.specs.SliceOf.{validity_of_slice};
 
-use arrow_flat::array::PrimitiveArray;
+use arrow_flat::array::{PrimitiveArray, validity};
 use arrow_memory::bitmap::Bitmap;
 use arrow_types::datatypes::IntegerType;
 use arrow_types::types::{DictionaryKey, Index};
@@ -94,7 +94,7 @@ impl AnyKeys {
     pub(crate) fn null_count(&self) -> usize
         ensures { result ≡ count_by is_null (key_rows self.now) }
     {
-        of_keys!(self, keys => keys.null_count())
+        validity::null_count(self.validity())
     }
 
     /// Whether each key is null or names one of so many values.

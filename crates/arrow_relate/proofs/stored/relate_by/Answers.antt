@@ -2,7 +2,7 @@ use Rattle.std.proofs.Common.{◌≡◌, ◌∙◌, ap, length, map, subst, sym}
 use Rattle.arrow_types.specs.Rows.{masked}
 use Rattle.arrow_types.specs.Slot.{Boolean}
 use Rattle.arrow_flat.specs.Parts.{FitsRows, boolean_rows}
-use Rattle.arrow_logic.specs.Validities.{combined}
+use Rattle.arrow_flat.specs.Validities.{combined}
 use Rattle.arrow_relate.proofs.NullLemmas.{fits_related, related_masked}
 use Rattle.arrow_relate.proofs.stored.relate_by.Goals as goal
 

@@ -4,7 +4,7 @@ use Rattle.arrow_types.specs.Relation.{related}
 use Rattle.arrow_flat.specs.ByteRows.{byte_slots, row_bytes}
 use Rattle.arrow_flat.specs.RowByRow.{row_by_row}
 use Rattle.arrow_relate.proofs.WordLemmas.{answered_rows}
-use Rattle.arrow_logic.proofs.PairLemmas.{length-row_by_row}
+use Rattle.arrow_flat.proofs.RowLemmas.{length-row_by_row}
 use Rattle.arrow_relate.proofs.comparison.bytes.ByteRowsRelatedBy.related_bits.Goals as goal
 
 pub returns-clause-ok : goal.returns-clause-ok

@@ -1,0 +1,29 @@
+use Rattle.std.proofs.Common.{◌∙◌, length, map, ap, refl, arith}
+use Rattle.arrow_types.specs.Slot.{id_at}
+use Rattle.arrow_types.specs.TypeOf.{type_of}
+use Rattle.arrow_arrays.specs.Any.{layout_of}
+use Rattle.arrow_arrays.specs.Layout.{field_ids}
+use Rattle.arrow_arrays.specs.TypeParts.{field_types, mode_in}
+use Rattle.arrow_arrays.proofs.TypeLemmas.{types_of_layouts}
+use Rattle.arrow_arrays.proofs.NullLemmas.{no_fault}
+use Rattle.arrow_arrays.proofs.NullPartsLemmas.{count_children, sparse_mode_fits, sparse_rows_null, known_ids}
+use Rattle.arrow_arrays.proofs.ShapeLemmas.{shape_of, union_columns}
+use Rattle.arrow_new.proofs.new.nested.sparse_nulls.Goals as goal
+
+pub unreachable-requires : goal.unreachable-requires
+unreachable-requires c =
+    let t = type_of c.args.data_type in
+    let xs = c.args.fields.items in
+    let ids = c.in_ok-types.ensures.ok in
+    let some = (union_columns t c.requires.kind.0 (ap shape_of c.requires.kind.1)).some in
+    let count = count_children xs (field_types t) c.requires.types in
+    let fits = sparse_mode_fits (mode_in t) c.in_ok-types.types xs (field_types t) (id_at (field_ids t) 0) c.args.length c.requires.mode ids c.requires.rows in
+    let known = known_ids (field_ids t) (length (map layout_of xs)) c.in_ok-types.types c.args.length (omega (arith, some, count)) ids in
+    no_fault _ _ _ _ _ _ c.in_default.field-0 c.requires.kind (types_of_layouts xs ∙ c.requires.types) fits tt known tt c.in_default.ensures.fault
+
+pub returns-clause-ok : goal.returns-clause-ok
+returns-clause-ok c =
+    let t = type_of c.args.data_type in
+    let shape = ap shape_of c.requires.kind.1 in
+    let some = (union_columns t c.requires.kind.0 shape).some in
+    rw c.in-Ok.ensures.ok (refl, sparse_rows_null t c.args.fields.items c.in_ok-types.types c.args.length shape some c.requires.rows c.in_ok-types.ensures.ok)

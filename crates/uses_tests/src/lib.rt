@@ -1,0 +1,5 @@
+//! Tests of the callers of `uses`.
+#![tactic(auto)]
+
+#[cfg(test)]
+mod callers;
