@@ -1,7 +1,5 @@
 -- What a closure answered to numbers of rows, one more at a time, and to the values in these rows.
-use Rattle.arrow_logic.proofs.Common.{◌≡◌, ◌∙◌, ℕ, suc, ◌+◌, ◌*◌, ◌%◌, ◌^◌, ◌<◌, append_assoc, Bool, Option, Some, None, List, [], ◌∷◌, ◌++◌, length, map, arith, ap, subst, sym, refl, slice_get, is_none, unwrap_or, bit_or, bit_at, from_bool, length-map-range_with_len, AllZip, zip, common_steps, All-cons, All-nil, get_or, slice_get-get_or, get_or-zip, IfErr, IfOk, inl, inr, ◌⊎◌, IsErrAnd, Error, Slot, either_bits, low_bits, bits_of_word, word_more, AnswersSome, nulls, RefusesFirst, answers_ok, AnswersFrom, AppendsAnswers, RefusesBelow, answers_at, answers_parts, parts_of}
-use Rattle.std.specs.Prelude.{Result, Ok, Err, not}
-use Rattle.std.specs.Prelude.{◌==◌}
+use Rattle.arrow_logic.proofs.Common.{◌≡◌, ◌∙◌, ℕ, suc, ◌+◌, ◌*◌, ◌%◌, ◌^◌, ◌<◌, append_assoc, Bool, Option, Some, None, List, [], ◌∷◌, ◌++◌, length, map, arith, ap, subst, sym, refl, slice_get, is_none, unwrap_or, bit_or, bit_at, from_bool, length-map-range_with_len, AllZip, zip, common_steps, All-cons, All-nil, get_or, slice_get-get_or, get_or-zip, IfErr, IfOk, inl, inr, ◌⊎◌, IsErrAnd, Error, Slot, either_bits, low_bits, bits_of_word, word_more, AnswersSome, nulls, RefusesFirst, answers_ok, AnswersFrom, AppendsAnswers, RefusesBelow, answers_at, answers_parts, parts_of, Result, Ok, Err, not, ◌==◌, length-zip}
 
 -- more answers behind some
 pub answers_join : {Y : Type 0} (R : ℕ → Y → Type 0) (n m : ℕ) (ys zs : List Y) → n + length ys ≡ m → AnswersFrom R n ys → AnswersFrom R m zs → AnswersFrom R n (ys ++ zs)
@@ -15,25 +13,21 @@ answers_more R n m ys y is some one = answers_join R n m ys (y ∷ []) is some (
 -- pairs of lists that are cut at one place
 pub zip-append : {X Y : Type 0} (xs : List X) (ys : List Y) (us : List X) (vs : List Y) → length xs ≡ length ys → zip (xs ++ us) (ys ++ vs) ≡ zip xs ys ++ zip us vs
 zip-append [] [] us vs long = refl
-zip-append [] (y ∷ ys) us vs long = absurd (omega (arith, long))
-zip-append (x ∷ xs) [] us vs long = absurd (omega (arith, long))
 zip-append (x ∷ xs) (y ∷ ys) us vs long = ap (λ ps. (x, y) ∷ ps) (zip-append xs ys us vs (omega (arith, long)))
+zip-append xs ys us vs long = absurd (omega (arith, long))
 
 length-zip_same : {X Y : Type 0} (xs : List X) (ys : List Y) → length xs ≡ length ys → length (zip xs ys) ≡ length xs
-length-zip_same [] ys long = refl
-length-zip_same (x ∷ xs) [] long = absurd (omega (arith, long))
-length-zip_same (x ∷ xs) (y ∷ ys) long = omega (arith, length-zip_same xs ys (omega (arith, long)))
+length-zip_same xs ys long = omega (arith, long, length-zip xs ys)
 
 -- answers to numbers of rows are answers to what stands there
 answers_from : {X Y : Type 0} (S : ℕ → Y → Type 0) (R : X → Y → Type 0) (n : ℕ) (xs : List X) (ys : List Y) → length ys ≡ length xs → AnswersFrom S n ys → ((k : ℕ) (y : Y) → S (n + k) y → answers_at R xs k y) → AllZip R xs ys
 answers_from S R n [] [] long each at = tt
-answers_from S R n [] (y ∷ ys) long each at = absurd (omega (arith, long))
-answers_from S R n (x ∷ xs) [] long each at = absurd (omega (arith, long))
 answers_from S R n (x ∷ xs) (y ∷ ys) long each at =
     let here = at 0 y (subst (λ k. S k y) (omega arith) each.0) in
     let is : here.0 ≡ x = cc here.1 in
     let next = λ (k : ℕ) (z : _) (answered : S (suc n + k) z). at (suc k) z (subst (λ j. S j z) (omega arith) answered) in
     (subst (λ a. R a y) is here.2, answers_from S R (suc n) xs ys (omega (arith, long)) each.1 next)
+answers_from S R n xs ys long each at = absurd (omega (arith, long))
 
 pub answers_each : {X Y : Type 0} (S : ℕ → Y → Type 0) (R : X → Y → Type 0) (xs : List X) (ys : List Y) → length ys ≡ length xs → AnswersFrom S 0 ys → ((k : ℕ) (y : Y) → S k y → answers_at R xs k y) → AllZip R xs ys
 answers_each S R xs ys long each at = answers_from S R 0 xs ys long each (λ k y answered. at k y (subst (λ j. S j y) (omega arith) answered))
@@ -68,16 +62,13 @@ unset_is_none (Some y) default parts is = ap (λ p. not p.1) is
 
 pub have_parts : {X Y : Type 0} (R : X → Option Y → Type 0) (default : Y) (xs : List X) (ys : List Y) (bits : List Bool) → length ys ≡ length xs → length bits ≡ length xs → AllZip (answers_parts R default) xs (zip ys bits) → HaveParts R default xs ys bits
 have_parts R default [] [] [] long marked each = record { answers = []; each = tt; values = refl; unset = refl }
-have_parts R default [] (y ∷ ys) bits long marked each = absurd (omega (arith, long))
-have_parts R default [] [] (b ∷ bits) long marked each = absurd (omega (arith, marked))
-have_parts R default (x ∷ xs) [] bits long marked each = absurd (omega (arith, long))
-have_parts R default (x ∷ xs) (y ∷ ys) [] long marked each = absurd (omega (arith, marked))
 have_parts R default (x ∷ xs) (y ∷ ys) (b ∷ bits) long marked each =
     let rest = have_parts R default xs ys bits (omega (arith, long)) (omega (arith, marked)) each.1 in
     let answer = each.0.0 in
     let value : y ≡ unwrap_or answer default = ap (λ p. p.0) each.0.2 in
     let bit = unset_is_none answer default (y, b) each.0.2 in
     record { answers = answer ∷ rest.answers; each = (each.0.1, rest.each); values = (λ i. value i ∷ rest.values i); unset = (λ i. bit i ∷ rest.unset i) }
+have_parts R default xs ys bits long marked each = absurd (omega (arith, long, marked))
 
 -- one more value behind those so far, and its bit in the word
 pub appends_more : {Y : Type 0} (R : ℕ → Y × Bool → Type 0) (first k : ℕ) (old new : List Y) (word : ℕ) (value : Y) (bit : Bool) → k < 64 → AppendsAnswers R first k old new word → R (first + k) (value, bit) → AppendsAnswers R first (k + 1) old (new ++ value ∷ []) (bit_or word (from_bool bit * 2 ^ k % 18446744073709551616))

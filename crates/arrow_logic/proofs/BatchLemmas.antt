@@ -3,9 +3,8 @@ use Rattle.arrow_logic.proofs.Common.{arith, ◌≡◌, ◌∙◌, List, [], ◌
 
 row_by_row-append : {A B C : Type 0} (give : A → B → C) (xs zs : List A) (ys ws : List B) → length xs ≡ length ys → row_by_row give (xs ++ zs) (ys ++ ws) ≡ row_by_row give xs ys ++ row_by_row give zs ws
 row_by_row-append give [] zs [] ws same = refl
-row_by_row-append give [] zs (y ∷ ys) ws same = absurd (omega (arith, same))
-row_by_row-append give (x ∷ xs) zs [] ws same = absurd (omega (arith, same))
 row_by_row-append give (x ∷ xs) zs (y ∷ ys) ws same = ap (λ more. give x y ∷ more) (row_by_row-append give xs zs ys ws (omega (arith, same)))
+row_by_row-append give xs zs ys ws same = absurd (omega (arith, same))
 
 pub pairs_by_batch : (lefts rights : List (List Slot)) → AreAlikeLong lefts rights → GiveByBatch lefts rights
 pairs_by_batch [] [] same give = refl

@@ -5,7 +5,7 @@ pub use Rattle.std.proofs.Math.Nat.{eq-zero-or-pos}
 pub use Rattle.std.proofs.Math.Seq.{drop-append_seam, take-add, take-nil}
 pub use Rattle.std.proofs.Math.Utf8.{scalar, scalars}
 unfoldable pub use Rattle.std.proofs.Math.Utf8.{encode}
-pub use Rattle.std.proofs.lemmas.Bool.{cases_lt, le-ltb, leb-false, leb-true, lt-leb}
+pub use Rattle.std.proofs.lemmas.Bool.{cases_lt, le-ltb, leb-false, leb-true, lt-leb, or_from, or_right}
 pub use Rattle.std.proofs.lemmas.Bool.Decides.{Decides-like, nat_tests, same_from_decides}
 pub use Rattle.std.proofs.lemmas.Grind.{common_steps}
 pub use Rattle.std.proofs.lemmas.Int.{ints, to_z-of_z}
@@ -18,7 +18,7 @@ pub use Rattle.std.proofs.lemmas.Nat.Bits.{bit_at-trailing_zeros, bit_at-zero, b
 pub use Rattle.std.proofs.lemmas.Option.{get_or_from_slice_get, slice_get-get_or}
 pub use Rattle.std.proofs.lemmas.Result.{IfOk-weaker}
 pub use Rattle.std.proofs.lemmas.Simd.{bit_mask_l, map-map, mask_l-mod, tops_compared}
-pub use Rattle.std.proofs.lemmas.Slice.Zip.{get_or-zip}
+pub use Rattle.std.proofs.lemmas.Slice.Zip.{get_or-zip, length-zip}
 pub use Rattle.std.proofs.lemmas.Str.{IsAscii-drop, IsAscii-take, chars-IsAscii, chars-encodes, encodes-IsAscii, encodes-chars, scalars-chars}
 pub use Rattle.std.proofs.lemmas.Str.Ascii.{IsAscii-nil}
 pub use Rattle.std.specs.Int.{bit_at, bit_not, from_bool, trailing_zeros}
@@ -32,6 +32,7 @@ pub use Rattle.arrow_arrays.specs.declared.array.any.AnyArray.{AnyArray}
 pub use Rattle.arrow_arrays.specs.declared.array.any.AnyArray.TheVariants.{Binary, Dictionary, FixedSizeBinary, FixedSizeList, LargeBinary, LargeUtf8, Map, Primitive, Struct, Union, Utf8}
 pub use Rattle.arrow_flat.proofs.PartsLemmas.{fits_within, length-masked, marks-masked, types_decide}
 pub use Rattle.arrow_flat.proofs.PieceLemmas.{length-byte_slots, length-pieces, member_of_part, piece_at}
+pub use Rattle.arrow_flat.proofs.RowLemmas.{fits_combined, get_or-row_by_row, length-row_by_row, map-masked}
 pub use Rattle.arrow_flat.proofs.StoredLemmas.{slots_same}
 pub use Rattle.arrow_flat.specs.AnyScalar.{meaning_of}
 pub use Rattle.arrow_flat.specs.ByteRows.{byte_slots, row_bytes}

@@ -1,7 +1,5 @@
 -- What a connective makes of two arrays of truth values, row by row.
-use Rattle.arrow_logic.proofs.Common.{◌≡◌, ℕ, ◌^◌, ◌<◌, w64, ◌&&◌, ◌||◌, Bool, true, false, not, Option, Some, None, List, [], ◌∷◌, length, map, if◌then◌else◌, refl, ap, sym, subst, ◌∙◌, arith, bit_or, bit_at, bit_not, length-map, both, either, kleene_both, kleene_either, mask, masked, Slot, Null, Boolean, both_bits, by_fours, either_bits, first_bits, paired, FitsRows, length-masked, bits_by, slot_by, kleene_by, decides, known_bit, known_side, row_by_row, combined, Connective, And, Or, and_each, and_not_each, length-paired, or_each}
-use Rattle.std.specs.Prelude.{◌==◌, bit_and}
-use Rattle.arrow_flat.proofs.RowLemmas.{fits_combined}
+use Rattle.arrow_logic.proofs.Common.{fits_combined, ◌≡◌, ℕ, ◌^◌, ◌<◌, w64, ◌&&◌, ◌||◌, Bool, true, false, not, Option, Some, None, List, [], ◌∷◌, length, map, if◌then◌else◌, refl, ap, sym, subst, ◌∙◌, arith, bit_or, bit_at, bit_not, length-map, both, either, kleene_both, kleene_either, mask, masked, Slot, Null, Boolean, both_bits, by_fours, either_bits, first_bits, paired, FitsRows, length-masked, bits_by, slot_by, kleene_by, decides, known_bit, known_side, row_by_row, combined, Connective, And, Or, and_each, and_not_each, length-paired, or_each, ◌==◌, bit_and}
 use Rattle.arrow_logic.proofs.MaskedLemmas.{bits_of, masked-by_bits, length-bits_of, bits_of-combined, bits_of-known_side, fits_known_side}
 
 -- one row: what is stored, where it is valid
@@ -13,28 +11,18 @@ row valid x = if valid then Boolean x else Null
 paired_rows : (bit : Bool → Bool → Bool) (give : Slot → Slot → Slot) → ((v x w y : Bool) → row (v && w) (bit x y) ≡ give (row v x) (row w y)) → (vs xs ws ys : List Bool) → length vs ≡ length xs → length ws ≡ length ys → length xs ≡ length ys
     → mask (both_bits vs ws) (map Boolean (paired bit xs ys)) ≡ row_by_row give (mask vs (map Boolean xs)) (mask ws (map Boolean ys))
 paired_rows bit give one [] [] [] [] v w same = refl
-paired_rows bit give one [] [] ws (y ∷ ys) v w same = absurd (omega (arith, same))
-paired_rows bit give one [] [] (b ∷ ws) [] v w same = absurd (omega (arith, w))
-paired_rows bit give one [] (x ∷ xs) ws ys v w same = absurd (omega (arith, v))
-paired_rows bit give one (b ∷ vs) [] ws ys v w same = absurd (omega (arith, v))
-paired_rows bit give one (b ∷ vs) (x ∷ xs) ws [] v w same = absurd (omega (arith, same))
-paired_rows bit give one (b ∷ vs) (x ∷ xs) [] (y ∷ ys) v w same = absurd (omega (arith, w))
 paired_rows bit give one (b ∷ vs) (x ∷ xs) (c ∷ ws) (y ∷ ys) v w same =
     let rest = paired_rows bit give one vs xs ws ys (omega (arith, v)) (omega (arith, w)) (omega (arith, same)) in
     λ i. one b x c y i ∷ rest i
+paired_rows bit give one vs xs ws ys v w same = absurd (omega (arith, same, w, v))
 
 known_rows : (bit : Bool → Bool → Bool) (give : Slot → Slot → Slot) (decided : Slot → Bool) → ((v x w y : Bool) → row ((v || decided (row w y)) && (w || decided (row v x))) (bit x y) ≡ give (row v x) (row w y)) → (vs xs ws ys : List Bool) → length vs ≡ length xs → length ws ≡ length ys → length xs ≡ length ys
     → mask (both_bits (either_bits vs (map decided (mask ws (map Boolean ys)))) (either_bits ws (map decided (mask vs (map Boolean xs))))) (map Boolean (paired bit xs ys)) ≡ row_by_row give (mask vs (map Boolean xs)) (mask ws (map Boolean ys))
 known_rows bit give decided one [] [] [] [] v w same = refl
-known_rows bit give decided one [] [] ws (y ∷ ys) v w same = absurd (omega (arith, same))
-known_rows bit give decided one [] [] (b ∷ ws) [] v w same = absurd (omega (arith, w))
-known_rows bit give decided one [] (x ∷ xs) ws ys v w same = absurd (omega (arith, v))
-known_rows bit give decided one (b ∷ vs) [] ws ys v w same = absurd (omega (arith, v))
-known_rows bit give decided one (b ∷ vs) (x ∷ xs) ws [] v w same = absurd (omega (arith, same))
-known_rows bit give decided one (b ∷ vs) (x ∷ xs) [] (y ∷ ys) v w same = absurd (omega (arith, w))
 known_rows bit give decided one (b ∷ vs) (x ∷ xs) (c ∷ ws) (y ∷ ys) v w same =
     let rest = known_rows bit give decided one vs xs ws ys (omega (arith, v)) (omega (arith, w)) (omega (arith, same)) in
     λ i. one b x c y i ∷ rest i
+known_rows bit give decided one vs xs ws ys v w same = absurd (omega (arith, same, w, v))
 
 -- the tables, by whether each side is valid and what it stores
 
@@ -49,26 +37,18 @@ either_table true x false y = refl
 either_table true x true y = refl
 
 kleene_both_table : (v x w y : Bool) → row ((v || decides And (row w y)) && (w || decides And (row v x))) (x && y) ≡ kleene_both (row v x) (row w y)
-kleene_both_table true false true y = refl
-kleene_both_table true true true false = refl
 kleene_both_table true true true true = refl
-kleene_both_table true false false y = refl
-kleene_both_table true true false y = refl
-kleene_both_table false false true false = refl
+kleene_both_table true false true y = refl
 kleene_both_table false true true false = refl
 kleene_both_table false x true true = refl
-kleene_both_table false x false y = refl
+kleene_both_table v x w y = refl
 
 kleene_either_table : (v x w y : Bool) → row ((v || decides Or (row w y)) && (w || decides Or (row v x))) (x || y) ≡ kleene_either (row v x) (row w y)
-kleene_either_table true true true y = refl
 kleene_either_table true false true true = refl
-kleene_either_table true false true false = refl
-kleene_either_table true true false y = refl
-kleene_either_table true false false y = refl
+kleene_either_table true true true y = refl
 kleene_either_table false true true true = refl
-kleene_either_table false false true true = refl
 kleene_either_table false x true false = refl
-kleene_either_table false x false y = refl
+kleene_either_table v x w y = refl
 
 -- the same by a connective
 
@@ -201,12 +181,10 @@ known_of_one Or v x w y = λ i. (v || value_decides w y i) && (w || value_decide
 
 known_of_bits : (op : Connective) (vs xs ws ys : List Bool) → length vs ≡ length xs → length ws ≡ length ys → length xs ≡ length ys → by_fours (known_bit op) vs xs ws ys ≡ both_bits (either_bits vs (map (decides op) (mask ws (map Boolean ys)))) (either_bits ws (map (decides op) (mask vs (map Boolean xs))))
 known_of_bits op [] xs ws ys v w same = refl
-known_of_bits op (b ∷ vs) [] ws ys v w same = absurd (omega (arith, v))
-known_of_bits op (b ∷ vs) (x ∷ xs) ws [] v w same = absurd (omega (arith, same))
-known_of_bits op (b ∷ vs) (x ∷ xs) [] (y ∷ ys) v w same = absurd (omega (arith, w))
 known_of_bits op (b ∷ vs) (x ∷ xs) (c ∷ ws) (y ∷ ys) v w same =
     let rest = known_of_bits op vs xs ws ys (omega (arith, v)) (omega (arith, w)) (omega (arith, same)) in
     λ i. known_of_one op b x c y i ∷ rest i
+known_of_bits op vs xs ws ys v w same = absurd (omega (arith, v, same, w))
 
 -- of two arrays with a validity, and of one
 pub known_in_both : (op : Connective) (v w : Option (List Bool)) (vs xs ws ys : List Bool) → v ≡ Some vs → w ≡ Some ws → FitsRows v (length (map Boolean xs)) → FitsRows w (length (map Boolean ys)) → length xs ≡ length ys → Some (by_fours (known_bit op) vs xs ws ys) ≡ known_of op v xs w ys

@@ -4,9 +4,8 @@ use Rattle.arrow_logic.proofs.Common.{◌≡◌, ℕ, zero, suc, ◌<◌, Bool, 
 module _ {A B : Type 0} (spare : B) (f : A → B) where
   length-kept_by : (bits : List Bool) (xs : List A) → length bits ≡ length xs → length (kept_by spare f bits xs) ≡ length xs
   length-kept_by [] [] fits = refl
-  length-kept_by [] (x ∷ xs) fits = absurd (omega (arith, fits))
-  length-kept_by (b ∷ bits) [] fits = absurd (omega (arith, fits))
   length-kept_by (b ∷ bits) (x ∷ xs) fits = ap suc (length-kept_by bits xs (omega (arith, fits)))
+  length-kept_by bits xs fits = absurd (omega (arith, fits))
 
   -- one of each row
   pub length-kept : (v : Option (List Bool)) (xs : List A) → FitsRows v (length xs) → length (kept spare f v xs) ≡ length xs
@@ -14,11 +13,10 @@ module _ {A B : Type 0} (spare : B) (f : A → B) where
   length-kept (Some bits) xs fits = length-kept_by bits xs fits
 
   at-kept_by : (bits : List Bool) (xs : List A) (i : ℕ) (d : A) → length bits ≡ length xs → i < length xs → get_or (kept_by spare f bits xs) i spare ≡ (if get_or bits i true then f (get_or xs i d) else spare)
-  at-kept_by bits [] i d fits within = absurd (omega (arith, within))
-  at-kept_by [] (x ∷ xs) i d fits within = absurd (omega (arith, fits))
   at-kept_by (b ∷ bits) (x ∷ xs) zero d fits within = refl
   at-kept_by (b ∷ bits) (x ∷ xs) (suc i) d fits within =
       at-kept_by bits xs i d (omega (arith, fits)) (omega (arith, within))
+  at-kept_by bits xs i d fits within = absurd (omega (arith, within, fits))
 
   -- what is kept of row i
   pub at-kept : (v : Option (List Bool)) (xs : List A) (i : ℕ) (d : A) → FitsRows v (length xs) → i < length xs → get_or (kept spare f v xs) i spare ≡ (if valid_at v i then f (get_or xs i d) else spare)

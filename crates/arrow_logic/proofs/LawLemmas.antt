@@ -1,7 +1,6 @@
 -- The laws of both logics, of one row and of all, and of parts.
-use Rattle.arrow_logic.proofs.Common.{◌≡◌, ℕ, zero, suc, ◌+◌, ◌-◌, pos, min, Bool, true, false, not, Option, Some, None, List, [], ◌∷◌, length, map, take, drop, refl, ap, sym, ◌∙◌, arith, and_assoc, and_comm, not-not, or_assoc, or_comm, take-nil, scalar, scalars, drop-drop, drop_min, chars-encodes, scalars-chars, both, either, kleene_both, kleene_either, negated, at_most, cut, part, masked, Slot, Boolean, Bytes, Text, length_within, row_by_row}
-use Rattle.std.specs.Prelude.{◌&&◌, IsUtf8, encode_utf8_all}
-use Rattle.std.specs.Str.{chars}
+use Rattle.arrow_logic.proofs.Common.{◌≡◌, ℕ, zero, suc, ◌+◌, ◌-◌, pos, min, Bool, true, false, not, Option, Some, None, List, [], ◌∷◌, length, map, take, drop, refl, ap, sym, ◌∙◌, arith, and_assoc, and_comm, not-not, or_assoc, or_comm, take-nil, scalar, scalars, drop-drop, drop_min, chars-encodes, scalars-chars, both, either, kleene_both, kleene_either, negated, at_most, cut, part, masked, Slot, Boolean, Bytes, Text, length_within, row_by_row, ◌&&◌, IsUtf8, encode_utf8_all, chars}
+use native.Mathlib.Numerals.{unary_clauses}
 use Rattle.arrow_logic.proofs.ScalarLemmas.{turned_rows}
 
 -- ---- lists, by what holds of each pair
@@ -50,77 +49,35 @@ either_group (Boolean a) y z = refl
 either_group x y z = refl
 
 pub kleene_both_swap : (x y : Slot) → kleene_both x y ≡ kleene_both y x
-kleene_both_swap (Boolean false) (Boolean false) = refl
 kleene_both_swap (Boolean false) (Boolean true) = refl
-kleene_both_swap (Boolean true) (Boolean false) = refl
-kleene_both_swap (Boolean true) (Boolean true) = refl
-kleene_both_swap (Boolean false) y = refl
-kleene_both_swap (Boolean true) y = refl
 kleene_both_swap x (Boolean false) = refl
-kleene_both_swap x (Boolean true) = refl
 kleene_both_swap x y = refl
 
 pub kleene_either_swap : (x y : Slot) → kleene_either x y ≡ kleene_either y x
-kleene_either_swap (Boolean true) (Boolean true) = refl
 kleene_either_swap (Boolean true) (Boolean false) = refl
-kleene_either_swap (Boolean false) (Boolean true) = refl
-kleene_either_swap (Boolean false) (Boolean false) = refl
-kleene_either_swap (Boolean true) y = refl
-kleene_either_swap (Boolean false) y = refl
 kleene_either_swap x (Boolean true) = refl
-kleene_either_swap x (Boolean false) = refl
 kleene_either_swap x y = refl
 
 pub kleene_both_group : (x y z : Slot) → kleene_both (kleene_both x y) z ≡ kleene_both x (kleene_both y z)
 kleene_both_group (Boolean false) y z = refl
-kleene_both_group (Boolean true) (Boolean false) z = refl
 kleene_both_group x (Boolean false) z = refl
-kleene_both_group (Boolean true) (Boolean true) (Boolean false) = refl
-kleene_both_group (Boolean true) (Boolean true) (Boolean true) = refl
-kleene_both_group (Boolean true) (Boolean true) z = refl
-kleene_both_group (Boolean true) y (Boolean false) = refl
-kleene_both_group (Boolean true) y (Boolean true) = refl
-kleene_both_group (Boolean true) y z = refl
-kleene_both_group x (Boolean true) (Boolean false) = refl
-kleene_both_group x (Boolean true) (Boolean true) = refl
-kleene_both_group x (Boolean true) z = refl
 kleene_both_group x y (Boolean false) = refl
-kleene_both_group x y (Boolean true) = refl
 kleene_both_group x y z = refl
 
 pub kleene_either_group : (x y z : Slot) → kleene_either (kleene_either x y) z ≡ kleene_either x (kleene_either y z)
 kleene_either_group (Boolean true) y z = refl
-kleene_either_group (Boolean false) (Boolean true) z = refl
 kleene_either_group x (Boolean true) z = refl
-kleene_either_group (Boolean false) (Boolean false) (Boolean true) = refl
-kleene_either_group (Boolean false) (Boolean false) (Boolean false) = refl
-kleene_either_group (Boolean false) (Boolean false) z = refl
-kleene_either_group (Boolean false) y (Boolean true) = refl
-kleene_either_group (Boolean false) y (Boolean false) = refl
-kleene_either_group (Boolean false) y z = refl
-kleene_either_group x (Boolean false) (Boolean true) = refl
-kleene_either_group x (Boolean false) (Boolean false) = refl
-kleene_either_group x (Boolean false) z = refl
 kleene_either_group x y (Boolean true) = refl
-kleene_either_group x y (Boolean false) = refl
 kleene_either_group x y z = refl
 
 pub kleene_both_turned : (x y : Slot) → negated (kleene_both x y) ≡ kleene_either (negated x) (negated y)
 kleene_both_turned (Boolean false) y = refl
-kleene_both_turned (Boolean true) (Boolean false) = refl
-kleene_both_turned (Boolean true) (Boolean true) = refl
-kleene_both_turned (Boolean true) y = refl
 kleene_both_turned x (Boolean false) = refl
-kleene_both_turned x (Boolean true) = refl
 kleene_both_turned x y = refl
 
 pub kleene_either_turned : (x y : Slot) → negated (kleene_either x y) ≡ kleene_both (negated x) (negated y)
 kleene_either_turned (Boolean true) y = refl
-kleene_either_turned (Boolean false) (Boolean true) = refl
-kleene_either_turned (Boolean false) (Boolean false) = refl
-kleene_either_turned (Boolean false) y = refl
 kleene_either_turned x (Boolean true) = refl
-kleene_either_turned x (Boolean false) = refl
 kleene_either_turned x y = refl
 
 -- ---- truth values that are turned twice
@@ -139,28 +96,18 @@ behind : (begin : ℕ) (len : Option ℕ) (units : List ℕ) → cut (pos begin)
 behind begin len units = ap (at_most len) (drop_min begin units)
 
 drop_part : (begin k : ℕ) (units : List ℕ) → drop begin (take k units) ≡ take (k - begin) (drop begin units)
-drop_part zero k units =
-    let whole : k - 0 ≡ k = omega arith in
-    rw whole refl
+drop_part zero k units = simp unary_clauses refl
 drop_part (suc begin) zero units =
-    let none : 0 - suc begin ≡ 0 = omega arith in
-    rw none refl
+    let none : 0 ≡ 0 - suc begin = omega arith in
+    ap (λ n. take n (drop (suc begin) units)) none
 drop_part (suc begin) (suc k) [] = sym (take-nil (suc k - suc begin))
-drop_part (suc begin) (suc k) (x ∷ units) =
-    let less : suc k - suc begin ≡ k - begin = omega arith in
-    rw less (drop_part begin k units)
+drop_part (suc begin) (suc k) (x ∷ units) = simp unary_clauses (drop_part begin k units)
 
 take_twice : (k n : ℕ) (units : List ℕ) → take k (take n units) ≡ take (min k n) units
-take_twice zero n units =
-    let none : min 0 n ≡ 0 = omega arith in
-    rw none refl
-take_twice (suc k) zero units =
-    let none : min (suc k) 0 ≡ 0 = omega arith in
-    rw none refl
+take_twice zero n units = simp unary_clauses refl
+take_twice (suc k) zero units = simp unary_clauses refl
 take_twice (suc k) (suc n) [] = sym (take-nil (min (suc k) (suc n)))
-take_twice (suc k) (suc n) (x ∷ units) =
-    let less : min (suc k) (suc n) ≡ suc (min k n) = omega arith in
-    rw less (ap (λ ys. x ∷ ys) (take_twice k n units))
+take_twice (suc k) (suc n) (x ∷ units) = simp unary_clauses (ap (λ ys. x ∷ ys) (take_twice k n units))
 
 limited : (len : Option ℕ) (begin : ℕ) (next : Option ℕ) (units : List ℕ) → at_most next (drop begin (at_most len units)) ≡ at_most (length_within len begin next) (drop begin units)
 limited None begin next units = refl
@@ -176,24 +123,20 @@ pub bytes_part_of_part : (begin : ℕ) (len : Option ℕ) (next_begin : ℕ) (ne
 bytes_part_of_part begin len next_begin next bytes = ap Bytes (cut_of_cut begin len next_begin next bytes)
 
 -- characters of a part of a text
-and_left : (a b : Bool) → (a && b) ≡ true → a ≡ true
-and_left true b are = refl
-and_left false b are = are
-
-and_right : (a b : Bool) → (a && b) ≡ true → b ≡ true
-and_right true b are = are
-and_right false b are = cc
+and_both : (a b : Bool) → (a && b) ≡ true → (a ≡ true) × (b ≡ true)
+and_both true b are = (refl, are)
+and_both false b are = (are, cc)
 
 scalars_drop : (n : ℕ) (cs : List ℕ) → scalars cs ≡ true → scalars (drop n cs) ≡ true
 scalars_drop zero cs are = are
 scalars_drop (suc n) [] are = are
-scalars_drop (suc n) (c ∷ cs) are = scalars_drop n cs (and_right (scalar c) (scalars cs) are)
+scalars_drop (suc n) (c ∷ cs) are = scalars_drop n cs (and_both (scalar c) (scalars cs) are).1
 
 scalars_take : (n : ℕ) (cs : List ℕ) → scalars cs ≡ true → scalars (take n cs) ≡ true
 scalars_take zero cs are = refl
 scalars_take (suc n) [] are = are
 scalars_take (suc n) (c ∷ cs) are =
-    (λ i. and_left (scalar c) (scalars cs) are i && scalars_take n cs (and_right (scalar c) (scalars cs) are) i)
+    (λ i. (and_both (scalar c) (scalars cs) are).0 i && scalars_take n cs (and_both (scalar c) (scalars cs) are).1 i)
 
 scalars_cut : (begin : ℕ) (len : Option ℕ) (cs : List ℕ) → scalars cs ≡ true → scalars (cut (pos begin) len cs) ≡ true
 scalars_cut begin None cs are = scalars_drop (min begin (length cs)) cs are

@@ -6,37 +6,12 @@ use Rattle.arrow_arrays.specs.declared.array.any.AnyArray.TheVariants.{Null, Boo
 
 primitive_in : (p : PhysicalType) → IsPrimitive p → (e : PrimitiveType) × (kind_in p ≡ primitive_kind e)
 primitive_in (physical.Primitive e) is = (e, refl)
-primitive_in physical.Null is = absurd is
-primitive_in physical.Boolean is = absurd is
-primitive_in physical.Binary is = absurd is
-primitive_in physical.FixedSizeBinary is = absurd is
-primitive_in physical.LargeBinary is = absurd is
-primitive_in physical.Utf8 is = absurd is
-primitive_in physical.LargeUtf8 is = absurd is
-primitive_in physical.List is = absurd is
-primitive_in physical.FixedSizeList is = absurd is
-primitive_in physical.LargeList is = absurd is
-primitive_in physical.Struct is = absurd is
-primitive_in physical.Union is = absurd is
-primitive_in physical.Map is = absurd is
-primitive_in (physical.Dictionary keys) is = absurd is
+primitive_in _ is = absurd is
 
 -- an array of the kind of primitives is one
 primitive_by_kind : (array : AnyArray) (e : PrimitiveType) → primitive_kind e ≡ kind_of array → ((p : AnyPrimitive) → array ≢ Primitive p) → ⊥
-primitive_by_kind (Null p) e is others = cc
-primitive_by_kind (Boolean p) e is others = cc
 primitive_by_kind (Primitive p) e is others = others p refl
-primitive_by_kind (Utf8 p) e is others = cc
-primitive_by_kind (LargeUtf8 p) e is others = cc
-primitive_by_kind (Binary p) e is others = cc
-primitive_by_kind (LargeBinary p) e is others = cc
-primitive_by_kind (FixedSizeBinary p) e is others = cc
-primitive_by_kind (List p) e is others = cc
-primitive_by_kind (FixedSizeList p) e is others = cc
-primitive_by_kind (Struct p) e is others = cc
-primitive_by_kind (Union p) e is others = cc
-primitive_by_kind (Map p) e is others = cc
-primitive_by_kind (Dictionary p) e is others = cc
+primitive_by_kind _ e is others = cc
 
 pub is_primitive : (array : AnyArray) (p : PhysicalType) → IsPrimitive p → kind_in p ≡ kind_of array → ((x : AnyPrimitive) → array ≢ Primitive x) → ⊥
 is_primitive array p is kind =
@@ -45,35 +20,22 @@ is_primitive array p is kind =
 
 -- a dictionary's type, also in extensions, has another layout
 pub no_keys : (t : ArrowType) → HasDictionary t → IsPrimitive (physical_type_of t) → ⊥
-no_keys (plain t) has is = has
-no_keys (list form f) has is = has
-no_keys (struct fs) has is = has
-no_keys (union mode ids fs) has is = has
 no_keys (dictionary keys ordered t) has is = is
 no_keys (extension name metadata t) has is = no_keys t has is
+no_keys _ has is = has
 
 -- texts and bytes are carried
 pub lengths_supported : (t : ArrowType) → HasLength t → AreTexts t
 lengths_supported (plain utf8) has = (tt, tt)
 lengths_supported (plain large_utf8) has = (tt, tt)
-lengths_supported (plain _) has = absurd has
-lengths_supported (list form f) has = absurd has
-lengths_supported (struct fs) has = absurd has
-lengths_supported (union mode ids fs) has = absurd has
-lengths_supported (dictionary keys ordered t) has = absurd has
-lengths_supported (extension name metadata t) has = absurd has
+lengths_supported _ has = absurd has
 
 pub parts_supported : (t : ArrowType) → HasParts t → AreTextsOrBytes t
 parts_supported (plain utf8) has = (tt, tt)
 parts_supported (plain large_utf8) has = (tt, tt)
 parts_supported (plain binary) has = (tt, tt)
 parts_supported (plain large_binary) has = (tt, tt)
-parts_supported (plain _) has = absurd has
-parts_supported (list form f) has = absurd has
-parts_supported (struct fs) has = absurd has
-parts_supported (union mode ids fs) has = absurd has
-parts_supported (dictionary keys ordered t) has = absurd has
-parts_supported (extension name metadata t) has = absurd has
+parts_supported _ has = absurd has
 
 -- and so are numbers and intervals
 no_float : (e : PrimitiveType) → (IsFloat (physical.Primitive e) → ⊥) → IsCarriedElement e

@@ -1,6 +1,6 @@
 -- How long rows are, a word of rows at a time.
-use Rattle.arrow_logic.proofs.Common.{◌≡◌, ℕ, suc, ◌+◌, ◌-◌, ◌/◌, ◌^◌, ◌<◌, ◌≤◌, ◌==◌, ℤ, pos, ◌-ℤ◌, ◌≤ℤ◌, Bool, true, false, Option, List, [], ◌∷◌, ◌++◌, length, map, take, get_or, slice_index, if◌then◌else◌, bit_and, nat_eq, refl, ap, subst, subst₂, sym, ◌∙◌, append_assoc, arith, inl, inr, bit_at, range_with_len, take-add, ints, cases_lt, ext_get_or, get_or-append_right, get_or_append_left, map-append, get_or-map-range_with_len, length-map-range_with_len, map-range_with_len_more, shr_and_one, get_or_from_slice_get, map-map, Slot, Number, IsOffsets, last_of, valid_length, sliced, at_most_last, offsets_rise, length-sliced, FitsRows, pieces, fits_within, length-pieces, member_of_part, piece_at, kept, word_length, HasBitsFrom}
-use Rattle.std.proofs.lemmas.List.{length-append}
+use Rattle.arrow_logic.proofs.Common.{number_at, ◌≡◌, ℕ, suc, ◌+◌, ◌-◌, ◌/◌, ◌^◌, ◌<◌, ◌≤◌, ◌==◌, ℤ, pos, ◌-ℤ◌, ◌≤ℤ◌, Bool, true, false, Option, List, [], ◌∷◌, ◌++◌, length, map, take, get_or, slice_index, if◌then◌else◌, bit_and, nat_eq, refl, ap, subst, subst₂, sym, ◌∙◌, append_assoc, arith, inl, inr, bit_at, range_with_len, take-add, ints, cases_lt, ext_get_or, get_or-append_right, get_or_append_left, map-append, get_or-map-range_with_len, length-map-range_with_len, map-range_with_len_more, shr_and_one, get_or_from_slice_get, map-map, Slot, Number, IsOffsets, last_of, valid_length, sliced, at_most_last, offsets_rise, length-sliced, FitsRows, pieces, fits_within, length-pieces, member_of_part, piece_at, kept, word_length, HasBitsFrom, length-append}
+use Rattle.arrow_memory.proofs.WordLemmas.{range-add}
 use Rattle.arrow_logic.proofs.KeptLemmas.{at-kept, length-kept}
 
 -- rows that lie so in bytes, under a validity
@@ -43,18 +43,33 @@ module _ (v : Option (List Bool)) (os bytes : List ℕ) (sound : IsOffsets os) (
       let behind = sym (map-map pos (word_length word os row) (range_with_len 0 count)) ∙ ap (map pos) by_bits in
       more ∙ ((λ t. before t ++ behind t) ∙ (sym (map-append pos (take row all) (sliced all row count)) ∙ ap (map pos) (sym (take-add row count all))))
 
--- one row more, by a bit of a word and the offsets on both sides of it
-pub length_next : {A : Type 0} (f : A → ℤ) (old new : List A) (x : A) (before : List ℤ) (word : ℕ) (os : List ℕ) (start k : ℕ) (begin end : ℤ) → k < 64 → new ≡ old ++ x ∷ [] → f x ≡ (if nat_eq (bit_and (word / 2 ^ k) 1) 1 then end -ℤ begin else pos 0) → begin ≡ pos (slice_index os (start + k)) → end ≡ pos (slice_index os (start + k + 1)) → begin ≤ℤ end → map f old ≡ before ++ map (λ k. pos (word_length word os start k)) (range_with_len 0 k) → map f new ≡ before ++ map (λ k. pos (word_length word os start k)) (range_with_len 0 (k + 1))
-length_next f old new x before word os start k begin end below is value here there order so_far =
+-- where a row begins and ends that is read, and in this order
+pub row_bounds : {A : Type 0} (f : A → ℤ) (xs : List A) (os : List ℕ) (row : ℕ) (begin end : A) → map f xs ≡ map pos os → IsOffsets os → row + 1 < length os → begin ≡ get_or xs row begin → end ≡ get_or xs (row + 1) end → (f begin ≡ pos (slice_index os row)) × (f end ≡ pos (slice_index os (row + 1))) × (slice_index os row ≤ slice_index os (row + 1))
+row_bounds f xs os row begin end values sound within here there =
+    (number_at f xs os row begin values (omega (arith, within)) here, number_at f xs os (row + 1) end values within there, offsets_rise os row (row + 1) sound (omega arith) within)
+
+-- one row more, by a bit of a part of the word and the offsets on both sides of it
+pub length_next : {A : Type 0} (f : A → ℤ) (old new : List A) (x : A) (before : List ℤ) (word part : ℕ) (os : List ℕ) (start first k : ℕ) (begin end : ℤ) → (bit_at part k == 1) ≡ (bit_at word (first + k) == 1) → new ≡ old ++ x ∷ [] → f x ≡ (if nat_eq (bit_and (part / 2 ^ k) 1) 1 then end -ℤ begin else pos 0) → begin ≡ pos (slice_index os (start + first + k)) → end ≡ pos (slice_index os (start + first + k + 1)) → begin ≤ℤ end → map f old ≡ before ++ map (λ k. pos (word_length word os start k)) (range_with_len first k) → map f new ≡ before ++ map (λ k. pos (word_length word os start k)) (range_with_len first (k + 1))
+length_next f old new x before word part os start first k begin end same is value here there order so_far =
     let lengths = λ (n : ℕ). pos (word_length word os start n) in
-    let bit : nat_eq (bit_and (word / 2 ^ k) 1) 1 ≡ (bit_at word k == 1) = ap (λ b. nat_eq b 1) (shr_and_one word k) in
-    let long : end -ℤ begin ≡ pos (slice_index os (start + k + 1) - slice_index os (start + k)) = omega (arith, ints) in
-    let one : f x ≡ lengths k = value ∙ ((λ t. if bit t then long t else pos 0) ∙ choice (bit_at word k == 1) _) in
-    ap (map f) is ∙ (map-append f old (x ∷ []) ∙ ((λ t. so_far t ++ one t ∷ []) ∙ (append_assoc before (map lengths (range_with_len 0 k)) (lengths k ∷ []) ∙ ap (λ zs. before ++ zs) (sym (map-range_with_len_more lengths 0 k k (omega arith))))))
+    let bit : nat_eq (bit_and (part / 2 ^ k) 1) 1 ≡ (bit_at word (first + k) == 1) = ap (λ b. nat_eq b 1) (shr_and_one part k) ∙ same in
+    let at : start + first + k ≡ start + (first + k) = omega arith in
+    let long : end -ℤ begin ≡ pos (slice_index os (start + (first + k) + 1) - slice_index os (start + (first + k))) = omega (arith, ints, here, there, order, ap (slice_index os) at, ap (λ i. slice_index os (i + 1)) at) in
+    let one : f x ≡ lengths (first + k) = value ∙ ((λ t. if bit t then long t else pos 0) ∙ choice (bit_at word (first + k) == 1) _) in
+    ap (map f) is ∙ (map-append f old (x ∷ []) ∙ ((λ t. so_far t ++ one t ∷ []) ∙ (append_assoc before (map lengths (range_with_len first k)) (lengths (first + k) ∷ []) ∙ ap (λ zs. before ++ zs) (sym (map-range_with_len_more lengths first k (first + k) refl)))))
   where
     choice : (t : Bool) (n : ℕ) → (if t then pos n else pos 0) ≡ pos (if t then n else 0)
     choice true n = refl
     choice false n = refl
+
+-- those of two parts, one behind the other
+pub appended_twice : (lengths : ℕ → ℤ) (old mid new : List ℤ) (m n count : ℕ) → mid ≡ old ++ map lengths (range_with_len 0 m) → new ≡ mid ++ map lengths (range_with_len m n) → m + n ≡ count → new ≡ old ++ map lengths (range_with_len 0 count)
+appended_twice lengths old mid new m n count first second all =
+    let low = range_with_len 0 m in
+    let high = range_with_len m n in
+    let zero : 0 + m ≡ m = omega arith in
+    let both : range_with_len 0 count ≡ low ++ high = ap (range_with_len 0) (sym all) ∙ (range-add 0 m n ∙ ap (λ a. low ++ range_with_len a n) zero) in
+    second ∙ (ap (λ xs. xs ++ map lengths high) first ∙ (append_assoc old (map lengths low) (map lengths high) ∙ ap (λ xs. old ++ xs) (sym (ap (map lengths) both ∙ map-append lengths low high))))
 
 -- values whose numbers are these, as slots
 pub slots_of_numbers : {A : Type 0} (slot : A → Slot) (number : A → ℤ) → ((x : A) → slot x ≡ Number (number x)) → (xs : List A) (ns : List ℕ) → map number xs ≡ map pos ns → map slot xs ≡ map (λ n. Number (pos n)) ns
@@ -64,56 +79,3 @@ slots_of_numbers slot number numbered xs ns same =
     every : (ys : _) → map slot ys ≡ map (λ x. Number (number x)) ys
     every [] = refl
     every (y ∷ ys) = λ i. numbered y i ∷ every ys i
-
--- ---- a word in two halves
-
--- the lengths of the rows of both
-pub halves_of_lengths : (word low high : ℕ) (os : List ℕ) (start m n : ℕ) → ((k : ℕ) → k < 32 → (bit_at low k == 1) ≡ (bit_at word (0 + k) == 1)) → ((k : ℕ) → k < 32 → (bit_at high k == 1) ≡ (bit_at word (32 + k) == 1)) → m ≤ 32 → n ≤ 32 → (0 < n → m ≡ 32)
-    → map (λ k. pos (word_length low os start k)) (range_with_len 0 m) ++ map (λ k. pos (word_length high os (start + m) k)) (range_with_len 0 n) ≡ map (λ k. pos (word_length word os start k)) (range_with_len 0 (m + n))
-halves_of_lengths word low high os start m n is_low is_high small others full = ext_get_or (pos 0) (first ++ second) all long each
-  where
-    first : List ℤ
-    first = map (λ k. pos (word_length low os start k)) (range_with_len 0 m)
-
-    second : List ℤ
-    second = map (λ k. pos (word_length high os (start + m) k)) (range_with_len 0 n)
-
-    all : List ℤ
-    all = map (λ k. pos (word_length word os start k)) (range_with_len 0 (m + n))
-
-    low_bit : (i : ℕ) → i < 32 → (bit_at low i == 1) ≡ (bit_at word i == 1)
-    low_bit i below =
-        let at : 0 + i ≡ i = omega arith in
-        is_low i below ∙ ap (λ q. bit_at word q == 1) at
-
-    firsts : length first ≡ m
-    firsts = length-map-range_with_len (λ k. pos (word_length low os start k)) 0 m
-
-    seconds : length second ≡ n
-    seconds = length-map-range_with_len (λ k. pos (word_length high os (start + m) k)) 0 n
-
-    total : length (first ++ second) ≡ m + n
-    total = length-append first second ∙ (λ t. firsts t + seconds t)
-
-    long : length (first ++ second) ≡ length all
-    long = total ∙ sym (length-map-range_with_len (λ k. pos (word_length word os start k)) 0 (m + n))
-
-    each : (i : ℕ) → i < length (first ++ second) → get_or (first ++ second) i (pos 0) ≡ get_or all i (pos 0)
-    each i within =
-        let inside : i < m + n = omega (arith, within, total) in
-        let read = get_or-map-range_with_len (λ k. pos (word_length word os start k)) 0 (m + n) i i (pos 0) inside (omega arith) in
-        elim (cases_lt i m) as (λ _. get_or (first ++ second) i (pos 0) ≡ get_or all i (pos 0)) [
-          | inl below ↦
-              get_or_append_left first second (pos 0) i (omega (arith, below, firsts))
-              ∙ (get_or-map-range_with_len (λ k. pos (word_length low os start k)) 0 m i i (pos 0) below (omega arith)
-              ∙ (ap (λ bit. pos (valid_length bit os (start + i))) (low_bit i (omega (arith, below, small))) ∙ sym read))
-          | inr past ↦
-              let whole : m ≡ 32 = full (omega (arith, past, inside)) in
-              let place : i - m < n = omega (arith, past, inside) in
-              let at : 32 + (i - m) ≡ i = omega (arith, past, whole) in
-              let bit : (bit_at high (i - m) == 1) ≡ (bit_at word i == 1) = is_high (i - m) (omega (arith, place, others)) ∙ ap (λ q. bit_at word q == 1) at in
-              let row : start + m + (i - m) ≡ start + i = omega (arith, past) in
-              get_or-append_right first second m i (pos 0) firsts (omega (arith, past))
-              ∙ (get_or-map-range_with_len (λ k. pos (word_length high os (start + m) k)) 0 n (i - m) (i - m) (pos 0) place (omega arith)
-              ∙ ((λ t. pos (valid_length (bit t) os (row t))) ∙ sym read))
-        ]

@@ -20,49 +20,13 @@ nulls_are_null n r is =
 -- where there is no validity
 pub unmarked_rows : (array : AnyArray) (r : Bool) → MarksArray array None → (IsTrue r ↔ (kind_of array ≡ null_kind)) → map is_null (any_array_rows array) ≡ replicate (length (any_array_rows array)) r
 unmarked_rows (Null p) r marks told = nulls_are_null p.count r (told.1 refl)
-unmarked_rows (Boolean p) r marks told =
-    values_are_not_null (any_array_rows (Boolean p)) r marks (λ e. let k = told.0 e in cc)
-unmarked_rows (Primitive p) r marks told =
-    values_are_not_null (any_array_rows (Primitive p)) r marks (λ e. let k = told.0 e in cc)
-unmarked_rows (Utf8 p) r marks told =
-    values_are_not_null (any_array_rows (Utf8 p)) r marks (λ e. let k = told.0 e in cc)
-unmarked_rows (LargeUtf8 p) r marks told =
-    values_are_not_null (any_array_rows (LargeUtf8 p)) r marks (λ e. let k = told.0 e in cc)
-unmarked_rows (Binary p) r marks told =
-    values_are_not_null (any_array_rows (Binary p)) r marks (λ e. let k = told.0 e in cc)
-unmarked_rows (LargeBinary p) r marks told =
-    values_are_not_null (any_array_rows (LargeBinary p)) r marks (λ e. let k = told.0 e in cc)
-unmarked_rows (FixedSizeBinary p) r marks told =
-    values_are_not_null (any_array_rows (FixedSizeBinary p)) r marks (λ e. let k = told.0 e in cc)
-unmarked_rows (ListOf p) r marks told =
-    values_are_not_null (any_array_rows (ListOf p)) r marks (λ e. let k = told.0 e in cc)
-unmarked_rows (FixedSizeList p) r marks told =
-    values_are_not_null (any_array_rows (FixedSizeList p)) r marks (λ e. let k = told.0 e in cc)
-unmarked_rows (Struct p) r marks told =
-    values_are_not_null (any_array_rows (Struct p)) r marks (λ e. let k = told.0 e in cc)
-unmarked_rows (Union p) r marks told =
-    values_are_not_null (any_array_rows (Union p)) r marks (λ e. let k = told.0 e in cc)
-unmarked_rows (Map p) r marks told =
-    values_are_not_null (any_array_rows (Map p)) r marks (λ e. let k = told.0 e in cc)
-unmarked_rows (Dictionary p) r marks told =
-    values_are_not_null (any_array_rows (Dictionary p)) r marks (λ e. let k = told.0 e in cc)
+unmarked_rows array r marks told =
+    values_are_not_null (any_array_rows array) r marks (λ e. let k = told.0 e in cc)
 
 -- where there is one
 pub marked_rows : (array : AnyArray) (bits : List Bool) → MarksArray array (Some bits) → bits ≡ map (λ s. not (is_null s)) (any_array_rows array)
 marked_rows (Null p) bits marks = absurd (cc)
-marked_rows (Boolean p) bits marks = marks
-marked_rows (Primitive p) bits marks = marks
-marked_rows (Utf8 p) bits marks = marks
-marked_rows (LargeUtf8 p) bits marks = marks
-marked_rows (Binary p) bits marks = marks
-marked_rows (LargeBinary p) bits marks = marks
-marked_rows (FixedSizeBinary p) bits marks = marks
-marked_rows (ListOf p) bits marks = marks
-marked_rows (FixedSizeList p) bits marks = marks
-marked_rows (Struct p) bits marks = marks
-marked_rows (Union p) bits marks = marks
-marked_rows (Map p) bits marks = marks
-marked_rows (Dictionary p) bits marks = marks
+marked_rows array bits marks = marks
 
 -- and turned
 pub valid_rows : (rows : List Slot) (n : ℕ) (r : Bool) → map is_null rows ≡ replicate n r → replicate n (not r) ≡ map (λ s. not (is_null s)) rows

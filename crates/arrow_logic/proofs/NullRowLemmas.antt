@@ -1,6 +1,5 @@
 -- Which rows are null, by the validity.
-use Rattle.arrow_logic.proofs.Common.{◌≡◌, ◌∙◌, ℕ, zero, suc, Bool, true, false, Option, Some, None, List, [], ◌∷◌, length, map, replicate, arith, ap, subst, sym, refl, All, All-head, All-tail, is_null, Slot, both_bits, either_bits, FitsRows, IsValue, MarksNulls, length-map, masked, length-masked, marks-masked, nulls, combined}
-use Rattle.std.specs.Prelude.{not}
+use Rattle.arrow_logic.proofs.Common.{fits_combined, not-not, ◌≡◌, ◌∙◌, ℕ, zero, suc, Bool, true, false, Option, Some, None, List, [], ◌∷◌, length, map, replicate, arith, ap, subst, sym, refl, All, All-head, All-tail, is_null, Slot, both_bits, either_bits, FitsRows, IsValue, MarksNulls, length-map, masked, length-masked, marks-masked, nulls, combined, not}
 
 -- which of so many rows a validity marks as null
 abbrev pub unset_bits : Option (List Bool) → ℕ → List Bool
@@ -14,14 +13,10 @@ no_nulls (row ∷ rows) none =
     let rest = no_nulls rows (All-tail IsValue row rows none) in
     λ i. first i ∷ rest i
 
-not_twice : (b : Bool) → not (not b) ≡ b
-not_twice true = refl
-not_twice false = refl
-
 null_where_unset : (rows : List Slot) → map not (map (λ s. not (is_null s)) rows) ≡ nulls rows
 null_where_unset [] = refl
 null_where_unset (row ∷ rows) =
-    let first = not_twice (is_null row) in
+    let first = not-not (is_null row) in
     let rest = null_where_unset rows in
     λ i. first i ∷ rest i
 
@@ -30,29 +25,16 @@ pub nulls_marked : (v : Option (List Bool)) (rows : List Slot) → MarksNulls v 
 nulls_marked None rows marks = no_nulls rows marks
 nulls_marked (Some bits) rows marks = sym (ap (map not) marks ∙ null_where_unset rows)
 
-length-both_bits : (bits others : List Bool) → length bits ≡ length others → length (both_bits bits others) ≡ length bits
-length-both_bits [] others long = refl
-length-both_bits (b ∷ bits) [] long = absurd (omega (arith, long))
-length-both_bits (b ∷ bits) (o ∷ others) long = omega (arith, length-both_bits bits others (omega (arith, long)))
-
--- a validity of two has a bit for each row
-pub fits_combined : (v w : Option (List Bool)) (n : ℕ) → FitsRows v n → FitsRows w n → FitsRows (combined v w) n
-fits_combined None w n left right = right
-fits_combined (Some bits) None n left right = left
-fits_combined (Some bits) (Some others) n left right = length-both_bits bits others (left ∙ sym right) ∙ left
-
 unset_left : (bits : List Bool) (n : ℕ) → length bits ≡ n → map not bits ≡ either_bits (map not bits) (replicate n false)
 unset_left [] zero long = refl
-unset_left [] (suc n) long = absurd (omega (arith, long))
-unset_left (b ∷ bits) zero long = absurd (omega (arith, long))
 unset_left (true ∷ bits) (suc n) long = ap (λ xs. false ∷ xs) (unset_left bits n (omega (arith, long)))
 unset_left (false ∷ bits) (suc n) long = ap (λ xs. true ∷ xs) (unset_left bits n (omega (arith, long)))
+unset_left bits n long = absurd (omega (arith, long))
 
 unset_right : (bits : List Bool) (n : ℕ) → length bits ≡ n → map not bits ≡ either_bits (replicate n false) (map not bits)
 unset_right [] zero long = refl
-unset_right [] (suc n) long = absurd (omega (arith, long))
-unset_right (b ∷ bits) zero long = absurd (omega (arith, long))
 unset_right (b ∷ bits) (suc n) long = ap (λ xs. not b ∷ xs) (unset_right bits n (omega (arith, long)))
+unset_right bits n long = absurd (omega (arith, long))
 
 none_unset : (n : ℕ) → replicate n false ≡ either_bits (replicate n false) (replicate n false)
 none_unset zero = refl

@@ -1,6 +1,5 @@
 -- Rows that become null where they equal others, by what is stored and two validities.
-use Rattle.arrow_logic.proofs.Common.{◌≡◌, ◌∙◌, ◌&&◌, Bool, true, false, not, Option, None, Some, List, [], ◌∷◌, length, map, if◌then◌else◌, ap, subst, sym, refl, IsTrue, length-map, eq, is_null, nulled, related, same, mask, masked, Slot, Boolean, Null, FitsRows, IsValue, valid_but, within_valid, row_by_row}
-use Rattle.std.specs.Prelude.{◌↔◌}
+use Rattle.arrow_logic.proofs.Common.{◌≡◌, ◌∙◌, ◌&&◌, Bool, true, false, not, Option, None, Some, List, [], ◌∷◌, length, map, if◌then◌else◌, ap, subst, sym, refl, IsTrue, length-map, eq, is_null, nulled, related, same, mask, masked, Slot, Boolean, Null, FitsRows, IsValue, valid_but, within_valid, row_by_row, ◌↔◌}
 use Rattle.arrow_logic.proofs.SameLemmas.{same_slots, slot_is_value}
 
 -- ---- one row
@@ -40,37 +39,24 @@ row slot equal gives false false x y = refl
 
 -- by the rows of another array
 pub nulled_rows : {A : Type 0} (slot : A → Slot) (equal : A → A → Bool) → NullsEqual slot equal → (v w : Option (List Bool)) (xs ys : List A) → mask (valid_but v (within_valid w (row_by_row equal xs ys))) (map slot xs) ≡ row_by_row nulled (masked v (map slot xs)) (masked w (map slot ys))
-nulled_rows slot equal gives None None [] ys = refl
-nulled_rows slot equal gives None None (x ∷ xs) [] = refl
 nulled_rows slot equal gives None None (x ∷ xs) (y ∷ ys) =
     λ i. row slot equal gives true true x y i ∷ nulled_rows slot equal gives None None xs ys i
-nulled_rows slot equal gives None (Some []) [] ys = refl
-nulled_rows slot equal gives None (Some []) (x ∷ xs) ys = refl
-nulled_rows slot equal gives None (Some (b ∷ ws)) [] ys = refl
-nulled_rows slot equal gives None (Some (b ∷ ws)) (x ∷ xs) [] = refl
 nulled_rows slot equal gives None (Some (b ∷ ws)) (x ∷ xs) (y ∷ ys) =
     λ i. row slot equal gives true b x y i ∷ nulled_rows slot equal gives None (Some ws) xs ys i
-nulled_rows slot equal gives (Some []) w xs ys = refl
-nulled_rows slot equal gives (Some (a ∷ vs)) None [] ys = refl
-nulled_rows slot equal gives (Some (a ∷ vs)) None (x ∷ xs) [] = refl
 nulled_rows slot equal gives (Some (a ∷ vs)) None (x ∷ xs) (y ∷ ys) =
     λ i. row slot equal gives a true x y i ∷ nulled_rows slot equal gives (Some vs) None xs ys i
-nulled_rows slot equal gives (Some (a ∷ vs)) (Some []) [] ys = refl
-nulled_rows slot equal gives (Some (a ∷ vs)) (Some []) (x ∷ xs) ys = refl
-nulled_rows slot equal gives (Some (a ∷ vs)) (Some (b ∷ ws)) [] ys = refl
-nulled_rows slot equal gives (Some (a ∷ vs)) (Some (b ∷ ws)) (x ∷ xs) [] = refl
 nulled_rows slot equal gives (Some (a ∷ vs)) (Some (b ∷ ws)) (x ∷ xs) (y ∷ ys) =
     λ i. row slot equal gives a b x y i ∷ nulled_rows slot equal gives (Some vs) (Some ws) xs ys i
+nulled_rows slot equal gives v w [] ys = refl
+nulled_rows slot equal gives v w xs ys = refl
 
 -- by one value
 pub nulled_by_value : {A : Type 0} (slot : A → Slot) (equal : A → A → Bool) → NullsEqual slot equal → (v : Option (List Bool)) (xs : List A) (y : A) → mask (valid_but v (map (λ x. equal x y) xs)) (map slot xs) ≡ map (λ s. nulled s (slot y)) (masked v (map slot xs))
-nulled_by_value slot equal gives None [] y = refl
 nulled_by_value slot equal gives None (x ∷ xs) y =
     λ i. row slot equal gives true true x y i ∷ nulled_by_value slot equal gives None xs y i
-nulled_by_value slot equal gives (Some []) xs y = refl
-nulled_by_value slot equal gives (Some (a ∷ vs)) [] y = refl
 nulled_by_value slot equal gives (Some (a ∷ vs)) (x ∷ xs) y =
     λ i. row slot equal gives a true x y i ∷ nulled_by_value slot equal gives (Some vs) xs y i
+nulled_by_value slot equal gives v xs y = refl
 
 -- ---- how many bits there are
 

@@ -1,6 +1,5 @@
 -- Rows of bytes under construction: a row is written behind those so far.
-use Rattle.arrow_logic.proofs.Common.{◌≡◌, ℕ, ◌+◌, ◌-◌, ◌<◌, ◌≤◌, Bool, true, false, Option, Result, Ok, Err, IsOkUnless, if◌then◌else◌, List, [], ◌∷◌, ◌++◌, length, get_or, take, drop, slice_index, refl, ap, sym, subst, ◌∙◌, arith, All, IsErrAnd, ints, get_or_from_slice_get, take-append-le, drop-append-le, take_all, length-drop, take_more, drop-append_seam, sliced-sliced, Error, Overflow, OutOfMemory, IsGrowthError, IsOffsets, last_of, with_row, sliced, at_most_last, last_behind, offsets_more, offsets_rise, FitsRows, pieces, pieces_from, length-pieces, piece_at, valid_at, kept}
-use Rattle.std.proofs.lemmas.List.{length-append}
+use Rattle.arrow_logic.proofs.Common.{◌≡◌, ℕ, ◌+◌, ◌-◌, ◌<◌, ◌≤◌, Bool, true, false, Option, Result, Ok, Err, IsOkUnless, if◌then◌else◌, List, [], ◌∷◌, ◌++◌, length, get_or, take, drop, slice_index, refl, ap, sym, subst, ◌∙◌, arith, All, IsErrAnd, ints, get_or_from_slice_get, take-append-le, drop-append-le, take_all, length-drop, take_more, drop-append_seam, sliced-sliced, Error, Overflow, OutOfMemory, IsGrowthError, IsOffsets, last_of, with_row, sliced, at_most_last, last_behind, offsets_more, offsets_rise, FitsRows, pieces, pieces_from, length-pieces, piece_at, valid_at, kept, length-append}
 use Rattle.arrow_logic.proofs.KeptLemmas.{at-kept}
 
 -- rows that lie so: the bytes end with the last row

@@ -1,7 +1,6 @@
 -- What a connective makes of rows and a scalar.
-use Rattle.arrow_logic.proofs.Common.{◌≡◌, ℕ, Bool, true, false, not, Option, Some, None, List, [], ◌∷◌, length, map, replicate, if◌then◌else◌, refl, ap, sym, ◌∙◌, map-map, negated, mask, masked, Slot, Null, Boolean, slot_by, kleene_by, decider, decides, Connective, And, Or}
+use Rattle.arrow_logic.proofs.Common.{◌≡◌, ℕ, Bool, true, false, not, Option, Some, None, List, [], ◌∷◌, length, map, replicate, if◌then◌else◌, refl, ap, sym, ◌∙◌, map-map, negated, mask, masked, Slot, Null, Boolean, slot_by, kleene_by, decider, decides, Connective, And, Or, map-masked}
 use Rattle.arrow_logic.proofs.MaskedLemmas.{map-constant, masked-constant, masked-same, replicate-of, none-valid}
-use Rattle.arrow_flat.proofs.RowLemmas.{map-masked}
 
 -- one row and a truth value, or null
 

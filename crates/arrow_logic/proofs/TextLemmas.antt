@@ -1,6 +1,5 @@
 -- Characters of a text, and the bytes that begin them.
-use Rattle.arrow_logic.proofs.Common.{◌≡◌, ℕ, zero, suc, ◌+◌, ◌-◌, ◌<◌, ◌≤◌, ◌/◌, min, ℤ, pos, negsuc, ◌≤ℤ◌, ◌<ℤ◌, unsigned_abs, Bool, true, false, ◌||◌, nat_lt, nat_le, ltb, List, [], ◌∷◌, ◌++◌, length, take, drop, get_or, refl, ap, sym, subst, ◌∙◌, arith, count_by, cond, if◌then◌else◌, IsUtf8, chars, encode_utf8_all, encode_utf8, append_assoc, take_at, drop_at, length-append, lt-ltb, le-leb, ltb-true, drop-cons, take-append-drop, All, encode, le-ltb, lt-leb, ints, drop_min, length-drop, take_all, sum_by-append, sum_by-cons, IsAscii, bit_or, le_or_l, le_or_r, or_lt, IsAscii-nil, IsAscii-drop, IsAscii-take, chars-IsAscii, encodes-IsAscii, encodes-chars, next, cut, part_begin, sliced, IsCutByBytes, begins, skipped, text_cut}
-use Rattle.std.specs.Prelude.{Option, None, Some}
+use Rattle.arrow_logic.proofs.Common.{All-cons, All-nil, All-tail, ◌≡◌, ℕ, zero, suc, ◌+◌, ◌-◌, ◌<◌, ◌≤◌, ◌/◌, min, ℤ, pos, negsuc, ◌≤ℤ◌, ◌<ℤ◌, unsigned_abs, Bool, true, false, ◌||◌, nat_lt, nat_le, ltb, List, [], ◌∷◌, ◌++◌, length, take, drop, get_or, refl, ap, sym, subst, ◌∙◌, arith, count_by, cond, if◌then◌else◌, IsUtf8, chars, encode_utf8_all, encode_utf8, append_assoc, take_at, drop_at, length-append, lt-ltb, le-leb, ltb-true, drop-cons, take-append-drop, All, encode, le-ltb, lt-leb, ints, drop_min, length-drop, take_all, sum_by-append, sum_by-cons, IsAscii, bit_or, le_or_l, le_or_r, or_lt, IsAscii-nil, IsAscii-drop, IsAscii-take, chars-IsAscii, encodes-IsAscii, encodes-chars, next, cut, part_begin, sliced, IsCutByBytes, begins, skipped, text_cut, Option, None, Some, or_from, or_right}
 
 -- a character's bytes: one that begins it, and others that go on with it
 record Spelt (c : ℕ) : Type 0 where
@@ -13,31 +12,17 @@ record Spelt (c : ℕ) : Type 0 where
 begins_low : (b : ℕ) → b < 128 → begins b ≡ true
 begins_low b low = ap (λ t. t || nat_le 192 b) (lt-ltb b 128 low)
 
-or_true : (x y : Bool) → y ≡ true → (x || y) ≡ true
-or_true true y is = refl
-or_true false y is = is
-
 begins_high : (b : ℕ) → 192 ≤ b → begins b ≡ true
-begins_high b high = or_true (nat_lt b 128) (nat_le 192 b) (le-leb 192 b high)
-
-or_false : (x y : Bool) → x ≡ false → y ≡ false → (x || y) ≡ false
-or_false x y p q = (λ i. p i || q i)
-
-goes_on : (b : ℕ) → 128 ≤ b → b < 192 → begins b ≡ false
-goes_on b low high = or_false (nat_lt b 128) (nat_le 192 b) (le-ltb b 128 low) (lt-leb 192 b high)
+begins_high b high = or_right (nat_lt b 128) (nat_le 192 b) (le-leb 192 b high)
 
 next_on : (x : ℕ) → begins (next x) ≡ false
-next_on x = goes_on (next x) (omega arith) (omega arith)
-
-none_on : All (λ b. begins b ≡ false) []
-none_on = λ k d within. absurd (omega (arith, within))
-
-more_on : (b : ℕ) (bs : List ℕ) → begins b ≡ false → All (λ b. begins b ≡ false) bs → All (λ b. begins b ≡ false) (b ∷ bs)
-more_on b bs on all zero d within = on
-more_on b bs on all (suc k) d within = all k d (omega (arith, within))
+next_on x = or_from (nat_lt (next x) 128) (nat_le 192 (next x)) (le-ltb (next x) 128 (omega arith)) (lt-leb 192 (next x) (omega arith))
 
 one_on : (x : ℕ) (bs : List ℕ) → All (λ b. begins b ≡ false) bs → All (λ b. begins b ≡ false) (next x ∷ bs)
-one_on x bs on = more_on (next x) bs (next_on x) on
+one_on x bs on = All-cons (λ b. begins b ≡ false) (next x) bs (next_on x) on
+
+none_on : All (λ b. begins b ≡ false) []
+none_on = All-nil (λ b. begins b ≡ false)
 
 abbrev encoded : ℕ → Bool → Bool → Bool → List ℕ
 encoded c x y z =
@@ -61,18 +46,14 @@ spelt : (c : ℕ) → Spelt c
 spelt c = spelt_by c (ltb c 128) (ltb c 2048) (ltb c 65536) refl (encode_is c)
 
 -- bytes that go on with a character are passed
+one_more : (k : ℕ) (b : ℕ) (bs : List ℕ) → begins b ≡ false → skipped k (b ∷ bs) ≡ suc (skipped k bs)
+one_more zero b bs goes = ap (λ t. if t then 0 else suc (skipped zero bs)) goes
+one_more (suc k) b bs goes = ap (λ t. suc (skipped (if t then k else suc k) bs)) goes
+
 passed : (k : ℕ) (rest bs : List ℕ) → All (λ b. begins b ≡ false) rest → skipped k (rest ++ bs) ≡ length rest + skipped k bs
 passed k [] bs on = omega arith
-passed zero (b ∷ rest) bs on =
-    let here : begins b ≡ false = on 0 0 (omega arith) in
-    let more = passed zero rest bs (λ k d within. on (suc k) d (omega (arith, within))) in
-    let step : skipped zero (b ∷ rest ++ bs) ≡ suc (skipped zero (rest ++ bs)) = ap (λ t. if t then 0 else suc (skipped zero (rest ++ bs))) here in
-    omega (arith, step, more)
-passed (suc k) (b ∷ rest) bs on =
-    let here : begins b ≡ false = on 0 0 (omega arith) in
-    let more = passed (suc k) rest bs (λ k d within. on (suc k) d (omega (arith, within))) in
-    let step : skipped (suc k) (b ∷ rest ++ bs) ≡ suc (skipped (suc k) (rest ++ bs)) = ap (λ t. suc (skipped (if t then k else suc k) (rest ++ bs))) here in
-    omega (arith, step, more)
+passed k (b ∷ rest) bs on =
+    omega (arith, one_more k b (rest ++ bs) (on 0 0 (omega arith)), passed k rest bs (All-tail (λ b. begins b ≡ false) b rest on))
 
 -- the first k characters take the bytes that spell them
 pub skipped_is : (k : ℕ) (cs : List ℕ) → skipped k (encode_utf8_all cs) ≡ length (encode_utf8_all (take k cs))
@@ -107,10 +88,6 @@ counted_is (c ∷ cs) =
     omega (arith, parts, first, none_begin s.rest s.on, counted_is cs)
 
 -- a byte more: as many characters, or one more
-one_more : (k : ℕ) (b : ℕ) (bs : List ℕ) → begins b ≡ false → skipped k (b ∷ bs) ≡ suc (skipped k bs)
-one_more zero b bs goes = ap (λ t. if t then 0 else suc (skipped zero bs)) goes
-one_more (suc k) b bs goes = ap (λ t. suc (skipped (if t then k else suc k) bs)) goes
-
 next_at : (b : ℕ) (bs : List ℕ) (k p : ℕ) (t : Bool) → begins b ≡ t → skipped k bs ≡ p → skipped (cond t 1 0 + k) (b ∷ bs) ≡ suc p
 next_at b bs k p true starts is =
     let more : 1 + k ≡ suc k = omega arith in

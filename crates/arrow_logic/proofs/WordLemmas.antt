@@ -1,6 +1,5 @@
 -- Truth values that are true: in a word of rows, some, and all.
-use Rattle.arrow_logic.proofs.Common.{◌≡◌, ℕ, zero, suc, ◌+◌, ◌-◌, ◌*◌, ◌^◌, ◌<◌, ◌≤◌, ◌&&◌, Bool, true, false, not, cond, Option, List, [], ◌∷◌, length, map, get_or, if◌then◌else◌, refl, ap, sym, subst, ◌∙◌, arith, inl, inr, w64, Contains, bit_at, trailing_zeros, All, cases_lt, nat_tests, length-map, All-nil, All-cons, sum_by-cons, bit_at-zero, bit_at-trailing_zeros, is_null, mask, masked, selects, Slot, Null, Boolean, FitsRows}
-use Rattle.std.specs.Prelude.{◌==◌, count_by}
+use Rattle.arrow_logic.proofs.Common.{◌≡◌, ℕ, zero, suc, ◌+◌, ◌-◌, ◌*◌, ◌^◌, ◌<◌, ◌≤◌, ◌&&◌, Bool, true, false, not, cond, Option, List, [], ◌∷◌, length, map, get_or, if◌then◌else◌, refl, ap, sym, subst, ◌∙◌, arith, inl, inr, w64, Contains, bit_at, trailing_zeros, All, cases_lt, nat_tests, length-map, All-nil, All-cons, sum_by-cons, bit_at-zero, bit_at-trailing_zeros, is_null, mask, masked, selects, Slot, Null, Boolean, FitsRows, ◌==◌, count_by}
 use Rattle.arrow_logic.proofs.MaskedLemmas.{bits_of, length-bits_of, masked-by_bits}
 
 -- ---- one row
@@ -23,9 +22,7 @@ valid_selects (b ∷ bits) (x ∷ xs) (suc i) = valid_selects bits xs i
 -- a row that is true, and where it stands
 selected_is_true : (s : Slot) → selects s ≡ true → s ≡ Boolean true
 selected_is_true (Boolean true) is = refl
-selected_is_true (Boolean false) is = cc
-selected_is_true Null is = cc
-selected_is_true s is = cc
+selected_is_true _ is = cc
 
 true_at : (rows : List Slot) (i : ℕ) → selects (get_or rows i Null) ≡ true → (i < length rows) × (get_or rows i (Boolean true) ≡ Boolean true)
 true_at [] i is = cc
@@ -91,8 +88,6 @@ all_of_mask (false ∷ bits) (x ∷ xs) nulls unset =
 
 none_of_mask : (bits xs : List Bool) → length bits ≡ length xs → All (λ s. s ≡ Boolean true) (mask bits (map Boolean xs)) → (count_by is_null (mask bits (map Boolean xs)) ≡ 0) × (count_by not xs ≡ 0)
 none_of_mask [] [] fits all = (refl, refl)
-none_of_mask [] (x ∷ xs) fits all = absurd (omega (arith, fits))
-none_of_mask (b ∷ bits) [] fits all = absurd (omega (arith, fits))
 none_of_mask (true ∷ bits) (true ∷ xs) fits all =
     let rest = none_of_mask bits xs (omega (arith, fits)) (next_true (Boolean true) (mask bits (map Boolean xs)) all) in
     (omega (arith, rest.0, sum_by-cons (λ s. cond (is_null s) 1 0) (Boolean true) (mask bits (map Boolean xs))), omega (arith, rest.1, sum_by-cons (λ b. cond (not b) 1 0) true xs))
@@ -102,6 +97,7 @@ none_of_mask (true ∷ bits) (false ∷ xs) fits all =
 none_of_mask (false ∷ bits) (x ∷ xs) fits all =
     let first : Null ≡ Boolean true = all 0 Null (omega arith) in
     absurd (cc)
+none_of_mask bits xs fits all = absurd (omega (arith, fits))
 
 -- every row is true exactly where none is null and no value is false
 pub all_true : (v : Option (List Bool)) (xs : List Bool) → count_by is_null (masked v (map Boolean xs)) ≡ 0 → count_by not xs ≡ 0 → All (λ s. s ≡ Boolean true) (masked v (map Boolean xs))

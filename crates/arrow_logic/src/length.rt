@@ -159,49 +159,52 @@ fn append_lengths<O: Offset>(
     requires in_word { count ≤ 64 }
     requires within { start + count < length offsets.now }
     requires room { vec_len lengths.old + count ≤ vec_capacity lengths.old }
-    ensures items { map O.number lengths.new.items
-        ≡ map O.number lengths.old.items
+    ensures items { map O.number lengths.new.items ≡ map O.number lengths.old.items
         ++ map (λ k. pos (word_length word offsets.now start k)) (range_with_len 0 count) }
     ensures len { vec_len lengths.new ≡ vec_len lengths.old + count }
     ensures capacity { vec_capacity lengths.new ≡ vec_capacity lengths.old }
 {
     // The places of rows are below 2 ^ 64.
     let _ = offsets.len();
-    let (low, high) = (half_of(word, 0), half_of(word, HALF_BITS));
     if count == WORD_BITS {
-        append_half(lengths, offsets, start, low, HALF_BITS);
-        append_half(lengths, offsets, start + HALF_BITS, high, HALF_BITS);
+        append_half(lengths, offsets, start, word, 0, HALF_BITS);
+        append_half(lengths, offsets, start, word, HALF_BITS, HALF_BITS);
     } else {
         let first = count.min(HALF_BITS);
-        append_half(lengths, offsets, start, low, first);
-        append_half(lengths, offsets, start + first, high, count - first);
+        append_half(lengths, offsets, start, word, 0, first);
+        append_half(lengths, offsets, start, word, first, count - first);
     }
 }
 
-// The same of 32 rows at most, by half a word. No branch depends on a bit, so that several rows are measured at once.
+// The same of the rows of 32 bits at most, from bit `first` on. No branch depends on a bit, so that several rows are
+// measured at once.
 #[inline(always)]
 fn append_half<O: Offset>(
     lengths: &mut Vec<O>,
     offsets: &OffsetsBuffer<O>,
     start: usize,
-    half: u32,
+    word: u64,
+    first: usize,
     count: usize,
 )
+    requires in_word { first ≤ 32 }
     requires in_half { count ≤ 32 }
-    requires within { start + count < length offsets.now }
+    requires within { start + first + count < length offsets.now }
     requires room { vec_len lengths.old + count ≤ vec_capacity lengths.old }
-    ensures items { map O.number lengths.new.items
-        ≡ map O.number lengths.old.items
-        ++ map (λ k. pos (word_length half offsets.now start k)) (range_with_len 0 count) }
+    ensures items { map O.number lengths.new.items ≡ map O.number lengths.old.items
+        ++ map (λ k. pos (word_length word offsets.now start k)) (range_with_len first count) }
     ensures len { vec_len lengths.new ≡ vec_len lengths.old + count }
     ensures capacity { vec_capacity lengths.new ≡ vec_capacity lengths.old }
 {
+    prove!(start < offsets.len());
     // Where a row ends is at most the greatest offset of the type.
-    let _ = offsets.range(start, count);
+    let _ = offsets.range(start + first, count);
+    let half = half_of(word, first);
     let offsets = offsets.buffer();
     for k in 0..count {
-        let begin = offsets[start + k];
-        let end = offsets[start + k + 1];
+        let row = start + first + k;
+        let begin = offsets[row];
+        let end = offsets[row + 1];
         lengths.push_reserved(length_if(begin, end, half >> k & 1 == 1));
     }
 }

@@ -1,5 +1,4 @@
-use Rattle.arrow_logic.proofs.Common.{◌≡◌, ◌∙◌, ap, length, map, rules, subst, sym, AllZip, zip, either_bits, rows_by, nulls, to_pair, answers_parts}
-use Rattle.std.specs.Prelude.{not}
+use Rattle.arrow_logic.proofs.Common.{◌≡◌, ◌∙◌, ap, length, map, rules, subst, sym, AllZip, zip, either_bits, rows_by, nulls, to_pair, answers_parts, not}
 use Rattle.arrow_logic.proofs.AnswerLemmas.{answers_each, answers_some, by_both, pairs_long, zipped_long}
 use Rattle.arrow_logic.proofs.arity.binary_checked.Goals as goal
 

@@ -1,5 +1,5 @@
-use Rattle.arrow_logic.proofs.Common.{◌∙◌, ap, length, map, refl, subst, sym, IfOk-weaker, all_values, FitsRows, rows_by, nulls, combined}
-use Rattle.arrow_logic.proofs.NullRowLemmas.{fits_combined, fits_values, nulls_of_two}
+use Rattle.arrow_logic.proofs.Common.{fits_combined, ◌∙◌, ap, length, map, refl, subst, sym, IfOk-weaker, all_values, FitsRows, rows_by, nulls, combined}
+use Rattle.arrow_logic.proofs.NullRowLemmas.{fits_values, nulls_of_two}
 use Rattle.arrow_logic.proofs.arity.make_of_two.Goals as goal
 
 pub make-requires-clause-fits : goal.make-requires-clause-fits

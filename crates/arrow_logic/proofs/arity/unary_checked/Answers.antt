@@ -1,5 +1,4 @@
-use Rattle.arrow_logic.proofs.Common.{◌≡◌, ◌∙◌, ap, length, map, rules, subst, AllZip, zip, either_bits, rows_by, nulls, answers_parts}
-use Rattle.std.specs.Prelude.{not}
+use Rattle.arrow_logic.proofs.Common.{◌≡◌, ◌∙◌, ap, length, map, rules, subst, AllZip, zip, either_bits, rows_by, nulls, answers_parts, not}
 use Rattle.arrow_logic.proofs.AnswerLemmas.{answers_each, answers_some, by_both, zipped_long}
 use Rattle.arrow_logic.proofs.arity.unary_checked.Goals as goal
 

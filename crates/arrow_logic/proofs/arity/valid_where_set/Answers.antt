@@ -1,5 +1,5 @@
-use Rattle.arrow_logic.proofs.Common.{◌∙◌, Some, ap, length, map, refl, subst, sym, length-map, all_values, FitsRows, rows_by, nulls, combined}
-use Rattle.arrow_logic.proofs.NullRowLemmas.{fits_combined, fits_values, nulls_under}
+use Rattle.arrow_logic.proofs.Common.{fits_combined, ◌∙◌, Some, ap, length, map, refl, subst, sym, length-map, all_values, FitsRows, rows_by, nulls, combined}
+use Rattle.arrow_logic.proofs.NullRowLemmas.{fits_values, nulls_under}
 use Rattle.arrow_logic.proofs.arity.valid_where_set.Goals as goal
 
 pub with_validity-requires : goal.with_validity-requires

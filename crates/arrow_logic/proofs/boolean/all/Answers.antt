@@ -1,5 +1,4 @@
-use Rattle.arrow_logic.proofs.Common.{◌∙◌, ap, not, sym}
-use Rattle.std.specs.Prelude.{◌==◌, count_by}
+use Rattle.arrow_logic.proofs.Common.{◌∙◌, ap, not, sym, ◌==◌, count_by}
 use Rattle.arrow_logic.proofs.WordLemmas.{all_true, none_left, zero_of}
 use Rattle.arrow_logic.proofs.boolean.all.Goals as goal
 

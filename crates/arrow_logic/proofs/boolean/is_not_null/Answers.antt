@@ -1,5 +1,4 @@
-use Rattle.arrow_logic.proofs.Common.{◌≡◌, ◌∙◌, ap, length, map, not, replicate, subst, map-map, is_null, Boolean, boolean_rows, MarksArray, any_array_rows}
-use Rattle.std.specs.Prelude.{option_copied}
+use Rattle.arrow_logic.proofs.Common.{◌≡◌, ◌∙◌, ap, length, map, not, replicate, subst, map-map, is_null, Boolean, boolean_rows, MarksArray, any_array_rows, option_copied}
 use Rattle.arrow_logic.proofs.NullLemmas.{marked_rows, unmarked_rows, valid_rows}
 use Rattle.arrow_logic.proofs.boolean.is_not_null.Goals as goal
 use Rattle.arrow_logic.proofs.boolean.is_not_null.Goals.{in-None+in_ok-valid-in-None, in-Some+in_ok-valid-in-Some}

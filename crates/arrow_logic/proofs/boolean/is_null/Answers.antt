@@ -1,5 +1,4 @@
-use Rattle.arrow_logic.proofs.Common.{◌≡◌, ◌∙◌, ap, map, not, replicate, subst, sym, map-map, is_null, Boolean, boolean_rows, MarksArray, any_array_rows}
-use Rattle.std.specs.Prelude.{option_copied}
+use Rattle.arrow_logic.proofs.Common.{◌≡◌, ◌∙◌, ap, map, not, replicate, subst, sym, map-map, is_null, Boolean, boolean_rows, MarksArray, any_array_rows, option_copied}
 use Rattle.arrow_logic.proofs.NullLemmas.{marked_rows, turned_marks, unmarked_rows}
 use Rattle.arrow_logic.proofs.boolean.is_null.Goals as goal
 use Rattle.arrow_logic.proofs.boolean.is_null.Goals.{in-None+in_ok-nulls-in-None, in-Some+in_ok-nulls-in-Some}

@@ -1,5 +1,4 @@
-use Rattle.arrow_logic.proofs.Common.{◌≡◌, ◌∙◌, ◌+◌, ◌*◌, Some, ap, false, get_or, map, sym, masked, selects, Boolean, Null, and_each}
-use Rattle.std.specs.Prelude.{◌&&◌, option_copied}
+use Rattle.arrow_logic.proofs.Common.{◌≡◌, ◌∙◌, ◌+◌, ◌*◌, Some, ap, false, get_or, map, sym, masked, selects, Boolean, Null, and_each, ◌&&◌, option_copied}
 use Rattle.arrow_logic.proofs.WordLemmas.{valid_selects}
 use Rattle.arrow_logic.proofs.boolean.true_word.Goals as goal
 

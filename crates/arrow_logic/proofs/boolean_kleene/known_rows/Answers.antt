@@ -1,5 +1,4 @@
-use Rattle.arrow_logic.proofs.Common.{◌≡◌, ◌∙◌, Some, ap, sym, by_fours, known_bit}
-use Rattle.std.specs.Prelude.{option_copied}
+use Rattle.arrow_logic.proofs.Common.{◌≡◌, ◌∙◌, Some, ap, sym, by_fours, known_bit, option_copied}
 use Rattle.arrow_logic.proofs.ConnectiveLemmas.{as_many_values, known_in_both}
 use Rattle.arrow_logic.proofs.boolean_kleene.known_rows.Goals as goal
 

@@ -1,5 +1,4 @@
-use Rattle.arrow_logic.proofs.Common.{◌∙◌, ap, length, sym, IfOk-weaker, length-paired}
-use Rattle.std.specs.Prelude.{option_copied}
+use Rattle.arrow_logic.proofs.Common.{◌∙◌, ap, length, sym, IfOk-weaker, length-paired, option_copied}
 use Rattle.arrow_logic.proofs.NullifLemmas.{lent_bits}
 use Rattle.arrow_logic.proofs.nullif.equal_rows.Goals as goal
 

@@ -1,5 +1,4 @@
-use Rattle.arrow_logic.proofs.Common.{◌≡◌, ◌∙◌, ap, length, subst, IfOk-weaker, FitsRows, length-paired}
-use Rattle.std.specs.Prelude.{option_copied}
+use Rattle.arrow_logic.proofs.Common.{◌≡◌, ◌∙◌, ap, length, subst, IfOk-weaker, FitsRows, length-paired, option_copied}
 use Rattle.arrow_logic.proofs.nullif.valid_unless.Goals as goal
 
 pub returns-in-Some-clause-count : goal.returns-in-Some-clause-count

@@ -1,5 +1,4 @@
-use Rattle.arrow_logic.proofs.Common.{◌≡◌, ◌+◌, ◌-◌, ◌<◌, ◌≤◌, ◌∙◌, [], ◌∷◌, ap, arith, length, rules, slice_index, subst, sym, SFits, w64, to_z, of_z, Err, to_z-of_z, take_all, IsOffsets, last_of, sliced, offsets_rise, length-sliced, row_bytes, FitsRows, pieces, length-byte_slots, length-pieces, kept}
-use Rattle.std.proofs.lemmas.List.{length-append}
+use Rattle.arrow_logic.proofs.Common.{◌≡◌, ◌+◌, ◌-◌, ◌<◌, ◌≤◌, ◌∙◌, [], ◌∷◌, ap, arith, length, rules, slice_index, subst, sym, SFits, w64, to_z, of_z, Err, to_z-of_z, take_all, IsOffsets, last_of, sliced, offsets_rise, length-sliced, row_bytes, FitsRows, pieces, length-byte_slots, length-pieces, kept, length-append}
 use Rattle.arrow_logic.proofs.KeptLemmas.{length-kept}
 use Rattle.arrow_logic.proofs.PartLemmas.{grown_memory, holds_more, memory_alone}
 use Rattle.arrow_logic.proofs.substring.copy_parts_by.Goals as goal

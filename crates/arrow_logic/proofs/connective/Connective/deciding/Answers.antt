@@ -1,5 +1,4 @@
-use Rattle.arrow_logic.proofs.Common.{◌≡◌, ◌∙◌, ap, map, not, sym, IfOk-weaker, both_bits, first_bits}
-use Rattle.std.specs.Prelude.{option_copied}
+use Rattle.arrow_logic.proofs.Common.{◌≡◌, ◌∙◌, ap, map, not, sym, IfOk-weaker, both_bits, first_bits, option_copied}
 use Rattle.arrow_logic.proofs.ConnectiveLemmas.{deciding_bits, deciding_is}
 use Rattle.arrow_logic.proofs.connective.Connective.deciding.Goals as goal
 

@@ -1,6 +1,5 @@
-use Rattle.arrow_logic.proofs.Common.{rules, IfOk-weaker, row_by_row}
+use Rattle.arrow_logic.proofs.Common.{rules, IfOk-weaker, row_by_row, get_or-row_by_row, length-row_by_row}
 use Rattle.arrow_logic.proofs.PairLemmas.{answered_bits}
-use Rattle.arrow_flat.proofs.RowLemmas.{get_or-row_by_row, length-row_by_row}
 use Rattle.arrow_logic.proofs.nullif.equal.equal_values.Goals as goal
 
 pub returns-clause-ok : goal.returns-clause-ok

@@ -1,5 +1,4 @@
-use Rattle.arrow_logic.proofs.Common.{◌≡◌, ◌∙◌, ◌-◌, ap, arith, drop, encode_utf8_all, length, rules, subst, sym, SFits, w64, to_z, of_z, to_z-of_z, length-drop, take_all, part_begin, skipped, text_cut}
-use Rattle.std.specs.Str.{chars}
+use Rattle.arrow_logic.proofs.Common.{◌≡◌, ◌∙◌, ◌-◌, ap, arith, drop, encode_utf8_all, length, rules, subst, sym, SFits, w64, to_z, of_z, to_z-of_z, length-drop, take_all, part_begin, skipped, text_cut, chars}
 use Rattle.arrow_logic.proofs.TextLemmas.{rest_some}
 use Rattle.arrow_logic.proofs.substring.units.TextUnits.span.Goals as goal
 
