@@ -1,11 +1,9 @@
 //! Arrays whose rows are all null, and arrays without rows, of any data type.
 
-ghost use Rattle.std.specs.Prelude.{◌≡◌, ◌+◌, ◌<◌, ◌++◌, Err, [], length, map, replicate, IfOk, IfErr, OnOk, IsOkUnless};
+ghost use Rattle.std.specs.Prelude.{◌≡◌, ◌+◌, ◌<◌, ◌++◌, Err, length, map, replicate, IfOk, IfErr, OnOk, IsOkUnless};
 ghost use Rattle.std.specs.List.{All};
 ghost use Rattle.arrow_types.specs.ArrowType.{type_in};
 ghost use Rattle.arrow_types.specs.Carried.{IsCarried};
-ghost use Rattle.arrow_types.specs.Fits.{Fits};
-ghost use Rattle.arrow_types.specs.Slot.{null_slot};
 ghost use Rattle.arrow_types.specs.TypeOf.{type_of, field_of};
 ghost use Rattle.arrow_types.specs.declared.datatypes.physical_type.PhysicalType.TheVariants as physical;
 ghost use Rattle.arrow_types.specs.declared.error.Error.{Error};
@@ -35,8 +33,7 @@ use std::alloc::Global;
 /// Source: arrow2's `new_empty_array`.
 pub fn new_empty_array(alloc: Global, data_type: DataType) -> Result<AnyArray, Error>
     requires carried { IsCarried (type_of data_type) }
-    ensures ok_type { IfOk result (λ array. any_array_type array ≡ type_of data_type) }
-    ensures ok_rows { IfOk result (λ array. any_array_rows array ≡ []) }
+    ensures ok { IfOk result (IsNulls (type_of data_type) 0) }
     ensures err { IsOkUnless result Error.OutOfMemory }
 {
     new_null_array(alloc, data_type, 0)
@@ -57,12 +54,9 @@ pub fn new_empty_array(alloc: Global, data_type: DataType) -> Result<AnyArray, E
 /// Source: arrow2's `new_null_array`.
 pub fn new_null_array(alloc: Global, data_type: DataType, length: usize) -> Result<AnyArray, Error>
     requires carried { IsCarried (type_of data_type) }
-    ensures ok_type { IfOk result (λ array. any_array_type array ≡ type_of data_type) }
-    ensures ok_rows { IfOk result
-        (λ array. any_array_rows array ≡ replicate length (null_slot (type_of data_type))) }
+    ensures ok { IfOk result (IsNulls (type_of data_type) length) }
     ensures err { IfErr result IsGrowthError }
-    ensures overflow { result ≡ Err Error.Overflow
-        → Fits (type_of data_type) (replicate length (null_slot (type_of data_type))) → ⊥ }
+    ensures overflow { result ≡ Err Error.Overflow → FitNulls length (type_of data_type) → ⊥ }
 {
     null_rows(alloc, data_type, length)
 }
