@@ -49,7 +49,7 @@ pub use Rattle.arrow_logic.specs.Kept.{kept, kept_by}
 pub use Rattle.arrow_logic.specs.Laws.{AreTexts, AreTextsOrBytes, GiveByBatch, GiveEachByBatch, length_within}
 pub use Rattle.arrow_logic.specs.Length.{HasBitsFrom, HasLength, stored_length}
 pub use Rattle.arrow_logic.specs.Nullif.{IsFloat, IsPrimitive, valid_but, within_valid}
-pub use Rattle.arrow_logic.specs.Substring.{HasParts, IsCutByBytes, begins, skipped, text_cut}
+pub use Rattle.arrow_logic.specs.Substring.{HasParts, IsCutByBytes, begins, skipped, text_cut, without}
 pub use Rattle.arrow_flat.specs.Validities.{AreOneLength, combined}
 pub use Rattle.arrow_logic.specs.declared.connective.Connective.{Connective}
 pub use Rattle.arrow_logic.specs.declared.connective.Connective.TheVariants.{And, Or}

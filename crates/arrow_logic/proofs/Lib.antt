@@ -2,6 +2,7 @@ pub mod Common
 pub mod AnswerLemmas
 pub mod AsciiLemmas
 pub mod BatchLemmas
+pub mod CharacterLemmas
 pub mod ConnectiveLemmas
 pub mod KeptLemmas
 pub mod LawLemmas

@@ -9,14 +9,17 @@ record Spelt (c : ℕ) : Type 0 where
   pub begins_it : begins first ≡ true
   pub on : All (λ b. begins b ≡ false) rest
 
-begins_low : (b : ℕ) → b < 128 → begins b ≡ true
+pub begins_low : (b : ℕ) → b < 128 → begins b ≡ true
 begins_low b low = ap (λ t. t || nat_le 192 b) (lt-ltb b 128 low)
 
-begins_high : (b : ℕ) → 192 ≤ b → begins b ≡ true
+pub begins_high : (b : ℕ) → 192 ≤ b → begins b ≡ true
 begins_high b high = or_right (nat_lt b 128) (nat_le 192 b) (le-leb 192 b high)
 
+pub goes_on : (b : ℕ) → 128 ≤ b → b < 192 → begins b ≡ false
+goes_on b low high = or_from (nat_lt b 128) (nat_le 192 b) (le-ltb b 128 low) (lt-leb 192 b high)
+
 next_on : (x : ℕ) → begins (next x) ≡ false
-next_on x = or_from (nat_lt (next x) 128) (nat_le 192 (next x)) (le-ltb (next x) 128 (omega arith)) (lt-leb 192 (next x) (omega arith))
+next_on x = goes_on (next x) (omega arith) (omega arith)
 
 one_on : (x : ℕ) (bs : List ℕ) → All (λ b. begins b ≡ false) bs → All (λ b. begins b ≡ false) (next x ∷ bs)
 one_on x bs on = All-cons (λ b. begins b ≡ false) (next x) bs (next_on x) on
@@ -46,7 +49,7 @@ spelt : (c : ℕ) → Spelt c
 spelt c = spelt_by c (ltb c 128) (ltb c 2048) (ltb c 65536) refl (encode_is c)
 
 -- bytes that go on with a character are passed
-one_more : (k : ℕ) (b : ℕ) (bs : List ℕ) → begins b ≡ false → skipped k (b ∷ bs) ≡ suc (skipped k bs)
+pub one_more : (k : ℕ) (b : ℕ) (bs : List ℕ) → begins b ≡ false → skipped k (b ∷ bs) ≡ suc (skipped k bs)
 one_more zero b bs goes = ap (λ t. if t then 0 else suc (skipped zero bs)) goes
 one_more (suc k) b bs goes = ap (λ t. suc (skipped (if t then k else suc k) bs)) goes
 

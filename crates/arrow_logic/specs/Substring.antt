@@ -1,5 +1,5 @@
 -- Parts of texts and of bytes: of which types they are asked, and where characters begin.
-use Rattle.std.specs.Prelude.{ℕ, zero, suc, ℤ, Bool, List, [], ◌∷◌, ◌||◌, ◌≡◌, Option, encode_utf8_all, nat_lt, nat_le, if◌then◌else◌}
+use Rattle.std.specs.Prelude.{ℕ, zero, suc, ℤ, Bool, true, false, List, [], ◌∷◌, ◌||◌, ◌≡◌, Option, encode_utf8_all, nat_lt, nat_le, if◌then◌else◌}
 use Rattle.std.specs.Str.{chars}
 use Rattle.arrow_types.specs.declared.error.ArgumentFault.TheVariants.{SubstringType}
 use Rattle.arrow_types.specs.declared.error.Error.{Error}
@@ -32,6 +32,13 @@ abbrev pub skipped : ℕ → List ℕ → ℕ
 skipped k [] = 0
 skipped zero (b ∷ bs) = if begins b then 0 else suc (skipped zero bs)
 skipped (suc k) (b ∷ bs) = suc (skipped (if begins b then k else suc k) bs)
+
+-- some bits without the first k of those that are set
+abbrev pub without : ℕ → List Bool → List Bool
+without zero bits = bits
+without (suc k) [] = []
+without (suc k) (true ∷ bits) = false ∷ without k bits
+without (suc k) (false ∷ bits) = false ∷ without (suc k) bits
 
 -- an error that `substring` may answer
 abbrev pub IsSubstringRefusal : Error → Type 0

@@ -1,12 +1,13 @@
 //! What a part of a row is counted in: the characters of a text, or bytes.
 
-ghost use Rattle.std.specs.Prelude.{◌≡◌, ◌↔◌, ◌<◌, ◌≤◌, ◌-◌, ℕ, ℤ, Option, List, [], drop, length, slice_index, take, count_by, encode_utf8_all, IsAscii, IsTrue, IsUtf8};
+ghost use Rattle.std.specs.Prelude.{◌≡◌, ◌↔◌, ◌<◌, ◌≤◌, ◌≤ℤ◌, ◌-◌, ℕ, ℤ, pos, Bool, Option, List, [], map, drop, length, slice_index, take, count_by, encode_utf8_all, IsAscii, IsTrue, IsUtf8};
 ghost use Rattle.std.specs.Str.{chars};
 ghost use Rattle.std.proofs.lemmas.Str.{IsUtf8-nil};
 ghost use Rattle.arrow_types.specs.Part.{cut, part, part_begin};
 ghost use Rattle.arrow_types.specs.Slot.{Slot};
 ghost use Rattle.arrow_memory.specs.Sliced.{sliced};
-ghost use Rattle.arrow_logic.specs.Substring.{IsCutByBytes, begins, skipped, text_cut};
+ghost use Rattle.arrow_memory.specs.Words.{word_of};
+ghost use Rattle.arrow_logic.specs.Substring.{IsCutByBytes, begins, skipped, text_cut, without};
 ghost use Rattle.arrow_logic.specs.SubstringLaws.{IsUtf8-cut, part_of_bytes, part_of_text};
 
 use arrow_flat::array::{Binary, ByteKind, Text};
@@ -39,6 +40,20 @@ pub(crate) trait Units: ByteKind {
         requires { len ≤ length from.now }
         ensures { IsTrue result → IsCutByBytes cut (take len from.now) };
 
+    /// Where the part lies in the row of the first `len` of these bytes, counted from the front.
+    ///
+    /// # Requires
+    /// 16 bytes can be read, the row has no more, it may have them, and `start` is not negative.
+    fn span_in_block(from: &[u8], len: usize, start: i64, count: Option<u64>) -> (usize, usize)
+        requires block { 16 ≤ length from.now }
+        requires few { len ≤ 16 }
+        requires allowed { Self.Allows (take len from.now) }
+        requires front { pos 0 ≤ℤ start }
+        ensures rises { result.0 ≤ result.1 }
+        ensures within { result.1 ≤ len }
+        ensures part { sliced (take len from.now) result.0 (result.1 - result.0)
+            ≡ cut start count (take len from.now) };
+
     ghost is_part: { (start : ℤ) (count : Option ℕ) (bytes : List ℕ) → part start count (Self.slot bytes)
         ≡ Self.slot (cut start count bytes) };
 
@@ -69,6 +84,20 @@ impl Units for Text {
         are_ascii_in_block(from, len)
     }
 
+    #[inline(always)]
+    fn span_in_block(from: &[u8], len: usize, start: i64, count: Option<u64>) -> (usize, usize) {
+        let characters = characters_at_front(from);
+        let left = without_lowest(characters, start.unsigned_abs() as usize);
+        let begin = len.min(left.trailing_zeros() as usize);
+        let end = match count {
+            Some(count) => {
+                len.min(without_lowest(left, count as usize).trailing_zeros() as usize)
+            }
+            None => len,
+        };
+        (begin, end)
+    }
+
     ghost is_part = { part_of_text };
 
     ghost allows_part = { IsUtf8-cut };
@@ -89,6 +118,10 @@ impl Units for Binary {
 
     fn are_bytes_in_block(_from: &[u8], _len: usize) -> bool {
         true
+    }
+
+    fn span_in_block(from: &[u8], len: usize, start: i64, count: Option<u64>) -> (usize, usize) {
+        span_of_bytes(&from[..len], start, count)
     }
 
     ghost is_part = { part_of_bytes };
@@ -121,6 +154,9 @@ pub(crate) fn span_in<K: Units>(
     }
     if K::are_bytes_in_block(from, len) {
         return span_of_bytes(row, start, count);
+    }
+    if start >= 0 && len <= BLOCK && from.len() >= BLOCK {
+        return K::span_in_block(from, len, start, count);
     }
     K::span(row, start, count)
 }
@@ -179,6 +215,28 @@ fn ascii_at_front(from: &[u8]) -> usize
         .simd_ge(u8x16::splat(0x80))
         .to_bitmask();
     BLOCK.min(high.trailing_zeros() as usize)
+}
+
+// Which of 16 bytes begin a character, a bit each: those that are not 0x80 to 0xBF, which 0x80 moves below 0x40.
+#[inline(always)]
+fn characters_at_front(from: &[u8]) -> u64
+    requires { 16 ≤ length from.now }
+    ensures { result ≡ word_of (map begins (take 16 from.now)) }
+{
+    let moved = u8x16::from_slice(from) + u8x16::splat(0x80);
+    moved.simd_ge(u8x16::splat(0x40)).to_bitmask()
+}
+
+// A word of 16 bits without the `count` lowest of those that are set. No branch depends on a bit.
+#[inline(always)]
+fn without_lowest(word: u64, count: usize) -> u64
+    ensures { (bits : List Bool) → length bits ≡ 16 → word ≡ word_of bits → result ≡ word_of (without count bits) }
+{
+    let mut left = word;
+    for _ in 0..count.min(BLOCK) {
+        left &= left.wrapping_sub(1);
+    }
+    left
 }
 
 // Whether a byte of a text begins a character, and does not go on with one.
