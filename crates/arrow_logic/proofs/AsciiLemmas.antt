@@ -1,13 +1,11 @@
 -- Which of 16 bytes are ASCII, by one mask.
-use Rattle.arrow_logic.proofs.Common.{◌≡◌, ℕ, ◌<◌, ◌≤◌, ◌%◌, ◌^◌, Bool, true, false, cond, leb, List, [], ◌∷◌, length, map, take, replicate, get_or, slice_index, w8, w64, refl, ap, sym, subst, ◌∙◌, arith, inl, inr, IsAscii, bit_at, trailing_zeros, mask_l, top, zip2, eq-zero-or-pos, cases_lt, leb-false, get_or-take, get_or_past, length-map, length-take, length-take-le, bit_at-zero, bit_at-trailing_zeros, bit_mask_l, mask_l-mod, tops_compared}
+use Rattle.arrow_logic.proofs.Common.{◌≡◌, ℕ, ◌<◌, ◌≤◌, ◌%◌, ◌^◌, Bool, true, false, cond, leb, List, length, map, take, replicate, get_or, slice_index, w8, w64, refl, ap, sym, subst, ◌∙◌, arith, inl, inr, IsAscii, bit_at, trailing_zeros, mask_l, top, zip2, eq-zero-or-pos, cases_lt, leb-false, get_or-take, get_or_past, length-map, length-take, length-take-le, bit_at-zero, bit_at-trailing_zeros, bit_mask_l, mask_l-mod, tops_compared, zip2_splat_left}
 use Rattle.std.proofs.Math.ListN.{get_or-map}
 
-abbrev high : ℕ → Bool
-high b = leb 128 b
-
-against_all : (xs : List ℕ) → zip2 leb (replicate (length xs) 128) xs ≡ map high xs
-against_all [] = refl
-against_all (x ∷ xs) = ap (λ bits. leb 128 x ∷ bits) (against_all xs)
+-- the mask of a comparison of each of 16 bytes with one number
+pub mask_of_16 : (n : ℕ) (bytes : List ℕ) → length bytes ≡ 16 → mask_l (map (top 7) (zip2 (λ a b. cond (leb a b) 255 0) (replicate 16 n) bytes)) % 2 ^ 64 ≡ mask_l (map (leb n) bytes)
+mask_of_16 n bytes count =
+    ap (λ bits. mask_l bits % 2 ^ 64) (tops_compared w8 leb (replicate 16 n) bytes ∙ zip2_splat_left leb n 16 bytes count) ∙ mask_l-mod (map (leb n) bytes) 64 (omega (arith, length-map bytes (leb n), count))
 
 not_high : (b : ℕ) (t : Bool) → leb 128 b ≡ t → cond {A = ℕ} t 1 0 ≡ 0 → b < 128
 not_high b true is none = absurd (omega (arith, none))
@@ -18,19 +16,15 @@ pub low_before : (xs : List ℕ) (mask k : ℕ) → 16 ≤ length xs → mask �
 low_before xs mask k long is small before =
     subst (λ b. b < 128) (get_or-take 16 xs k 0 small) (not_high (get_or (take 16 xs) k 0) _ refl (sym read ∙ unset))
   where
-    count : length (take 16 xs) ≡ 16
-    count = length-take-le 16 xs long
-
-    seen : mask ≡ mask_l (map high (take 16 xs))
-    seen =
-        is ∙ (ap (λ bits. mask_l bits % 2 ^ 64) (tops_compared w8 leb (replicate 16 128) (take 16 xs) ∙ (ap (λ n. zip2 leb (replicate n 128) (take 16 xs)) (sym count) ∙ against_all (take 16 xs))) ∙ mask_l-mod (map high (take 16 xs)) 64 (omega (arith, length-map (take 16 xs) high, count)))
+    seen : mask ≡ mask_l (map (leb 128) (take 16 xs))
+    seen = is ∙ mask_of_16 128 (take 16 xs) (length-take-le 16 xs long)
 
     fits : mask < 2 ^ 64
     fits = omega (arith, is)
 
     read : bit_at mask k ≡ cond (leb 128 (get_or (take 16 xs) k 0)) 1 0
     read =
-        ap (λ m. bit_at m k) seen ∙ (bit_mask_l (map high (take 16 xs)) k ∙ ap (λ b. cond b 1 0) (get_or-map high (take 16 xs) k 0))
+        ap (λ m. bit_at m k) seen ∙ (bit_mask_l (map (leb 128) (take 16 xs)) k ∙ ap (λ b. cond b 1 0) (get_or-map (leb 128) (take 16 xs) k 0))
 
     unset : bit_at mask k ≡ 0
     unset = elim (eq-zero-or-pos mask) as (λ _. bit_at mask k ≡ 0) [

@@ -1,15 +1,10 @@
 -- Characters of a row of 16 bytes at most, by the bits of a word.
-use Rattle.arrow_logic.proofs.Common.{◌≡◌, ℕ, zero, suc, ◌+◌, ◌-◌, ◌*◌, ◌/◌, ◌%◌, ◌^◌, ◌<◌, ◌≤◌, min, Bool, true, false, not, cond, leb, List, [], ◌∷◌, length, map, take, drop, replicate, get_or, w8, w64, if◌then◌else◌, refl, ap, sym, subst, ◌∙◌, arith, inl, inr, trailing_zeros, mask_l, top, zip2, cases_lt, le-leb, lt-leb, length-map, length-take-le, map-map, mask_l-mod, tops_compared, begins, skipped, without}
+use Rattle.arrow_logic.proofs.Common.{◌≡◌, ℕ, zero, suc, ◌+◌, ◌-◌, ◌/◌, ◌%◌, ◌^◌, ◌<◌, ◌≤◌, min, Bool, true, false, not, cond, leb, List, [], ◌∷◌, length, map, take, drop, replicate, get_or, w64, if◌then◌else◌, refl, ap, sym, subst, ◌∙◌, arith, inl, inr, trailing_zeros, IsUtf8, mask_l, top, zip2, cases_lt, le-leb, lt-leb, length-map, length-take-le, map-map, begins, skipped, without, eq-zero-or-pos, bit_and, prefix_len, map-id, take-map, leading_from_mask_l, trailing_mask_l, zip2_splat, word_of}
 use lib.Bits.{and_step}
-use Rattle.std.proofs.Math.Nat.{eq-zero-or-pos}
-use Rattle.std.specs.Prelude.{bit_and}
-use Rattle.std.specs.List.{prefix_len}
 use Rattle.std.specs.Int.Bits.{and_self, and_zero_l}
-use Rattle.std.proofs.lemmas.List.{map-id, take-map}
 use lib.Count.{trailing_of_zero}
-use Rattle.std.proofs.lemmas.Simd.{leading_from_mask_l, trailing_mask_l, zip2_splat, zip2_splat_left}
-use Rattle.arrow_memory.specs.Words.{word_of}
-use Rattle.arrow_logic.proofs.TextLemmas.{begins_high, begins_low, goes_on, one_more}
+use Rattle.arrow_logic.proofs.AsciiLemmas.{mask_of_16}
+use Rattle.arrow_logic.proofs.TextLemmas.{begins_high, begins_low, goes_on, skipped_more}
 
 -- ---- which of 16 bytes begin one
 
@@ -34,11 +29,9 @@ characters_are xs word long fits is =
     let count = length-take-le 16 xs long in
     let lanes = map moved (take 16 xs) in
     let all : length lanes ≡ 16 = length-map (take 16 xs) moved ∙ count in
-    let tests = map (λ b. leb 64 (moved b)) (take 16 xs) in
-    let compared : map (top 7) (zip2 (λ a b. cond (leb a b) 255 0) (replicate 16 64) lanes) ≡ tests = tops_compared w8 leb (replicate 16 64) lanes ∙ (zip2_splat_left leb 64 16 lanes all ∙ map-map (leb 64) moved (take 16 xs)) in
-    let same : tests ≡ map begins (take 16 xs) = sym (take-map (λ b. leb 64 (moved b)) 16 xs) ∙ (ap (take 16) (each_begins xs fits) ∙ take-map begins 16 xs) in
+    let same : map (leb 64) lanes ≡ map begins (take 16 xs) = map-map (leb 64) moved (take 16 xs) ∙ (sym (take-map (λ b. leb 64 (moved b)) 16 xs) ∙ (ap (take 16) (each_begins xs fits) ∙ take-map begins 16 xs)) in
     let read = ap (λ ls. mask_l (map (top 7) (zip2 (λ a b. cond (leb a b) 255 0) (replicate 16 64) ls)) % 2 ^ 64) (zip2_splat (λ a b. (a + b) % 256) (take 16 xs) 16 128 count) in
-    is ∙ (read ∙ (ap (λ bits. mask_l bits % 2 ^ 64) (compared ∙ same) ∙ mask_l-mod (map begins (take 16 xs)) 64 (omega (arith, length-map (take 16 xs) begins, count))))
+    is ∙ (read ∙ (mask_of_16 64 lanes all ∙ ap mask_l same))
 
 -- ---- without the lowest bits that are set
 
@@ -138,30 +131,6 @@ skipped_take k (suc n) [] = omega arith
 skipped_take zero (suc n) (x ∷ xs) = cut_first (begins x) n (skipped zero (take n xs)) (skipped zero xs) (skipped_take zero n xs)
 skipped_take (suc k) (suc n) (x ∷ xs) = omega (arith, skipped_take (if begins x then k else suc k) n xs)
 
--- so many characters, and more of them behind
-more_behind : (n b : ℕ) (bs : List ℕ) (t : Bool) → begins b ≡ t → skipped 0 bs + skipped n (drop (skipped 0 bs) bs) ≡ skipped n bs → skipped 0 (b ∷ bs) + skipped n (drop (skipped 0 (b ∷ bs)) (b ∷ bs)) ≡ skipped n (b ∷ bs)
-more_behind n b bs true is rest =
-    let none : skipped 0 (b ∷ bs) ≡ 0 = ap (λ t. if t then 0 else suc (skipped 0 bs)) is in
-    omega (arith, none, ap (λ m. skipped n (drop m (b ∷ bs))) none)
-more_behind n b bs false is rest =
-    let next : skipped 0 (b ∷ bs) ≡ suc (skipped 0 bs) = ap (λ t. if t then 0 else suc (skipped 0 bs)) is in
-    omega (arith, next, ap (λ m. skipped n (drop m (b ∷ bs))) next, rest, one_more n b bs is)
-
-one_less : (t : Bool) (k n : ℕ) → (if t then k else suc k) + n ≡ (if t then k + n else suc (k + n))
-one_less true k n = refl
-one_less false k n = omega arith
-
-skipped_more : (k n : ℕ) (bs : List ℕ) → skipped k bs + skipped n (drop (skipped k bs) bs) ≡ skipped (k + n) bs
-skipped_more k n [] = omega arith
-skipped_more zero n (b ∷ bs) =
-    let all : 0 + n ≡ n = omega arith in
-    more_behind n b bs (begins b) refl (skipped_more zero n bs ∙ ap (λ m. skipped m bs) all) ∙ sym (ap (λ m. skipped m (b ∷ bs)) all)
-skipped_more (suc k) n (b ∷ bs) =
-    let j = if begins b then k else suc k in
-    let next : suc k + n ≡ suc (k + n) = omega arith in
-    let all : skipped (suc k + n) (b ∷ bs) ≡ suc (skipped (j + n) bs) = ap (λ m. skipped m (b ∷ bs)) next ∙ ap (λ m. suc (skipped m bs)) (sym (one_less (begins b) k n)) in
-    omega (arith, skipped_more j n bs, all)
-
 -- the lowest bit that is left is there, where the row goes on so far
 lowest_place : (bits : List Bool) (len word : ℕ) → word ≡ word_of bits → length bits ≡ 16 → len ≤ 16 → min len (trailing_zeros w64 word) ≡ min len (prefix_len (λ b. not b) bits)
 lowest_place bits len word is long few =
@@ -187,8 +156,8 @@ module _ (xs : List ℕ) (len word : ℕ) (long : 16 ≤ length xs) (few : len �
   pub begin_at : (k left begin : ℕ) → ((bits : List Bool) → length bits ≡ 16 → word ≡ word_of bits → left ≡ word_of (without k bits)) → begin ≡ min len (trailing_zeros w64 left) → begin ≡ skipped k (take len xs)
   begin_at k left begin loses at = place_of k left begin (loses bits all is) at
 
-  pub end_at : (k n left right begin end : ℕ) → ((bits : List Bool) → length bits ≡ 16 → word ≡ word_of bits → left ≡ word_of (without k bits)) → begin ≡ min len (trailing_zeros w64 left) → ((bits : List Bool) → length bits ≡ 16 → left ≡ word_of bits → right ≡ word_of (without n bits)) → end ≡ min len (trailing_zeros w64 right) → end ≡ begin + skipped n (drop begin (take len xs))
-  end_at k n left right begin end first at more to =
+  pub end_at : IsUtf8 (take len xs) → (k n left right begin end : ℕ) → ((bits : List Bool) → length bits ≡ 16 → word ≡ word_of bits → left ≡ word_of (without k bits)) → begin ≡ min len (trailing_zeros w64 left) → ((bits : List Bool) → length bits ≡ 16 → left ≡ word_of bits → right ≡ word_of (without n bits)) → end ≡ min len (trailing_zeros w64 right) → end ≡ begin + skipped n (drop begin (take len xs))
+  end_at text k n left right begin end first at more to =
       let one = begin_at k left begin first at in
       let both = more (without k bits) (length-without k bits ∙ all) (first bits all is) ∙ ap word_of (without_more k n bits) in
-      omega (arith, place_of (k + n) right end both to, skipped_more k n (take len xs), one, ap (λ m. skipped n (drop m (take len xs))) one)
+      omega (arith, place_of (k + n) right end both to, skipped_more (take len xs) text k n, one, ap (λ m. skipped n (drop m (take len xs))) one)

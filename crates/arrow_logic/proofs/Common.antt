@@ -9,7 +9,7 @@ pub use Rattle.std.proofs.lemmas.Bool.{cases_lt, le-ltb, leb-false, leb-true, lt
 pub use Rattle.std.proofs.lemmas.Bool.Decides.{Decides-like, nat_tests, same_from_decides}
 pub use Rattle.std.proofs.lemmas.Grind.{common_steps}
 pub use Rattle.std.proofs.lemmas.Int.{ints, to_z-of_z}
-pub use Rattle.std.proofs.lemmas.List.{append-nil, at_drop_all, drop-append-le, drop-drop, drop_min, ext_get_or, get_or-append_right, get_or-map, get_or-take, get_or_append_left, get_or_past, length-drop, length-map, length-replicate, length-take, length-take-le, map-append, take-append-le, take_all, take_more, take_rest}
+pub use Rattle.std.proofs.lemmas.List.{append-nil, at_drop_all, drop-append-le, drop-drop, drop_min, ext_get_or, get_or-append_right, get_or-map, get_or-take, get_or_append_left, get_or_past, length-drop, length-map, length-replicate, length-take, length-take-le, map-append, take-append-le, take_all, take_more, take_rest, map-id, take-map}
 pub use Rattle.std.proofs.lemmas.List.Elements.{All-cons, All-head, All-nil, All-tail}
 pub use Rattle.std.proofs.lemmas.List.FromFn.{get_or-map-range_with_len, length-map-range_with_len, map-range_with_len_more}
 pub use Rattle.std.proofs.lemmas.List.Sums.{sum_by-append, sum_by-cons}
@@ -17,12 +17,12 @@ pub use Rattle.std.proofs.lemmas.Nat.{le_or_l, le_or_r, or_lt}
 pub use Rattle.std.proofs.lemmas.Nat.Bits.{bit_at-trailing_zeros, bit_at-zero, bit_at_ones, shr_and_one}
 pub use Rattle.std.proofs.lemmas.Option.{get_or_from_slice_get, slice_get-get_or}
 pub use Rattle.std.proofs.lemmas.Result.{IfOk-weaker}
-pub use Rattle.std.proofs.lemmas.Simd.{bit_mask_l, map-map, mask_l-mod, tops_compared}
+pub use Rattle.std.proofs.lemmas.Simd.{bit_mask_l, map-map, mask_l-mod, tops_compared, leading_from_mask_l, trailing_mask_l, zip2_splat, zip2_splat_left}
 pub use Rattle.std.proofs.lemmas.Slice.Zip.{get_or-zip, length-zip}
 pub use Rattle.std.proofs.lemmas.Str.{IsAscii-drop, IsAscii-take, chars-IsAscii, chars-encodes, encodes-IsAscii, encodes-chars, scalars-chars}
 pub use Rattle.std.proofs.lemmas.Str.Ascii.{IsAscii-nil}
 pub use Rattle.std.specs.Int.{bit_at, bit_not, from_bool, trailing_zeros}
-pub use Rattle.std.specs.List.{All, AllZip, range_with_len, zip}
+pub use Rattle.std.specs.List.{All, AllZip, range_with_len, zip, prefix_len}
 pub use Rattle.std.specs.Prelude.{Contains, IsAscii, IsTrue, bit_or, is_none, slice_get, unwrap_or, ◌⊎◌}
 pub use Rattle.std.specs.Result.{IsErrAnd}
 pub use Rattle.std.specs.Simd.Lanes.{mask_l, top, zip2}
@@ -64,7 +64,7 @@ pub use Rattle.arrow_memory.specs.Gathered.{AnswersBits}
 pub use Rattle.arrow_memory.specs.Grown.{IsGrowthError}
 pub use Rattle.arrow_memory.specs.Offsets.{IsOffsets, last_of, valid_length, with_row}
 pub use Rattle.arrow_memory.specs.Sliced.{sliced}
-pub use Rattle.arrow_memory.specs.Words.{low_bits}
+pub use Rattle.arrow_memory.specs.Words.{low_bits, word_of}
 pub use Rattle.arrow_types.proofs.TypeLemmas.{carried_as_element}
 pub use Rattle.arrow_types.specs.ArrowType.{ArrowType, binary, dictionary, extension, large_binary, large_utf8, list, plain, struct, union, utf8}
 pub use Rattle.arrow_types.specs.Carried.{IsCarried, IsCarriedElement}

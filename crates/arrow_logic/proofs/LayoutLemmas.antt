@@ -1,8 +1,7 @@
 -- Which arrays and scalars have a primitive layout, and which types are carried as they lie.
-use Rattle.arrow_logic.proofs.Common.{◌≡◌, ◌≢◌, ◌∙◌, refl, sym, PhysicalType, PrimitiveType, ArrowType, plain, list, struct, union, dictionary, extension, utf8, large_utf8, binary, large_binary, IsCarried, IsCarriedElement, physical_type_of, carried_as_element, AnyPrimitive, HasDictionary, kind_in, kind_of, primitive_kind, AnyArray, Primitive, Utf8, LargeUtf8, Binary, LargeBinary, FixedSizeBinary, FixedSizeList, Struct, Union, Map, Dictionary, AreTexts, AreTextsOrBytes, HasLength, IsFloat, IsPrimitive, HasParts}
+use Rattle.arrow_logic.proofs.Common.{◌≡◌, ◌≢◌, ◌∙◌, refl, sym, PhysicalType, PrimitiveType, ArrowType, plain, dictionary, extension, utf8, large_utf8, binary, large_binary, IsCarried, IsCarriedElement, physical_type_of, carried_as_element, AnyPrimitive, HasDictionary, kind_in, kind_of, primitive_kind, AnyArray, Primitive, AreTexts, AreTextsOrBytes, HasLength, IsFloat, IsPrimitive, HasParts}
 use Rattle.arrow_types.specs.declared.datatypes.physical_type.PhysicalType.TheVariants as physical
 use Rattle.arrow_types.specs.declared.types.PrimitiveType.TheVariants as element
-use Rattle.arrow_arrays.specs.declared.array.any.AnyArray.TheVariants.{Null, Boolean, List}
 
 primitive_in : (p : PhysicalType) → IsPrimitive p → (e : PrimitiveType) × (kind_in p ≡ primitive_kind e)
 primitive_in (physical.Primitive e) is = (e, refl)

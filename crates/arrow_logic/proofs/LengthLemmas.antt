@@ -1,5 +1,5 @@
 -- How long rows are, a word of rows at a time.
-use Rattle.arrow_logic.proofs.Common.{number_at, ◌≡◌, ℕ, suc, ◌+◌, ◌-◌, ◌/◌, ◌^◌, ◌<◌, ◌≤◌, ◌==◌, ℤ, pos, ◌-ℤ◌, ◌≤ℤ◌, Bool, true, false, Option, List, [], ◌∷◌, ◌++◌, length, map, take, get_or, slice_index, if◌then◌else◌, bit_and, nat_eq, refl, ap, subst, subst₂, sym, ◌∙◌, append_assoc, arith, inl, inr, bit_at, range_with_len, take-add, ints, cases_lt, ext_get_or, get_or-append_right, get_or_append_left, map-append, get_or-map-range_with_len, length-map-range_with_len, map-range_with_len_more, shr_and_one, get_or_from_slice_get, map-map, Slot, Number, IsOffsets, last_of, valid_length, sliced, at_most_last, offsets_rise, length-sliced, FitsRows, pieces, fits_within, length-pieces, member_of_part, piece_at, kept, word_length, HasBitsFrom, length-append}
+use Rattle.arrow_logic.proofs.Common.{number_at, ◌≡◌, ℕ, suc, ◌+◌, ◌-◌, ◌/◌, ◌^◌, ◌<◌, ◌≤◌, ◌==◌, ℤ, pos, ◌-ℤ◌, ◌≤ℤ◌, Bool, true, false, Option, List, [], ◌∷◌, ◌++◌, length, map, take, get_or, slice_index, if◌then◌else◌, bit_and, nat_eq, refl, ap, subst, subst₂, sym, ◌∙◌, append_assoc, arith, bit_at, range_with_len, take-add, ints, ext_get_or, map-append, get_or-map-range_with_len, length-map-range_with_len, map-range_with_len_more, shr_and_one, get_or_from_slice_get, map-map, Slot, Number, IsOffsets, last_of, sliced, at_most_last, offsets_rise, length-sliced, FitsRows, pieces, fits_within, length-pieces, member_of_part, piece_at, kept, word_length, HasBitsFrom}
 use Rattle.arrow_memory.proofs.WordLemmas.{range-add}
 use Rattle.arrow_logic.proofs.KeptLemmas.{at-kept, length-kept}
 

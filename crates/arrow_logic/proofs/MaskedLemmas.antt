@@ -1,5 +1,5 @@
 -- Truth values under a validity: what a function of each row gives, and validities as bits.
-use Rattle.arrow_logic.proofs.Common.{◌≡◌, ℕ, suc, ◌&&◌, ◌||◌, Bool, true, false, Option, Some, None, List, [], ◌∷◌, length, map, replicate, refl, ap, sym, ◌∙◌, length-map, length-replicate, mask, masked, Slot, Null, Boolean, both_bits, either_bits, length-paired, FitsRows, known_side, AreOneLength, combined, map-masked}
+use Rattle.arrow_logic.proofs.Common.{◌≡◌, ℕ, suc, ◌||◌, Bool, true, false, Option, Some, None, List, [], ◌∷◌, length, map, replicate, refl, ap, sym, ◌∙◌, length-map, length-replicate, mask, masked, Slot, Null, Boolean, both_bits, either_bits, length-paired, FitsRows, known_side, AreOneLength, combined, map-masked}
 
 -- ---- a function of each row
 

@@ -1,7 +1,7 @@
 -- Which rows of an array of any type are null, by its validity.
-use Rattle.arrow_logic.proofs.Common.{◌≡◌, ◌↔◌, ℕ, suc, Bool, true, false, not, Some, None, List, [], ◌∷◌, length, map, replicate, refl, ap, sym, ◌∙◌, arith, IsTrue, All, length-replicate, map-map, not-not, is_null, Slot, IsValue, MarksArray, any_array_rows, kind_of, null_kind, AnyArray, Primitive, Utf8, LargeUtf8, Binary, LargeBinary, FixedSizeBinary, FixedSizeList, Struct, Union, Map, Dictionary}
+use Rattle.arrow_logic.proofs.Common.{◌≡◌, ◌↔◌, ℕ, suc, Bool, true, false, not, Some, None, List, [], ◌∷◌, length, map, replicate, refl, ap, sym, ◌∙◌, arith, IsTrue, All, length-replicate, map-map, not-not, is_null, Slot, IsValue, MarksArray, any_array_rows, kind_of, null_kind, AnyArray}
 use Rattle.arrow_types.specs.Slot.{Null as null}
-use Rattle.arrow_arrays.specs.declared.array.any.AnyArray.TheVariants.{Null, Boolean, List as ListOf}
+use Rattle.arrow_arrays.specs.declared.array.any.AnyArray.TheVariants.{Null}
 use Rattle.arrow_logic.proofs.MaskedLemmas.{replicate-of}
 
 -- no row is null, and each is

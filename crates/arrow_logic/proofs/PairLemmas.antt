@@ -1,5 +1,5 @@
 -- What each pair of members of two lists gives, and bits that were answered of them.
-use Rattle.arrow_logic.proofs.Common.{arith, ◌≡◌, ◌∙◌, ℕ, zero, suc, ◌<◌, Bool, false, List, [], ◌∷◌, get_or, length, ap, sym, refl, ext_get_or, AnswersBits, row_by_row, Result, Ok, Err, IfOk}
+use Rattle.arrow_logic.proofs.Common.{arith, ◌≡◌, ◌∙◌, ℕ, ◌<◌, Bool, false, List, get_or, length, sym, ext_get_or, AnswersBits, Result, Ok, Err, IfOk}
 
 -- bits that were answered of each row are those of a list, where each answer gives its own
 pub answered_bits : {E : Type 0} (r : Result (List Bool) E) (answered : ℕ → Bool → Type 0) (len : ℕ) (all : List Bool) → length all ≡ len → ((row : ℕ) (bit : Bool) → row < len → answered row bit → bit ≡ get_or all row false) → IfOk r (λ bits. AnswersBits answered len bits) → IfOk r (λ bits. bits ≡ all)

@@ -1,5 +1,5 @@
 -- Characters of a text, and the bytes that begin them.
-use Rattle.arrow_logic.proofs.Common.{All-cons, All-nil, All-tail, ◌≡◌, ℕ, zero, suc, ◌+◌, ◌-◌, ◌<◌, ◌≤◌, ◌/◌, min, ℤ, pos, negsuc, ◌≤ℤ◌, ◌<ℤ◌, unsigned_abs, Bool, true, false, ◌||◌, nat_lt, nat_le, ltb, List, [], ◌∷◌, ◌++◌, length, take, drop, get_or, refl, ap, sym, subst, ◌∙◌, arith, count_by, cond, if◌then◌else◌, IsUtf8, chars, encode_utf8_all, encode_utf8, append_assoc, take_at, drop_at, length-append, lt-ltb, le-leb, ltb-true, drop-cons, take-append-drop, All, encode, le-ltb, lt-leb, ints, drop_min, length-drop, take_all, sum_by-append, sum_by-cons, IsAscii, bit_or, le_or_l, le_or_r, or_lt, IsAscii-nil, IsAscii-drop, IsAscii-take, chars-IsAscii, encodes-IsAscii, encodes-chars, next, cut, part_begin, sliced, IsCutByBytes, begins, skipped, text_cut, Option, None, Some, or_from, or_right}
+use Rattle.arrow_logic.proofs.Common.{All-cons, All-nil, All-tail, ◌≡◌, ℕ, zero, suc, ◌+◌, ◌-◌, ◌<◌, ◌≤◌, ◌/◌, min, ℤ, pos, negsuc, ◌≤ℤ◌, ◌<ℤ◌, unsigned_abs, Bool, true, false, ◌||◌, nat_lt, nat_le, ltb, List, [], ◌∷◌, ◌++◌, length, take, drop, get_or, refl, ap, sym, subst, ◌∙◌, arith, count_by, cond, if◌then◌else◌, IsUtf8, chars, encode_utf8_all, encode_utf8, append_assoc, take_at, drop_at, length-append, lt-ltb, le-leb, ltb-true, drop-cons, drop-drop, take-append-drop, All, encode, le-ltb, lt-leb, ints, drop_min, sum_by-append, sum_by-cons, IsAscii, bit_or, le_or_l, le_or_r, or_lt, IsAscii-nil, IsAscii-drop, IsAscii-take, chars-IsAscii, encodes-IsAscii, encodes-chars, next, cut, part_begin, sliced, IsCutByBytes, begins, skipped, text_cut, Option, None, Some, or_from, or_right}
 
 -- a character's bytes: one that begins it, and others that go on with it
 record Spelt (c : ℕ) : Type 0 where
@@ -49,7 +49,7 @@ spelt : (c : ℕ) → Spelt c
 spelt c = spelt_by c (ltb c 128) (ltb c 2048) (ltb c 65536) refl (encode_is c)
 
 -- bytes that go on with a character are passed
-pub one_more : (k : ℕ) (b : ℕ) (bs : List ℕ) → begins b ≡ false → skipped k (b ∷ bs) ≡ suc (skipped k bs)
+one_more : (k : ℕ) (b : ℕ) (bs : List ℕ) → begins b ≡ false → skipped k (b ∷ bs) ≡ suc (skipped k bs)
 one_more zero b bs goes = ap (λ t. if t then 0 else suc (skipped zero bs)) goes
 one_more (suc k) b bs goes = ap (λ t. suc (skipped (if t then k else suc k) bs)) goes
 
@@ -121,6 +121,14 @@ pub others_are : (k : ℕ) (cs : List ℕ) → drop (skipped k (encode_utf8_all 
 others_are k cs =
     ap (drop (skipped k (encode_utf8_all cs))) (split_at k cs) ∙ drop_at (encode_utf8_all (take k cs)) (encode_utf8_all (drop k cs)) _ (sym (skipped_is k cs))
 
+lengths_are : (k : ℕ) (cs : List ℕ) → length (encode_utf8_all cs) ≡ length (encode_utf8_all (take k cs)) + length (encode_utf8_all (drop k cs))
+lengths_are k cs = ap length (split_at k cs) ∙ length-append (encode_utf8_all (take k cs)) (encode_utf8_all (drop k cs))
+
+-- k characters, and n more of them
+more_are : (k n : ℕ) (cs : List ℕ) → skipped k (encode_utf8_all cs) + skipped n (drop (skipped k (encode_utf8_all cs)) (encode_utf8_all cs)) ≡ skipped (k + n) (encode_utf8_all cs)
+more_are k n cs =
+    omega (arith, skipped_is k cs, ap (skipped n) (others_are k cs), skipped_is n (drop k cs), skipped_is (k + n) cs, lengths_are k cs, lengths_are n (drop k cs), lengths_are (k + n) cs, ap (λ xs. length (encode_utf8_all xs)) (drop-drop n k cs))
+
 -- ---- the part of a text
 
 -- where a part begins, by the sign
@@ -139,6 +147,9 @@ module _ (bs : List ℕ) (text : IsUtf8 bs) where
   -- what stands behind k characters
   others : (k : ℕ) → drop (skipped k bs) bs ≡ encode_utf8_all (drop k (chars bs))
   others k = subst (λ xs. drop (skipped k xs) xs ≡ encode_utf8_all (drop k (chars bs))) spells (others_are k (chars bs))
+
+  pub skipped_more : (k n : ℕ) → skipped k bs + skipped n (drop (skipped k bs) bs) ≡ skipped (k + n) bs
+  skipped_more k n = subst (λ xs. skipped k xs + skipped n (drop (skipped k xs) xs) ≡ skipped (k + n) xs) spells (more_are k n (chars bs))
 
   counted : count_by begins bs ≡ length (chars bs)
   counted = subst (λ xs. count_by begins xs ≡ length (chars bs)) spells (counted_is (chars bs))

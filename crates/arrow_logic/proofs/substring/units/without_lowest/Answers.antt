@@ -1,6 +1,5 @@
-use Rattle.arrow_logic.proofs.Common.{◌∙◌, ap, arith}
-use Rattle.arrow_memory.specs.Words.{word_of}
-use Rattle.arrow_logic.proofs.CharacterLemmas.{drops_lowest, length-without, without_min, without_more}
+use Rattle.arrow_logic.proofs.Common.{◌∙◌, ap, arith, word_of}
+use Rattle.arrow_logic.proofs.CharacterLemmas.{drops_lowest, without_min, without_more}
 use Rattle.arrow_logic.proofs.substring.units.without_lowest.Goals as goal
 
 pub loop-preserved : goal.loop-preserved

@@ -1,5 +1,4 @@
-use Rattle.arrow_logic.proofs.Common.{◌≡◌, ℕ, Bool, List, length, without}
-use Rattle.arrow_memory.specs.Words.{word_of}
+use Rattle.arrow_logic.proofs.Common.{◌≡◌, Bool, List, length, without, word_of}
 use Rattle.arrow_logic.proofs.substring.units.without_lowest.Given as goal
 
 -- those that have been looked for are gone
