@@ -11,7 +11,7 @@ use arrow_text::given::Array;
 use arrow_types::datatypes::DataType;
 use arrow_types::{ArgumentFault, Error};
 use std::alloc::Global;
-use test_lines::lines::{PLAIN, check_lines};
+use test_lines::lines::{PLAIN, wrong_line};
 
 // Numbers, as an array of any type.
 fn numbers(alloc: Global, values: Vec<i32>) -> Result<AnyArray, Error> {
@@ -52,5 +52,13 @@ fn joined(alloc: Global, _name: &str, _arrays: &[AnyArray]) -> Result<bool, Faul
 
 #[test]
 fn example(rt: HostRuntime) {
-    check_lines(&rt, &[("example", joined)], &[["example", ""]], &PLAIN);
+    assert_eq!(rt;
+        wrong_line(
+            rt.alloc(),
+            &[("example", joined)],
+            &[["example", ""]],
+            &PLAIN
+        ),
+        None
+    );
 }

@@ -29,7 +29,7 @@ use arrow_types::error::Error;
 use arrow_types::laws::{equals_both_ways, equals_itself, equals_through};
 use std::alloc::Global;
 use test_lines::arrays::{numbers, truths};
-use test_lines::lines::{Answer, Line, PLAIN, check_lines};
+use test_lines::lines::{Answer, Line, PLAIN, wrong_line};
 
 /// The laws, by a name for those that are called together.
 const ANSWERS: [(&str, Answer); 14] = [
@@ -442,5 +442,5 @@ const LINES: [Line; 24] = [
 
 #[test]
 fn laws(rt: HostRuntime) {
-    check_lines(&rt, &ANSWERS, &LINES, &PLAIN);
+    assert_eq!(rt; wrong_line(rt.alloc(), &ANSWERS, &LINES, &PLAIN), None);
 }

@@ -9,7 +9,7 @@ use arrow_text::given::Array;
 use arrow_types::error::Error;
 use std::alloc::Global;
 use test_lines::arrays::{is_made, numbers, truths};
-use test_lines::lines::{Answer, Line, PLAIN, check_lines};
+use test_lines::lines::{Answer, Line, PLAIN, wrong_line};
 
 /// What is tested, by name.
 const ANSWERS: [(&str, Answer); 2] = [("extend_into", extends), ("concatenate", joins)];
@@ -111,5 +111,5 @@ const LINES: [Line; 10] = [
 
 #[test]
 fn selection(rt: HostRuntime) {
-    check_lines(&rt, &ANSWERS, &LINES, &PLAIN);
+    assert_eq!(rt; wrong_line(rt.alloc(), &ANSWERS, &LINES, &PLAIN), None);
 }

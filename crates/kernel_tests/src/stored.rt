@@ -13,7 +13,7 @@ use arrow_text::given::Array;
 use arrow_types::error::Error;
 use std::alloc::Global;
 use test_lines::arrays::{are_same_numbers, numbers};
-use test_lines::lines::{Answer, Line, PLAIN, check_lines};
+use test_lines::lines::{Answer, Line, PLAIN, wrong_line};
 
 /// The kernels, by name.
 const ANSWERS: [(&str, Answer); 4] = [
@@ -97,5 +97,5 @@ const LINES: [Line; 6] = [
 
 #[test]
 fn stored(rt: HostRuntime) {
-    check_lines(&rt, &ANSWERS, &LINES, &PLAIN);
+    assert_eq!(rt; wrong_line(rt.alloc(), &ANSWERS, &LINES, &PLAIN), None);
 }

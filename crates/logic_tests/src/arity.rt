@@ -12,7 +12,7 @@ use arrow_types::error::{ArgumentFault, Error};
 use arrow_types::types::{days_ms, i256};
 use std::alloc::Global;
 use test_lines::arrays::{are_same_numbers, numbers, truths};
-use test_lines::lines::{Answer, Form, Line, PLAIN, check_lines};
+use test_lines::lines::{Answer, Form, Line, PLAIN, wrong_line};
 
 /// The kernels, by name.
 const ANSWERS: [(&str, Answer); 10] = [
@@ -209,6 +209,6 @@ const FORMS: [Form; 10] = [
 
 #[test]
 fn arity(rt: HostRuntime) {
-    check_lines(&rt, &ANSWERS, &LINES, &PLAIN);
-    check_lines(&rt, &ANSWERS, &FORMED, &FORMS);
+    assert_eq!(rt; wrong_line(rt.alloc(), &ANSWERS, &LINES, &PLAIN), None);
+    assert_eq!(rt; wrong_line(rt.alloc(), &ANSWERS, &FORMED, &FORMS), None);
 }

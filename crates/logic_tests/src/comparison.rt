@@ -6,7 +6,7 @@ use arrow_text::fault::Fault;
 use std::alloc::Global;
 use std::cell::Cell;
 use test_lines::arrays::{numbers, truths};
-use test_lines::lines::{Answer, Form, Line, PLAIN, check_lines};
+use test_lines::lines::{Answer, Form, Line, PLAIN, wrong_line};
 
 /// The kernels, by what their closures tell.
 const ANSWERS: [(&str, Answer); 4] = [
@@ -114,6 +114,6 @@ const FORMS: [Form; 16] = [
 
 #[test]
 fn comparison(rt: HostRuntime) {
-    check_lines(&rt, &ANSWERS, &LINES, &PLAIN);
-    check_lines(&rt, &ANSWERS, &PARTS, &FORMS);
+    assert_eq!(rt; wrong_line(rt.alloc(), &ANSWERS, &LINES, &PLAIN), None);
+    assert_eq!(rt; wrong_line(rt.alloc(), &ANSWERS, &PARTS, &FORMS), None);
 }

@@ -4,6 +4,7 @@ ghost use Rattle.std.specs.Prelude.{◌≡◌, ◌<◌, ◌↔◌, ◌≤ℤ◌,
 ghost use Rattle.arrow_types.specs.Relation.{related, eq};
 ghost use Rattle.arrow_types.specs.Slot.{Boolean};
 
+use crate::check::check_case;
 use arrow_types::datatypes::IntegerType;
 use arrow_types::laws::{
     equal_is_same, index_of_number, key_of_number, number_of_index, offset_of_number, order_agrees,
@@ -14,7 +15,6 @@ use arrow_types::types::{
     months_days_ns,
 };
 use std::cmp::Ordering;
-use test_lines::check::check_case;
 
 // Generic functions, each proved from the laws of its bound alone and with no proof file.
 

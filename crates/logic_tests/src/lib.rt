@@ -5,6 +5,8 @@
 #[cfg(test)]
 mod arity;
 #[cfg(test)]
+mod check;
+#[cfg(test)]
 mod comparison;
 #[cfg(test)]
 mod elements;

@@ -1,9 +1,9 @@
 //! The texts of errors, and refused memory.
 
+use crate::check::check_case;
 use arrow_types::error::{ArgumentFault, Error, SpecPart, Unsupported};
 use std::alloc::{AllocError, AllocFailed};
 use std::fmt::InlineText;
-use test_lines::check::check_case;
 
 /// Errors and their texts.
 const TEXTS: [(Error, &str); 20] = [

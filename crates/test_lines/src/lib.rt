@@ -1,6 +1,5 @@
-//! Lines that tests answer, what lies in their arrays, and what ends a test where a line is not answered as it is wanted.
+//! Lines that tests answer, and what lies in their arrays.
 #![tactic(auto)]
 
 pub mod arrays;
-pub mod check;
 pub mod lines;

@@ -1,6 +1,5 @@
 //! Lines that tests answer: a name and arrays, as in the program `cases`. Among the arrays are those that are wanted.
 
-use crate::check::check_case;
 use arrow_arrays::array::AnyArray;
 use arrow_text::call::Call;
 use arrow_text::fault::Fault;
@@ -8,7 +7,6 @@ use arrow_text::types::find;
 use arrow_text::write::show;
 use arrow_types::error::Error;
 use std::alloc::Global;
-use std::process::Abort;
 
 /// A line, and how it is refused, or nothing where what its call answers is wanted.
 pub type Line = [&'static str; 2];
@@ -65,23 +63,26 @@ fn is_answered(
     Ok(is_right & (refusal.as_str() == line[1]))
 }
 
-/// Ends the test where a line in one of these forms is not answered as it is wanted, at once or, where memory was refused, when
-/// it is answered once more. So a test passes while each request for memory is refused in turn.
-pub fn check_lines(
-    rt: &(impl Abort + Alloc<A = Global>),
+/// The first line that in one of these forms is not answered as it is wanted: at once or, where memory was refused, when it is
+/// answered once more. So a test passes while each request for memory is refused in turn.
+pub fn wrong_line(
+    alloc: Global,
     answers: &[(&str, Answer)],
     lines: &[Line],
     forms: &[Form],
-)
+) -> Option<(Line, Form)>
     requires { (answer : _) (alloc : _) (name : _) (arrays : _) → pre answer alloc name arrays }
 {
     for line in lines {
         for form in forms {
-            let mut outcome = is_answered(rt.alloc(), answers, line, form);
+            let mut outcome = is_answered(alloc, answers, line, form);
             if outcome.is_err() {
-                outcome = is_answered(rt.alloc(), answers, line, form);
+                outcome = is_answered(alloc, answers, line, form);
             }
-            check_case(rt, outcome == Ok(true), (*line, *form));
+            if outcome != Ok(true) {
+                return Some((*line, *form));
+            }
         }
     }
+    None
 }

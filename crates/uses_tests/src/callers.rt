@@ -7,7 +7,7 @@ use arrow_text::fault::Fault;
 use arrow_types::error::Error;
 use std::alloc::Global;
 use test_lines::arrays::{is_made, numbers, truths};
-use test_lines::lines::{Answer, Line, PLAIN, check_lines};
+use test_lines::lines::{Answer, Line, PLAIN, wrong_line};
 use uses::batch::{rows_above, rows_at};
 use uses::coalesce::coalesced;
 use uses::csv::with_numbers;
@@ -189,5 +189,5 @@ const LINES: [Line; 17] = [
 
 #[test]
 fn callers(rt: HostRuntime) {
-    check_lines(&rt, &ANSWERS, &LINES, &PLAIN);
+    assert_eq!(rt; wrong_line(rt.alloc(), &ANSWERS, &LINES, &PLAIN), None);
 }
