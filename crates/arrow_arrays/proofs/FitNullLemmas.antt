@@ -14,7 +14,7 @@ use Rattle.arrow_types.specs.declared.types.PrimitiveType.{PrimitiveType}
 use Rattle.arrow_types.specs.declared.types.PrimitiveType.TheVariants as element
 use Rattle.arrow_types.specs.declared.datatypes.IntegerType.TheVariants as key
 use Rattle.arrow_types.specs.declared.datatypes.IntervalUnit.TheVariants as interval_unit
-use Rattle.arrow_types.specs.ArrowType.{ArrowType, ArrowFields, PlainType, plain, list, struct, union, dictionary, extension, integer, float16, float32, float64, interval, fixed_size_binary, small, large, fixed_size, mapped, field, no_fields, more_fields, type_in, from_fields}
+use Rattle.arrow_types.specs.ArrowType.{ArrowType, ArrowFields, PlainType, plain, list, struct, union, dictionary, extension, integer, float16, float32, float64, interval, fixed_size_binary, small, fixed_size, field, no_fields, more_fields, type_in, from_fields}
 use Rattle.arrow_types.specs.Carried.{AreTypeIds, IsCarried, IsCarriedPlain}
 use Rattle.arrow_types.specs.Fits.{Fits, FitsParts, FitsSparse, fixed_items_in, part_in, sparse_part, dense_part}
 use Rattle.arrow_types.specs.Physical.{physical_type_of, plain_physical_type}
@@ -31,12 +31,8 @@ use Rattle.arrow_arrays.proofs.UnionLemmas.{not_told}
 -- bytes of a fixed size
 pub bytes_fit : (t : ArrowType) (xs : List Slot) → Fits t xs → fixed_size_in t * length xs < 2 ^ 64
 bytes_fit (plain (fixed_size_binary s)) xs h = h.1
-bytes_fit (plain _) xs h = omega arith
-bytes_fit (list form f) xs h = omega arith
-bytes_fit (struct fs) xs h = omega arith
-bytes_fit (union mode ids fs) xs h = omega arith
-bytes_fit (dictionary keys ordered t) xs h = omega arith
 bytes_fit (extension name metadata t) xs h = bytes_fit t xs h
+bytes_fit t xs h = omega arith
 
 pub null_bytes_fit : (t : ArrowType) (n : ℕ) → FitNulls n t → n * fixed_size_in t < 2 ^ 64
 null_bytes_fit t n h =
@@ -64,27 +60,11 @@ fixed_nulls s (suc n) t =
 
 pub items_fit : (t : ArrowType) (n : ℕ) → physical_type_of t ≡ physical.FixedSizeList → FitNulls n t → (n * list_size t < 2 ^ 64) × FitNulls (n * list_size t) (item_type t)
 items_fit (plain p) n kind h = cc (ap shape_of kind, plain_shape p)
-items_fit (list small f) n kind h = cc
-items_fit (list large f) n kind h = cc
 items_fit (list (fixed_size s) (field name t nullable)) n kind h =
     let counted : s * n < 2 ^ 64 = subst (λ (k : ℕ). s * k < 2 ^ 64) (length-replicate n Null) h.1 in
     (omega (arith, counted), subst (Fits t) (fixed_nulls s n t) h.2)
-items_fit (list (mapped sorted) f) n kind h = cc
-items_fit (struct fs) n kind h = cc
-items_fit (union mode ids fs) n kind h = cc
-items_fit (dictionary keys ordered t) n kind h = cc
 items_fit (extension name metadata t) n kind h = items_fit t n kind h
-
-pub some_items : (t : ArrowType) → IsCarried t → physical_type_of t ≡ physical.FixedSizeList → 0 < list_size t
-some_items (plain p) carried kind = cc (ap shape_of kind, plain_shape p)
-some_items (list small f) carried kind = cc
-some_items (list large f) carried kind = cc
-some_items (list (fixed_size s) (field name t nullable)) carried kind = carried.0
-some_items (list (mapped sorted) f) carried kind = cc
-some_items (struct fs) carried kind = cc
-some_items (union mode ids fs) carried kind = cc
-some_items (dictionary keys ordered t) carried kind = cc
-some_items (extension name metadata t) carried kind = some_items t carried kind
+items_fit t n kind h = cc
 
 -- the columns of a struct
 
@@ -137,15 +117,13 @@ others_fit (more_fields (field name t nullable) fs) ids count i s n held long h 
 pub sparse_fits : (t : ArrowType) (n : ℕ) → IsCarried t → shape_in t ≡ union_shape → mode_in t ≡ Sparse → FitNulls n t → FitNullColumns n n (field_types t)
 sparse_fits (plain p) n carried shape mode h = cc (plain_shape p)
 sparse_fits (list form f) n carried shape mode h = cc (list_shaped form)
-sparse_fits (struct fs) n carried shape mode h = cc
 sparse_fits (union Sparse ids no_fields) n carried shape mode h = tt
 sparse_fits (union Sparse ids (more_fields (field name t nullable) fs)) n carried shape mode h =
     let id = id_at ids 0 in
     let same = same_either (int_eq id id) (null_slot t) in
     (subst (Fits t) (map_constant (sparse_part id t) n (Variant id (null_slot t)) ∙ ap (replicate n) same) h.1.0, others_fit fs ids (length (from_fields (more_fields (field name t nullable) fs))) 0 (null_slot t) n carried.0 (omega arith) h.1.1)
-sparse_fits (union Dense ids fs) n carried shape mode h = cc
-sparse_fits (dictionary keys ordered t) n carried shape mode h = cc
 sparse_fits (extension name metadata t) n carried shape mode h = sparse_fits t n carried shape mode h
+sparse_fits t n carried shape mode h = cc
 
 -- and those of a dense one
 
@@ -166,14 +144,12 @@ no_rows_fit ts = λ k d within. Fits-nil (get_or ts k d)
 pub dense_fits : (t : ArrowType) (n : ℕ) → shape_in t ≡ union_shape → mode_in t ≡ Dense → FitNulls n t → FitNullColumns (min n 1) 0 (field_types t)
 dense_fits (plain p) n shape mode h = cc (plain_shape p)
 dense_fits (list form f) n shape mode h = cc (list_shaped form)
-dense_fits (struct fs) n shape mode h = cc
-dense_fits (union Sparse ids fs) n shape mode h = cc
 dense_fits (union Dense ids no_fields) n shape mode h = tt
 dense_fits (union Dense ids (more_fields (field name t nullable) fs)) n shape mode h =
     let all = subst (Fits t) (own_rows (id_at ids 0) (null_slot t) n) h.1.1 in
     (fewer_fit t n (min n 1) (omega arith) all, no_rows_fit (map type_in (from_fields fs)))
-dense_fits (dictionary keys ordered t) n shape mode h = cc
 dense_fits (extension name metadata t) n shape mode h = dense_fits t n shape mode h
+dense_fits t n shape mode h = cc
 
 -- a carried type is no float
 
@@ -188,28 +164,14 @@ plain_no_float float16 carried = absurd carried
 plain_no_float float32 carried = absurd carried
 plain_no_float float64 carried = absurd carried
 plain_no_float (integer key.Int8) carried = refl
-plain_no_float (integer key.Int16) carried = refl
-plain_no_float (integer key.Int32) carried = refl
-plain_no_float (integer key.Int64) carried = refl
-plain_no_float (integer key.UInt8) carried = refl
-plain_no_float (integer key.UInt16) carried = refl
-plain_no_float (integer key.UInt32) carried = refl
-plain_no_float (integer key.UInt64) carried = refl
 plain_no_float (interval interval_unit.YearMonth) carried = refl
-plain_no_float (interval interval_unit.DayTime) carried = refl
-plain_no_float (interval interval_unit.MonthDayNano) carried = refl
-plain_no_float _ carried = refl
+plain_no_float p carried = refl
 
 pub no_float : (t : ArrowType) → IsCarried t → is_float (physical_type_of t) ≡ false
 no_float (plain p) carried = plain_no_float p carried
-no_float (list small f) carried = refl
-no_float (list large f) carried = refl
-no_float (list (fixed_size s) f) carried = refl
-no_float (list (mapped sorted) f) carried = refl
-no_float (struct fs) carried = refl
-no_float (union mode ids fs) carried = refl
-no_float (dictionary keys ordered t) carried = refl
 no_float (extension name metadata t) carried = no_float t carried
+no_float (list small f) carried = refl
+no_float t carried = refl
 
 -- an element that is no float is one of the others
 pub all_elements : (e : PrimitiveType) → is_float (physical.Primitive e) ≡ false → (e ≡ element.Int8 → ⊥) → (e ≡ element.Int16 → ⊥) → (e ≡ element.Int32 → ⊥) → (e ≡ element.Int64 → ⊥) → (e ≡ element.Int128 → ⊥) → (e ≡ element.Int256 → ⊥) → (e ≡ element.UInt8 → ⊥) → (e ≡ element.UInt16 → ⊥) → (e ≡ element.UInt32 → ⊥) → (e ≡ element.UInt64 → ⊥) → (e ≡ element.DaysMs → ⊥) → (e ≡ element.MonthDayNano → ⊥) → ⊥
@@ -225,9 +187,7 @@ all_elements element.UInt32 told a b c d e f g h i j k l = i refl
 all_elements element.UInt64 told a b c d e f g h i j k l = j refl
 all_elements element.DaysMs told a b c d e f g h i j k l = k refl
 all_elements element.MonthDayNano told a b c d e f g h i j k l = l refl
-all_elements element.Float16 told a b c d e f g h i j k l = cc
-all_elements element.Float32 told a b c d e f g h i j k l = cc
-all_elements element.Float64 told a b c d e f g h i j k l = cc
+all_elements _ told a b c d e f g h i j k l = cc
 
 -- rows of a size under a validity without a set bit
 pub whole_product : (n size count : ℕ) → 0 < size → count ≡ n * size → (count % size ≡ 0) × (count / size ≡ n)

@@ -8,7 +8,7 @@ use Rattle.std.proofs.lemmas.List.Sums.{sum_by-cons}
 use Rattle.arrow_types.specs.ArrowType.{plain, null}
 use Rattle.arrow_types.specs.Relation.{is_null}
 use Rattle.arrow_types.specs.Rows.{masked, valid_at}
-use Rattle.arrow_types.specs.Slot.{Slot, Null, Boolean, Number, DayTime, MonthDayNano, Bytes, Text, Items, Parts as fields, Dict, Variant}
+use Rattle.arrow_types.specs.Slot.{Slot, Null, Number}
 use Rattle.arrow_flat.specs.Parts.{Parts, FitsRows, IsArray, IsValue, MarksNulls}
 use Rattle.arrow_flat.proofs.PartsLemmas.{length-masked, row_valid, row_null}
 use Rattle.arrow_flat.proofs.PieceLemmas.{slot_of_row}
@@ -73,20 +73,15 @@ next_keys count s keys held = λ k d within. held (suc k) d (omega (arith, withi
 first_key : (count : ℕ) (s : Slot) (keys : List Slot) → AreKeys count (s ∷ keys) → IsKey count s
 first_key count s keys held = held 0 s (omega arith)
 
+-- a key is null or names one of so many values
+pub each_key : (count : ℕ) (P : Slot → Type 0) → P Null → ((n : ℕ) → n < count → P (Number (pos n))) → (s : Slot) → IsKey count s → P s
+each_key count P none one Null key = none
+each_key count P none one (Number (pos n)) key = one n key
+each_key count P none one s key = absurd key
+
 -- a row is null exactly where its key is
 null_with_key : (count : ℕ) (xs : List Slot) (s : Slot) → IsKey count s → is_null (keyed_item xs (key_in s)) ≡ is_null s
-null_with_key count xs Null key = refl
-null_with_key count xs (Number (pos n)) key = refl
-null_with_key count xs (Number (negsuc n)) key = absurd key
-null_with_key count xs (Boolean b) key = absurd key
-null_with_key count xs (DayTime days ms) key = absurd key
-null_with_key count xs (MonthDayNano months days ns) key = absurd key
-null_with_key count xs (Bytes bytes) key = absurd key
-null_with_key count xs (Text bytes) key = absurd key
-null_with_key count xs (Items slots) key = absurd key
-null_with_key count xs (fields slots) key = absurd key
-null_with_key count xs (Dict slot) key = absurd key
-null_with_key count xs (Variant id slot) key = absurd key
+null_with_key count xs = each_key count (λ s. is_null (keyed_item xs (key_in s)) ≡ is_null s) refl (λ n within. refl)
 
 -- as many rows are null as keys are
 pub null_count-keyed : (count : ℕ) (xs keys : List Slot) → AreKeys count keys → count_by is_null (map (keyed_item xs) (keys_in keys)) ≡ count_by is_null keys
@@ -118,21 +113,14 @@ marks_of_keys None count xs keys held marks =
 marks_of_keys (Some bits) count xs keys held marks = marks ∙ sym (marks-keyed count xs keys held)
 
 -- a key names one of the values
-named : (count : ℕ) (s : Slot) (k : ℕ) → IsKey count s → key_in s ≡ Some k → k < count
-named count Null k key is = absurd (cc)
-named count (Number (pos n)) k key is =
+some_below : (count n k : ℕ) → n < count → ◌≡◌ {A = Option ℕ} (Some n) (Some k) → k < count
+some_below count n k within is =
     let same : n ≡ k = cc in
-    omega (arith, key, same)
-named count (Number (negsuc n)) k key is = absurd key
-named count (Boolean b) k key is = absurd key
-named count (DayTime days ms) k key is = absurd key
-named count (MonthDayNano months days ns) k key is = absurd key
-named count (Bytes bytes) k key is = absurd key
-named count (Text bytes) k key is = absurd key
-named count (Items slots) k key is = absurd key
-named count (fields slots) k key is = absurd key
-named count (Dict slot) k key is = absurd key
-named count (Variant id slot) k key is = absurd key
+    omega (arith, within, same)
+
+named : (count : ℕ) (s : Slot) (k : ℕ) → IsKey count s → key_in s ≡ Some k → k < count
+named count s k key is =
+    each_key count (λ s. key_in s ≡ Some k → k < count) (λ is. absurd cc) (λ n within. some_below count n k within) s key is
 
 pub key_below : (count : ℕ) (keys : List Slot) (i k : ℕ) → AreKeys count keys → slice_get (keys_in keys) i ≡ Some (Some k) → k + 1 ≤ count
 key_below count [] i k held read = absurd (cc)

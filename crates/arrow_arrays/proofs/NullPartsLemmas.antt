@@ -11,7 +11,7 @@ use Rattle.arrow_types.specs.declared.datatypes.UnionMode.TheVariants.{Dense, Sp
 use Rattle.arrow_arrays.specs.declared.array.list.AnyOffsetsBuffer.{AnyOffsetsBuffer}
 use Rattle.arrow_arrays.specs.declared.array.list.AnyOffsetsBuffer.TheVariants.{Small, Large}
 use Rattle.arrow_arrays.specs.AnyOffsetsBuffer.{lists_of}
-use Rattle.arrow_types.specs.ArrowType.{ArrowType, plain, list, struct, union, dictionary, extension, field, no_fields, more_fields}
+use Rattle.arrow_types.specs.ArrowType.{ArrowType, plain, list, union, extension, field, more_fields}
 use Rattle.arrow_types.specs.Rows.{masked}
 use Rattle.arrow_types.specs.Slot.{Slot, Null, Parts, Variant, id_at, null_slot}
 use Rattle.arrow_memory.specs.Offsets.{last_of}
@@ -142,13 +142,11 @@ get_or-copy (suc n) (suc k) x d within = get_or-copy n k x d (omega (arith, with
 union_null : (t : ArrowType) (u : ArrowType) (us : List ArrowType) → shape_in t ≡ union_shape → field_types t ≡ u ∷ us → Variant (id_at (field_ids t) 0) (null_slot u) ≡ null_slot t
 union_null (plain p) u us shape is = cc (plain_shape p)
 union_null (list form f) u us shape is = cc (list_shaped form)
-union_null (struct fs) u us shape is = cc
-union_null (union mode ids no_fields) u us shape is = cc
 union_null (union mode ids (more_fields (field name t nullable) fs)) u us shape is =
     let first : u ≡ t = cc in
     ap (λ x. Variant (id_at ids 0) (null_slot x)) first
-union_null (dictionary keys ordered t) u us shape is = cc
 union_null (extension name metadata t) u us shape is = union_null t u us shape is
+union_null t u us shape is = cc
 
 rows_in_order : (n : ℕ) (s : Slot) → All (λ child_row. get_or (replicate n s) child_row Null ≡ s) (range_with_len 0 n)
 rows_in_order n s =

@@ -19,12 +19,7 @@ use Rattle.arrow_arrays.specs.SliceOf.{slice_of, slices_of, validity_of_slice}
 -- a slice is of the same type
 pub type_of_part : (l : Layout) (offset len : ℕ) → type_of_layout (slice_of l offset len) ≡ type_of_layout l
 type_of_part (flat t xs) offset len = refl
-type_of_part (listed t v offsets c) offset len = refl
-type_of_part (fixed t v s c) offset len = refl
-type_of_part (fielded t v cs) offset len = refl
-type_of_part (sparse t ids start cs) offset len = refl
-type_of_part (dense t ids child_rows cs) offset len = refl
-type_of_part (keyed t keys c) offset len = refl
+type_of_part l offset len = refl
 
 -- no more rows than are stored
 shorter_mask : (bits : List Bool) (xs : List Slot) → length (mask bits xs) ≤ length xs
@@ -38,10 +33,8 @@ length-masked_le (Some bits) xs = shorter_mask bits xs
 
 -- pairs
 take-zip : {A B : Type 0} (n : ℕ) (xs : List A) (ys : List B) → take n (zip xs ys) ≡ zip (take n xs) (take n ys)
-take-zip zero xs ys = refl
-take-zip (suc n) [] ys = refl
-take-zip (suc n) (x ∷ xs) [] = refl
 take-zip (suc n) (x ∷ xs) (y ∷ ys) = ap (λ rest. (x, y) ∷ rest) (take-zip n xs ys)
+take-zip n xs ys = refl
 
 zip-none : {A B : Type 0} (xs : List A) → zip {X = B} xs [] ≡ []
 zip-none [] = refl
@@ -115,10 +108,8 @@ shorter_stack (x ∷ xs) (r ∷ rs) =
     (omega (arith, rest.0), omega (arith, rest.1))
 
 take-stacked : (n : ℕ) (xs : List Slot) (rs : List Slots) → take n (stacked xs rs) ≡ stacked (take n xs) (take n rs)
-take-stacked zero xs rs = refl
-take-stacked (suc n) [] rs = refl
-take-stacked (suc n) (x ∷ xs) [] = refl
 take-stacked (suc n) (x ∷ xs) (r ∷ rs) = ap (λ rest. more_slots x r ∷ rest) (take-stacked n xs rs)
+take-stacked n xs rs = refl
 
 stacked-none : (xs : List Slot) → stacked xs [] ≡ []
 stacked-none [] = refl

@@ -4,7 +4,7 @@ use Rattle.std.specs.List.{All}
 use Rattle.std.proofs.lemmas.List.Elements.{All-cons}
 use Rattle.arrow_types.specs.declared.datatypes.physical_type.PhysicalType.{PhysicalType}
 use Rattle.arrow_types.specs.declared.datatypes.physical_type.PhysicalType.TheVariants as physical
-use Rattle.arrow_types.specs.ArrowType.{ArrowType, ArrowFields, PlainType, ListForm, plain, list, struct, union, dictionary, extension, null, boolean, integer, float16, float32, float64, timestamp, date32, date64, time32, time64, duration, interval, binary, large_binary, utf8, large_utf8, fixed_size_binary, decimal, decimal256, small, large, fixed_size, mapped, field, no_fields, more_fields, type_in, from_fields}
+use Rattle.arrow_types.specs.ArrowType.{ArrowType, ArrowFields, PlainType, ListForm, plain, list, struct, union, dictionary, extension, null, small, field, no_fields, more_fields, type_in, from_fields}
 use Rattle.arrow_types.specs.Carried.{HasField, IsCarried, AreCarried}
 use Rattle.arrow_types.specs.Physical.{physical_type_of, plain_physical_type, list_physical_type}
 use Rattle.arrow_types.specs.Slot.{Null, null_slot}
@@ -35,31 +35,11 @@ shape_in t = shape_of (physical_type_of t)
 
 pub plain_shape : (p : PlainType) → shape_of (plain_physical_type p) ≡ flat_shape
 plain_shape null = refl
-plain_shape boolean = refl
-plain_shape float16 = refl
-plain_shape float32 = refl
-plain_shape float64 = refl
-plain_shape date32 = refl
-plain_shape date64 = refl
-plain_shape binary = refl
-plain_shape large_binary = refl
-plain_shape utf8 = refl
-plain_shape large_utf8 = refl
-plain_shape (integer k) = refl
-plain_shape (timestamp unit timezone) = refl
-plain_shape (time32 unit) = refl
-plain_shape (time64 unit) = refl
-plain_shape (duration unit) = refl
-plain_shape (interval unit) = refl
-plain_shape (fixed_size_binary size) = refl
-plain_shape (decimal precision scale) = refl
-plain_shape (decimal256 precision scale) = refl
+plain_shape p = refl
 
 pub list_shaped : (form : ListForm) → shape_of (list_physical_type form) ≡ list_shape
 list_shaped small = refl
-list_shaped large = refl
-list_shaped (fixed_size size) = refl
-list_shaped (mapped sorted) = refl
+list_shaped form = refl
 
 -- a null slot is Null but for unions
 pub null_slot-shape : (t : ArrowType) (s : Shape) → shape_in t ≡ s → (s ≡ union_shape → ⊥) → null_slot t ≡ Null
@@ -69,10 +49,8 @@ null_slot-shape t s is other = null_slot-no_union t (λ union. other (sym is ∙
 pub list_child : (t : ArrowType) → IsCarried t → shape_in t ≡ list_shape → IsCarried (item_type t) × (type_depth (item_type t) < type_depth t)
 list_child (plain p) carried shape = cc (plain_shape p)
 list_child (list form (field name t nullable)) carried shape = (carried.1, omega arith)
-list_child (struct fs) carried shape = cc
-list_child (union mode ids fs) carried shape = cc
-list_child (dictionary keys ordered t) carried shape = cc
 list_child (extension name metadata t) carried shape = list_child t carried shape
+list_child t carried shape = cc
 
 -- and the values of a dictionary
 pub dictionary_child : (t : ArrowType) → IsCarried t → shape_in t ≡ dictionary_shape → IsCarried (values_in t) × (type_depth (values_in t) < type_depth t)

@@ -67,11 +67,9 @@ marks-struct p held =
 
 -- one row
 stacked_at : (xs : List Slot) (rs : List Slots) (n k : ℕ) → length xs ≡ n → length rs ≡ n → k < n → get_or (stacked xs rs) k no_slots ≡ more_slots (get_or xs k Null) (get_or rs k no_slots)
-stacked_at [] rs n k here there within = absurd (omega (arith, here, within))
-stacked_at (x ∷ xs) [] n k here there within = absurd (omega (arith, there, within))
 stacked_at (x ∷ xs) (r ∷ rs) n zero here there within = refl
-stacked_at (x ∷ xs) (r ∷ rs) zero (suc k) here there within = absurd (omega (arith, here))
 stacked_at (x ∷ xs) (r ∷ rs) (suc n) (suc k) here there within = stacked_at xs rs n k (omega (arith, here)) (omega (arith, there)) (omega (arith, within))
+stacked_at xs rs n k here there within = absurd (omega (arith, here, within, there))
 
 across_at : (n k : ℕ) (ls : List Layout) → HaveRows n ls → k < n → get_or (across n (map rows ls)) k no_slots ≡ to_slots (map (λ l. get_or (rows l) k Null) ls)
 across_at n k [] have within = get_or-replicate n k no_slots no_slots within

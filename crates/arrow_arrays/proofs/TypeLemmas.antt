@@ -9,7 +9,7 @@ use Rattle.arrow_types.specs.declared.datatypes.Field.{Field}
 use Rattle.arrow_types.specs.declared.datatypes.UnionMode.{UnionMode}
 use Rattle.arrow_types.specs.declared.datatypes.physical_type.PhysicalType.{PhysicalType}
 use Rattle.arrow_types.specs.declared.datatypes.physical_type.PhysicalType.TheVariants as physical
-use Rattle.arrow_types.specs.ArrowType.{ArrowType, ArrowFields, PlainType, plain, field, list, struct, union, dictionary, extension, null, boolean, integer, float16, float32, float64, timestamp, date32, date64, time32, time64, duration, interval, binary, large_binary, utf8, large_utf8, fixed_size_binary, decimal, decimal256, small, large, fixed_size, mapped, no_fields, more_fields, type_in, from_fields}
+use Rattle.arrow_types.specs.ArrowType.{ArrowType, ArrowFields, PlainType, plain, field, list, struct, union, extension, null, small, fixed_size, no_fields, more_fields, type_in, from_fields}
 use Rattle.arrow_types.specs.Carried.{AreTypeIds, HasField, IsCarried}
 use Rattle.arrow_types.specs.Physical.{physical_type_of, plain_physical_type}
 use Rattle.arrow_types.specs.Slot.{id_at}
@@ -64,25 +64,7 @@ is_nested _ = false
 
 not_nested : (p : PlainType) → is_nested (plain_physical_type p) ≡ false
 not_nested null = refl
-not_nested boolean = refl
-not_nested float16 = refl
-not_nested float32 = refl
-not_nested float64 = refl
-not_nested date32 = refl
-not_nested date64 = refl
-not_nested binary = refl
-not_nested large_binary = refl
-not_nested utf8 = refl
-not_nested large_utf8 = refl
-not_nested (integer k) = refl
-not_nested (timestamp unit timezone) = refl
-not_nested (time32 unit) = refl
-not_nested (time64 unit) = refl
-not_nested (duration unit) = refl
-not_nested (interval unit) = refl
-not_nested (fixed_size_binary size) = refl
-not_nested (decimal precision scale) = refl
-not_nested (decimal256 precision scale) = refl
+not_nested p = refl
 
 no_plain : (p : PlainType) (physical_type : PhysicalType) → is_nested physical_type ≡ true → plain_physical_type p ≡ physical_type → ⊥
 no_plain p physical_type nested is = true≢false (sym nested ∙ (ap is_nested (sym is) ∙ not_nested p))
@@ -90,14 +72,9 @@ no_plain p physical_type nested is = true≢false (sym nested ∙ (ap is_nested 
 -- a carried fixed-size list has an item a row at least
 pub some_items : (t : ArrowType) → IsCarried t → physical_type_of t ≡ physical.FixedSizeList → 0 < list_size t
 some_items (plain p) carried kind = absurd (no_plain p physical.FixedSizeList refl kind)
-some_items (list small f) carried kind = cc
-some_items (list large f) carried kind = cc
 some_items (list (fixed_size size) (field name t nullable)) carried kind = carried.0
-some_items (list (mapped sorted) f) carried kind = cc
-some_items (struct fs) carried kind = cc
-some_items (union mode ids fs) carried kind = cc
-some_items (dictionary keys ordered t) carried kind = cc
 some_items (extension name metadata t) carried kind = some_items t carried kind
+some_items t carried kind = cc
 
 -- what the test of a fixed-size list's parts finds is what an array asks of them
 pub fixed_holds : (t : ArrowType) (child : Layout) (validity : Option (List Bool)) → HoldsFixedList t child validity → IsFixedList (record { arrow_type = t; validity = validity; size = list_size t; child = child })
@@ -114,15 +91,11 @@ fixed_holds t child validity holds =
 -- a carried struct has a field
 struct_field : (t : ArrowType) → IsCarried t → physical_type_of t ≡ physical.Struct → 0 < length (field_types t)
 struct_field (plain p) carried kind = absurd (no_plain p physical.Struct refl kind)
-struct_field (list small f) carried kind = cc
-struct_field (list large f) carried kind = cc
-struct_field (list (fixed_size size) f) carried kind = cc
-struct_field (list (mapped sorted) f) carried kind = cc
 struct_field (struct fs) carried kind =
     omega (arith, some_field fs carried.0, length-map (from_fields fs) type_in)
-struct_field (union mode ids fs) carried kind = cc
-struct_field (dictionary keys ordered t) carried kind = cc
 struct_field (extension name metadata t) carried kind = struct_field t carried kind
+struct_field (list small f) carried kind = cc
+struct_field t carried kind = cc
 
 pub struct_has_field : (t : ArrowType) → IsCarriedAs physical.Struct t → 0 < length (field_types t)
 struct_has_field t kind = struct_field t kind.0 kind.1
@@ -139,16 +112,12 @@ struct_holds t children validity holds =
 
 has_ids : (t : ArrowType) → IsCarried t → physical_type_of t ≡ physical.Union → HasIds t
 has_ids (plain p) carried kind = absurd (no_plain p physical.Union refl kind)
-has_ids (list small f) carried kind = cc
-has_ids (list large f) carried kind = cc
-has_ids (list (fixed_size size) f) carried kind = cc
-has_ids (list (mapped sorted) f) carried kind = cc
-has_ids (struct fs) carried kind = cc
 has_ids (union mode ids fs) carried kind =
     let long = length-map (from_fields fs) type_in in
     rw long (some_field fs carried.1.0, carried.0)
-has_ids (dictionary keys ordered t) carried kind = cc
 has_ids (extension name metadata t) carried kind = has_ids t carried kind
+has_ids (list small f) carried kind = cc
+has_ids t carried kind = cc
 
 pub union_has_field : (t : ArrowType) → IsCarriedAs physical.Union t → 0 < length (field_types t)
 union_has_field t kind = (has_ids t kind.0 kind.1).0

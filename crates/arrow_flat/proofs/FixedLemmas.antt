@@ -4,7 +4,7 @@ use Rattle.std.specs.Prelude.{slice_get}
 use Rattle.std.specs.Bool.{Decides}
 use Rattle.std.proofs.Math.Nat.{mul-le-mul_right, le-mul_of_pos_right, eq_of_mul-eq-mul_left, mod-eq-sub-div-mul, div-mul-le_self}
 use Rattle.std.proofs.lemmas.List.{length-map, length-drop, drop-drop, take-append-drop}
-use Rattle.arrow_types.specs.ArrowType.{ArrowType, plain, extension, list, struct, union, dictionary, null, boolean, float16, float32, float64, date32, date64, binary, large_binary, utf8, large_utf8, integer, timestamp, time32, time64, duration, interval, fixed_size_binary, decimal, decimal256, small, large, fixed_size, mapped}
+use Rattle.arrow_types.specs.ArrowType.{ArrowType, plain, extension, list, fixed_size_binary, small}
 use Rattle.arrow_types.specs.Carried.{IsCarried}
 use Rattle.arrow_types.specs.Physical.{physical_type_of}
 use Rattle.arrow_types.specs.declared.datatypes.physical_type.PhysicalType.TheVariants as physical
@@ -84,34 +84,10 @@ fixed_parts_decide p q a b len r held other_held here there told =
 
 -- a carried type of rows of a fixed size has a byte a row at least
 pub some_bytes : (t : ArrowType) → IsCarried t → physical_type_of t ≡ physical.FixedSizeBinary → 0 < fixed_size_in t
-some_bytes (plain null) carried kind = cc
-some_bytes (plain boolean) carried kind = cc
-some_bytes (plain float16) carried kind = cc
-some_bytes (plain float32) carried kind = cc
-some_bytes (plain float64) carried kind = cc
-some_bytes (plain date32) carried kind = cc
-some_bytes (plain date64) carried kind = cc
-some_bytes (plain binary) carried kind = cc
-some_bytes (plain large_binary) carried kind = cc
-some_bytes (plain utf8) carried kind = cc
-some_bytes (plain large_utf8) carried kind = cc
-some_bytes (plain (integer k)) carried kind = cc
-some_bytes (plain (timestamp unit timezone)) carried kind = cc
-some_bytes (plain (time32 unit)) carried kind = cc
-some_bytes (plain (time64 unit)) carried kind = cc
-some_bytes (plain (duration unit)) carried kind = cc
-some_bytes (plain (interval unit)) carried kind = cc
 some_bytes (plain (fixed_size_binary size)) carried kind = carried
-some_bytes (plain (decimal precision scale)) carried kind = cc
-some_bytes (plain (decimal256 precision scale)) carried kind = cc
-some_bytes (list small f) carried kind = cc
-some_bytes (list large f) carried kind = cc
-some_bytes (list (fixed_size size) f) carried kind = cc
-some_bytes (list (mapped sorted) f) carried kind = cc
-some_bytes (struct fs) carried kind = cc
-some_bytes (union mode ids fs) carried kind = cc
-some_bytes (dictionary keys ordered t) carried kind = cc
 some_bytes (extension name metadata t) carried kind = some_bytes t carried kind
+some_bytes (list small f) carried kind = cc
+some_bytes t carried kind = cc
 
 -- without rest the rows are all bytes
 pub whole_rows : (n size : ℕ) → n % size ≡ 0 → n / size * size ≡ n

@@ -29,10 +29,8 @@ length-masked (Some bits) xs fits = length-mask bits xs fits
 -- a part of the rows
 
 take-mask : (n : ℕ) (bits : List Bool) (xs : List Slot) → take n (mask bits xs) ≡ mask (take n bits) (take n xs)
-take-mask zero bits xs = refl
-take-mask (suc n) [] xs = refl
-take-mask (suc n) (b ∷ bits) [] = refl
 take-mask (suc n) (b ∷ bits) (x ∷ xs) = ap (λ ys. (if b then x else Null) ∷ ys) (take-mask n bits xs)
+take-mask n bits xs = refl
 
 mask-none : (bits : List Bool) → mask bits [] ≡ []
 mask-none [] = refl
@@ -175,15 +173,10 @@ pub bit_within : (v : Option (List Bool)) (n i : ℕ) → FitsRows v n → i < n
 bit_within None n i fits within = tt
 bit_within (Some bits) n i fits within = omega (arith, fits, within)
 
--- equality by type and rows, where the types are equal
-pub same_where_types_are : (x y : ArrowType × List Slot) (r : Bool) → x.0 ≡ y.0 → Decides r (x.1 ≡ y.1) → r ≡ same_by meaning_code x y
-same_where_types_are x y r types told =
-    same_from_decides r (same_by meaning_code x y) (λ e i. (types i, told.0 e i), λ e. told.1 (ap (λ m. m.1) e)) (same_by-decides meaning_code x y)
-
--- and where they are not
-pub differs_where_types_do : (x y : ArrowType × List Slot) (r : Bool) → (r ≡ true → ⊥) → (x.0 ≡ y.0 → r ≡ true) → r ≡ same_by meaning_code x y
-differs_where_types_do x y r unequal types =
-    same_from_decides r (same_by meaning_code x y) (λ e. absurd (unequal e), λ e. types (ap (λ m. m.0) e)) (same_by-decides meaning_code x y)
+-- equality by type and rows, as a test of both tells it
+pub same_by_meaning : (x y : ArrowType × List Slot) (r : Bool) → Decides r ((x.0 ≡ y.0) × (x.1 ≡ y.1)) → r ≡ same_by meaning_code x y
+same_by_meaning x y r told =
+    same_from_decides r (same_by meaning_code x y) (λ e i. ((told.0 e).0 i, (told.0 e).1 i), λ e. told.1 (ap (λ m. m.0) e, ap (λ m. m.1) e)) (same_by-decides meaning_code x y)
 
 -- nulls of a part are nulls
 pub nulls-sliced : (count offset len : ℕ) → offset + len ≤ count → sliced (replicate count Null) offset len ≡ replicate len Null

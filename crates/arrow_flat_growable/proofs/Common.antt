@@ -62,7 +62,7 @@ pub use Rattle.arrow_memory.specs.Words.{low_bits}
 pub use Rattle.arrow_types.proofs.FitsLemmas.{Fits-nil}
 pub use Rattle.arrow_types.proofs.RowsLemmas.{length-mask, slice_get-mask}
 pub use Rattle.arrow_types.proofs.SlotLemmas.{null_slot-no_union}
-pub use Rattle.arrow_types.specs.ArrowType.{ArrowType, PlainType, binary, dictionary, extension, fixed_size, fixed_size_binary, large, large_binary, large_utf8, list, mapped, null, plain, small, struct, union, utf8}
+pub use Rattle.arrow_types.specs.ArrowType.{ArrowType, PlainType, binary, extension, fixed_size_binary, large_binary, large_utf8, list, null, plain, small, utf8}
 pub use Rattle.arrow_types.specs.Carried.{IsCarried}
 pub use Rattle.arrow_types.specs.Fits.{Fits}
 pub use Rattle.arrow_types.specs.Greatest.{greatest_number}
@@ -71,6 +71,6 @@ pub use Rattle.arrow_types.specs.Rows.{mask, masked, valid_at}
 pub use Rattle.arrow_types.specs.Slot.{Boolean, Bytes, Null, Number, Slot, null_slot}
 pub use Rattle.arrow_types.specs.TypeOf.{type_of}
 pub use Rattle.arrow_types.specs.declared.datatypes.IntegerType.{IntegerType}
-pub use Rattle.arrow_types.specs.declared.datatypes.IntegerType.TheVariants.{Int16, Int32, Int64, Int8, UInt16, UInt32, UInt64, UInt8}
+pub use Rattle.arrow_types.specs.declared.datatypes.IntegerType.TheVariants.{Int8}
 pub use Rattle.arrow_types.specs.declared.datatypes.physical_type.PhysicalType.{PhysicalType}
 pub use Rattle.arrow_types.specs.declared.error.Error.{Error}

@@ -1,5 +1,5 @@
 -- Which rows fit a type by their count alone.
-use Rattle.arrow_flat_growable.proofs.Common.{◌≡◌, ◌*◌, ◌<◌, ◌^◌, Bool, true, false, List, length, refl, arith, PhysicalType, ArrowType, PlainType, plain, list, struct, union, dictionary, extension, null, binary, large_binary, utf8, large_utf8, fixed_size_binary, small, large, fixed_size, mapped, Fits, physical_type_of, plain_physical_type, Slot, fixed_size_in, is_counted, fits_counted}
+use Rattle.arrow_flat_growable.proofs.Common.{◌≡◌, ◌*◌, ◌<◌, ◌^◌, Bool, true, false, List, length, refl, arith, PhysicalType, ArrowType, PlainType, plain, list, extension, null, binary, large_binary, utf8, large_utf8, fixed_size_binary, small, Fits, physical_type_of, plain_physical_type, Slot, fixed_size_in, is_counted, fits_counted}
 use Rattle.arrow_types.specs.declared.datatypes.physical_type.PhysicalType.TheVariants as physical
 
 -- whether rows that lie so fit by nothing but their count
@@ -19,14 +19,9 @@ plain_without_bytes _ kind = (refl, refl)
 
 without_bytes : (t : ArrowType) → is_only_counted (physical_type_of t) ≡ true → (fixed_size_in t ≡ 0) × (is_counted (physical_type_of t) ≡ true)
 without_bytes (plain p) kind = plain_without_bytes p kind
-without_bytes (list small f) kind = cc
-without_bytes (list large f) kind = cc
-without_bytes (list (fixed_size s) f) kind = cc
-without_bytes (list (mapped sorted) f) kind = cc
-without_bytes (struct fs) kind = cc
-without_bytes (union mode ids fs) kind = cc
-without_bytes (dictionary keys ordered t) kind = cc
 without_bytes (extension name metadata t) kind = without_bytes t kind
+without_bytes (list small f) kind = cc
+without_bytes t kind = cc
 
 -- then rows fit where they are counted
 pub fits_only_counted : (t : ArrowType) (xs : List Slot) → is_only_counted (physical_type_of t) ≡ true → length xs < 2 ^ 64 → Fits t xs

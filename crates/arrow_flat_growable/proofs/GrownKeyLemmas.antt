@@ -1,15 +1,9 @@
 -- Keys that grow by the values of the dictionaries before their own.
-use Rattle.arrow_flat_growable.proofs.Common.{arith, ◌≡◌, ◌+◌, ◌<◌, ◌≤◌, ◌^◌, ℕ, pos, List, [], ◌∷◌, ◌++◌, length, map, get_or, ap, sym, subst, ◌∙◌, append_assoc, All, append-nil, map-append, All-append, All-cons, IntegerType, Int8, Int16, Int32, Int64, UInt8, UInt16, UInt32, UInt64, greatest_number, Slot, Null, Number, sliced, sliced-cut, one_row, KeyFits, PassesGreatest, grown_key}
+use Rattle.arrow_flat_growable.proofs.Common.{arith, ◌≡◌, ◌+◌, ◌<◌, ◌≤◌, ◌^◌, ℕ, pos, List, [], ◌∷◌, ◌++◌, length, map, get_or, ap, sym, subst, ◌∙◌, append_assoc, All, append-nil, map-append, All-append, All-cons, IntegerType, Int8, greatest_number, Slot, Null, Number, sliced, sliced-cut, one_row, KeyFits, PassesGreatest, grown_key}
 
 pub greatest_small : (t : IntegerType) → greatest_number t < 2 ^ 64
 greatest_small Int8 = omega arith
-greatest_small Int16 = omega arith
-greatest_small Int32 = omega arith
-greatest_small Int64 = omega arith
-greatest_small UInt8 = omega arith
-greatest_small UInt16 = omega arith
-greatest_small UInt32 = omega arith
-greatest_small UInt64 = omega arith
+greatest_small t = omega arith
 
 -- a key that passes the greatest grew
 pub passes : (greatest k by : ℕ) (s : Slot) → s ≡ Number (pos k) → k ≤ greatest → greatest < k + by → PassesGreatest greatest by s

@@ -1,5 +1,5 @@
 -- Arrays of the null type under construction.
-use Rattle.arrow_flat_growable.proofs.Common.{arith, ◌≡◌, ◌+◌, ◌<◌, ◌≤◌, ◌^◌, ℕ, zero, suc, Bool, false, List, [], ◌∷◌, ◌++◌, length, map, replicate, None, ap, sym, ◌∙◌, length-replicate, replicate-append-replicate, ArrowType, plain, list, struct, union, dictionary, extension, null, small, large, fixed_size, mapped, Fits, physical_type_of, Slot, Null, null_slot, null_slot-no_union, sliced, NullParts, nulls-sliced, rows, source_at, Grown, FitsItself, FitsWith, appended, named_rows, null_rows_of, rows_among, IsGrownNull, null_layout}
+use Rattle.arrow_flat_growable.proofs.Common.{arith, ◌≡◌, ◌+◌, ◌<◌, ◌≤◌, ◌^◌, ℕ, zero, suc, Bool, false, List, [], ◌∷◌, ◌++◌, length, map, replicate, None, ap, sym, ◌∙◌, length-replicate, replicate-append-replicate, ArrowType, plain, list, extension, null, small, Fits, physical_type_of, Slot, Null, null_slot, null_slot-no_union, sliced, NullParts, nulls-sliced, rows, source_at, Grown, FitsItself, FitsWith, appended, named_rows, null_rows_of, rows_among, IsGrownNull, null_layout}
 use Rattle.arrow_types.specs.declared.datatypes.physical_type.PhysicalType.TheVariants as physical
 use Rattle.arrow_flat_growable.proofs.FlatLemmas.{too_many}
 
@@ -13,15 +13,9 @@ more_nulls t n m total failed is well =
 -- so many of them fit
 pub nulls_fit : (t : ArrowType) (n : ℕ) → physical_type_of t ≡ physical.Null → n < 2 ^ 64 → Fits t (replicate n Null)
 nulls_fit (plain null) n kind counted = (rw (length-replicate n Null) counted, tt)
-nulls_fit (plain _) n kind counted = absurd cc
-nulls_fit (list small f) n kind counted = absurd cc
-nulls_fit (list large f) n kind counted = absurd cc
-nulls_fit (list (fixed_size s) f) n kind counted = absurd cc
-nulls_fit (list (mapped sorted) f) n kind counted = absurd cc
-nulls_fit (struct fs) n kind counted = absurd cc
-nulls_fit (union mode ids fs) n kind counted = absurd cc
-nulls_fit (dictionary keys ordered t) n kind counted = absurd cc
 nulls_fit (extension name metadata t) n kind counted = nulls_fit t n kind counted
+nulls_fit (list small f) n kind counted = absurd cc
+nulls_fit t n kind counted = absurd cc
 
 -- and a null slot of such a type is null
 pub null_is_null : (t : ArrowType) → physical_type_of t ≡ physical.Null → null_slot t ≡ Null

@@ -19,15 +19,15 @@ pub use Rattle.std.specs.List.{drop-map, range_with_len, take-map, zip}
 pub use Rattle.std.specs.Ordering.{int_eq}
 pub use Rattle.std.specs.Prelude.{IfSome, IsErrAnd, IsOkUnless, OnErr, OnOk, option_copied, option_map, slice_get, slice_index_or, ◌↔◌}
 pub use Rattle.std.specs.Vec.{vec_len}
-pub use Rattle.arrow_arrays.proofs.FitNullLemmas.{some_items, whole_product}
-pub use Rattle.arrow_arrays.proofs.KeyLemmas.{key_read}
+pub use Rattle.arrow_arrays.proofs.FitNullLemmas.{whole_product}
+pub use Rattle.arrow_arrays.proofs.KeyLemmas.{key_read, each_key}
 pub use Rattle.arrow_arrays.proofs.NullLemmas.{map_constant}
 pub use Rattle.arrow_arrays.proofs.NullPartsLemmas.{columns_of_arrays, count_children, rows_of_arrays}
 pub use Rattle.arrow_arrays.proofs.PartLemmas.{across-sliced, length-fixed_items, length-masked_le, range-sliced, union_items-sliced}
 pub use Rattle.arrow_arrays.proofs.ShapeLemmas.{dictionary_child, dictionary_shape, list_shape, list_shaped, null_slot-shape, plain_shape, shape_in, shape_of, struct_columns, struct_shape}
 pub use Rattle.arrow_arrays.proofs.SliceLemmas.{ChangedUpTo, all_changed, changed_next, changed_read, in_map, rest_as_was, written}
 pub use Rattle.arrow_arrays.proofs.StructLemmas.{columns_of-to_layouts, length-across, length-stacked}
-pub use Rattle.arrow_arrays.proofs.TypeLemmas.{types_of_layouts, union_has_field}
+pub use Rattle.arrow_arrays.proofs.TypeLemmas.{types_of_layouts, union_has_field, some_items}
 pub use Rattle.arrow_arrays.proofs.UnionLemmas.{column_at, not_told}
 pub use Rattle.arrow_arrays.specs.Any.{Kind, any_array_rows, any_array_type, dictionary_kind, fixed_size_list_kind, kind_in, layout_of, layouts_in, list_kind, map_kind, struct_kind, union_kind}
 pub use Rattle.arrow_arrays.specs.AnyKeys.{key_rows}

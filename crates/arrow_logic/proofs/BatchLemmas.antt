@@ -8,12 +8,11 @@ row_by_row-append give xs zs ys ws same = absurd (omega (arith, same))
 
 pub pairs_by_batch : (lefts rights : List (List Slot)) → AreAlikeLong lefts rights → GiveByBatch lefts rights
 pairs_by_batch [] [] same give = refl
-pairs_by_batch [] (ys ∷ rights) same give = cc
-pairs_by_batch (xs ∷ lefts) [] same give = cc
 pairs_by_batch (xs ∷ lefts) (ys ∷ rights) same give =
     let first : length xs ≡ length ys = cc in
     let rest : AreAlikeLong lefts rights = cc in
     row_by_row-append give xs (joined lefts) ys (joined rights) first ∙ ap (λ more. row_by_row give xs ys ++ more) (pairs_by_batch lefts rights rest give)
+pairs_by_batch lefts rights same give = cc
 
 pub each_by_batch : (batches : List (List Slot)) → GiveEachByBatch batches
 each_by_batch [] give = refl

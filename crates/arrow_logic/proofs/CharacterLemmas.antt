@@ -36,10 +36,9 @@ characters_are xs word long fits is =
 -- ---- without the lowest bits that are set
 
 pub length-without : (k : ℕ) (bits : List Bool) → length (without k bits) ≡ length bits
-length-without zero bits = refl
-length-without (suc k) [] = refl
 length-without (suc k) (true ∷ bits) = ap suc (length-without k bits)
 length-without (suc k) (false ∷ bits) = ap suc (length-without (suc k) bits)
+length-without k bits = refl
 
 without_nil : (k : ℕ) → without k [] ≡ []
 without_nil zero = refl
@@ -126,10 +125,9 @@ cut_first false n a b same = omega (arith, same)
 
 -- of a row that ends before the bytes do
 skipped_take : (k n : ℕ) (xs : List ℕ) → skipped k (take n xs) ≡ min n (skipped k xs)
-skipped_take k zero xs = omega arith
-skipped_take k (suc n) [] = omega arith
 skipped_take zero (suc n) (x ∷ xs) = cut_first (begins x) n (skipped zero (take n xs)) (skipped zero xs) (skipped_take zero n xs)
 skipped_take (suc k) (suc n) (x ∷ xs) = omega (arith, skipped_take (if begins x then k else suc k) n xs)
+skipped_take k n xs = omega arith
 
 -- the lowest bit that is left is there, where the row goes on so far
 lowest_place : (bits : List Bool) (len word : ℕ) → word ≡ word_of bits → length bits ≡ 16 → len ≤ 16 → min len (trailing_zeros w64 word) ≡ min len (prefix_len (λ b. not b) bits)

@@ -9,7 +9,7 @@ pub use Rattle.std.proofs.lemmas.Bool.{cases_lt, le-ltb, leb-false, leb-true, lt
 pub use Rattle.std.proofs.lemmas.Bool.Decides.{Decides-like, nat_tests, same_from_decides}
 pub use Rattle.std.proofs.lemmas.Grind.{common_steps}
 pub use Rattle.std.proofs.lemmas.Int.{ints, to_z-of_z}
-pub use Rattle.std.proofs.lemmas.List.{append-nil, at_drop_all, drop-append-le, drop-drop, drop_min, ext_get_or, get_or-append_right, get_or-map, get_or-take, get_or_append_left, get_or_past, length-drop, length-map, length-replicate, length-take, length-take-le, map-append, take-append-le, take_all, take_more, take_rest, map-id, take-map}
+pub use Rattle.std.proofs.lemmas.List.{append-nil, at_drop_all, drop-append-le, drop-drop, drop_min, ext_get_or, get_or-map, get_or-take, get_or_past, length-drop, length-map, length-replicate, length-take, length-take-le, map-append, take-append-le, take_all, take_more, take_rest, map-id, take-map}
 pub use Rattle.std.proofs.lemmas.List.Elements.{All-cons, All-head, All-nil, All-tail}
 pub use Rattle.std.proofs.lemmas.List.FromFn.{get_or-map-range_with_len, length-map-range_with_len, map-range_with_len_more}
 pub use Rattle.std.proofs.lemmas.List.Sums.{sum_by-append, sum_by-cons}
@@ -29,7 +29,7 @@ pub use Rattle.std.specs.Simd.Lanes.{mask_l, top, zip2}
 pub use Rattle.std.specs.Vec.{vec_capacity, vec_len}
 pub use Rattle.arrow_arrays.specs.Any.{MarksArray, any_array_rows, any_array_type, kind_in, kind_of, null_kind, primitive_kind}
 pub use Rattle.arrow_arrays.specs.declared.array.any.AnyArray.{AnyArray}
-pub use Rattle.arrow_arrays.specs.declared.array.any.AnyArray.TheVariants.{Binary, Dictionary, FixedSizeBinary, FixedSizeList, LargeBinary, LargeUtf8, Map, Primitive, Struct, Union, Utf8}
+pub use Rattle.arrow_arrays.specs.declared.array.any.AnyArray.TheVariants.{Primitive}
 pub use Rattle.arrow_flat.proofs.PartsLemmas.{fits_within, length-masked, marks-masked, types_decide}
 pub use Rattle.arrow_flat.proofs.PieceLemmas.{length-byte_slots, length-pieces, member_of_part, piece_at}
 pub use Rattle.arrow_flat.proofs.RowLemmas.{fits_combined, get_or-row_by_row, length-row_by_row, map-masked}
@@ -62,11 +62,11 @@ pub use Rattle.arrow_memory.specs.Bits.{both_bits, by_fours, either_bits, first_
 pub use Rattle.arrow_memory.specs.Ends.{word_length}
 pub use Rattle.arrow_memory.specs.Gathered.{AnswersBits}
 pub use Rattle.arrow_memory.specs.Grown.{IsGrowthError}
-pub use Rattle.arrow_memory.specs.Offsets.{IsOffsets, last_of, valid_length, with_row}
+pub use Rattle.arrow_memory.specs.Offsets.{IsOffsets, last_of, with_row}
 pub use Rattle.arrow_memory.specs.Sliced.{sliced}
 pub use Rattle.arrow_memory.specs.Words.{low_bits, word_of}
 pub use Rattle.arrow_types.proofs.TypeLemmas.{carried_as_element}
-pub use Rattle.arrow_types.specs.ArrowType.{ArrowType, binary, dictionary, extension, large_binary, large_utf8, list, plain, struct, union, utf8}
+pub use Rattle.arrow_types.specs.ArrowType.{ArrowType, binary, dictionary, extension, large_binary, large_utf8, plain, utf8}
 pub use Rattle.arrow_types.specs.Carried.{IsCarried, IsCarriedElement}
 pub use Rattle.arrow_types.specs.Logic.{both, either, kleene_both, kleene_either, negated}
 pub use Rattle.arrow_types.specs.Part.{at_most, bytes_of, cut, part, part_begin}

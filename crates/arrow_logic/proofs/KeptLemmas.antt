@@ -25,12 +25,10 @@ module _ {A B : Type 0} (spare : B) (f : A → B) where
 
   -- something holds of all that is kept
   pub all-kept : (P : B → Type 0) (Q : A → Type 0) → P spare → ((x : A) → Q x → P (f x)) → (v : Option (List Bool)) (xs : List A) → All Q xs → All P (kept spare f v xs)
-  all-kept P Q none each None [] all = λ k d within. absurd (omega (arith, within))
   all-kept P Q none each None (x ∷ xs) all = elim [ zero ↦ λ d within. each x (all 0 x (omega arith)) | suc k ↦ λ d within. all-kept P Q none each None xs (λ j e there. all (suc j) e (omega (arith, there))) k d (omega (arith, within)) ]
-  all-kept P Q none each (Some []) xs all = λ k d within. absurd (omega (arith, within))
-  all-kept P Q none each (Some (b ∷ bits)) [] all = λ k d within. absurd (omega (arith, within))
   all-kept P Q none each (Some (true ∷ bits)) (x ∷ xs) all = elim [ zero ↦ λ d within. each x (all 0 x (omega arith)) | suc k ↦ λ d within. all-kept P Q none each (Some bits) xs (λ j e there. all (suc j) e (omega (arith, there))) k d (omega (arith, within)) ]
   all-kept P Q none each (Some (false ∷ bits)) (x ∷ xs) all = elim [ zero ↦ λ d within. none | suc k ↦ λ d within. all-kept P Q none each (Some bits) xs (λ j e there. all (suc j) e (omega (arith, there))) k d (omega (arith, within)) ]
+  all-kept P Q none each v xs all = λ k d within. absurd (omega (arith, within))
 
   -- ---- as slots: of a row s x the slot h (s x) is stored, as g (f x)
   module _ (g : B → Slot) (s : A → Slot) (h : Slot → Slot) (each : (x : A) → g (f x) ≡ h (s x)) where
@@ -39,10 +37,9 @@ module _ {A B : Type 0} (spare : B) (f : A → B) where
     every (x ∷ xs) = λ i. each x i ∷ every xs i
 
     rows-kept_by : h Null ≡ Null → (bits : List Bool) (xs : List A) → mask bits (map g (kept_by spare f bits xs)) ≡ map h (mask bits (map s xs))
-    rows-kept_by null [] xs = refl
-    rows-kept_by null (b ∷ bits) [] = refl
     rows-kept_by null (true ∷ bits) (x ∷ xs) = λ i. each x i ∷ rows-kept_by null bits xs i
     rows-kept_by null (false ∷ bits) (x ∷ xs) = λ i. sym null i ∷ rows-kept_by null bits xs i
+    rows-kept_by _ bits xs = refl
 
     -- under the validity that is h of each row
     pub rows-kept : h Null ≡ Null → (v : Option (List Bool)) (xs : List A) → masked v (map g (kept spare f v xs)) ≡ map h (masked v (map s xs))
@@ -50,10 +47,9 @@ module _ {A B : Type 0} (spare : B) (f : A → B) where
     rows-kept null (Some bits) xs = rows-kept_by null bits xs
 
     stored-kept_by : h Null ≡ g spare → (bits : List Bool) (xs : List A) → map g (kept_by spare f bits xs) ≡ map h (mask bits (map s xs))
-    stored-kept_by null [] xs = refl
-    stored-kept_by null (b ∷ bits) [] = refl
     stored-kept_by null (true ∷ bits) (x ∷ xs) = λ i. each x i ∷ stored-kept_by null bits xs i
     stored-kept_by null (false ∷ bits) (x ∷ xs) = λ i. sym null i ∷ stored-kept_by null bits xs i
+    stored-kept_by _ bits xs = refl
 
     -- and without it, where h of a null is what is kept beneath one
     pub stored-kept : h Null ≡ g spare → (v : Option (List Bool)) (xs : List A) → map g (kept spare f v xs) ≡ map h (masked v (map s xs))

@@ -9,10 +9,9 @@ map-constant f c each [] = refl
 map-constant f c each (x ∷ xs) = λ i. each x i ∷ map-constant f c each xs i
 
 mask-constant : (f : Slot → Slot) (c : Slot) → ((x : Bool) → f (Boolean x) ≡ c) → f Null ≡ c → (bits xs : List Bool) → map f (mask bits (map Boolean xs)) ≡ replicate (length (mask bits (map Boolean xs))) c
-mask-constant f c each none [] xs = refl
-mask-constant f c each none (b ∷ bits) [] = refl
 mask-constant f c each none (true ∷ bits) (x ∷ xs) = λ i. each x i ∷ mask-constant f c each none bits xs i
 mask-constant f c each none (false ∷ bits) (x ∷ xs) = λ i. none i ∷ mask-constant f c each none bits xs i
+mask-constant f c each none bits xs = refl
 
 pub masked-constant : (f : Slot → Slot) (c : Slot) → ((x : Bool) → f (Boolean x) ≡ c) → f Null ≡ c → (v : Option (List Bool)) (xs : List Bool) → map f (masked v (map Boolean xs)) ≡ replicate (length (masked v (map Boolean xs))) c
 masked-constant f c each none None xs = map-constant f c each xs ∙ ap (λ n. replicate n c) (sym (length-map xs Boolean))
@@ -88,6 +87,5 @@ fits_known_side (Some bits) deciding n fits long = length-paired (λ x y. x || y
 
 -- two that fit as many rows
 pub one_length : (v w : Option (List Bool)) (n : ℕ) → FitsRows v n → FitsRows w n → AreOneLength v w
-one_length None w n fits other = tt
-one_length (Some vs) None n fits other = tt
 one_length (Some vs) (Some ws) n fits other = fits ∙ sym other
+one_length v w n fits other = tt

@@ -41,10 +41,9 @@ none_unset zero = refl
 none_unset (suc n) = ap (λ xs. false ∷ xs) (none_unset n)
 
 unset_both : (bits others : List Bool) → map not (both_bits bits others) ≡ either_bits (map not bits) (map not others)
-unset_both [] others = refl
-unset_both (b ∷ bits) [] = refl
 unset_both (true ∷ bits) (o ∷ others) = ap (λ xs. not o ∷ xs) (unset_both bits others)
 unset_both (false ∷ bits) (o ∷ others) = ap (λ xs. true ∷ xs) (unset_both bits others)
+unset_both bits others = refl
 
 -- the validity of two marks a row as null where one of them does
 pub unset_combined : (v w : Option (List Bool)) (n : ℕ) → FitsRows v n → FitsRows w n → unset_bits (combined v w) n ≡ either_bits (unset_bits v n) (unset_bits w n)

@@ -60,8 +60,6 @@ passed k (b ∷ rest) bs on =
 
 -- the first k characters take the bytes that spell them
 pub skipped_is : (k : ℕ) (cs : List ℕ) → skipped k (encode_utf8_all cs) ≡ length (encode_utf8_all (take k cs))
-skipped_is zero [] = refl
-skipped_is (suc k) [] = refl
 skipped_is zero (c ∷ cs) =
     let s = spelt c in
     ap (λ bs. skipped zero (bs ++ encode_utf8_all cs)) s.is ∙ ap (λ t. if t then 0 else suc (skipped zero (s.rest ++ encode_utf8_all cs))) s.begins_it
@@ -72,6 +70,7 @@ skipped_is (suc k) (c ∷ cs) =
     let rest = skipped_is k cs in
     let long = length-append (encode_utf8 c) (encode_utf8_all (take k cs)) in
     omega (arith, one, more, rest, long, ap length s.is)
+skipped_is k cs = refl
 
 -- how many begin is how many there are
 none_begin : (rest : List ℕ) → All (λ b. begins b ≡ false) rest → count_by begins rest ≡ 0
@@ -108,10 +107,9 @@ skipped_at (b ∷ bs) (suc p) within is =
 
 -- what the first k characters are, and the others
 split_at : (k : ℕ) (cs : List ℕ) → encode_utf8_all cs ≡ encode_utf8_all (take k cs) ++ encode_utf8_all (drop k cs)
-split_at zero cs = refl
-split_at (suc k) [] = refl
 split_at (suc k) (c ∷ cs) =
     ap (λ bs. encode_utf8 c ++ bs) (split_at k cs) ∙ sym (append_assoc (encode_utf8 c) (encode_utf8_all (take k cs)) (encode_utf8_all (drop k cs)))
+split_at k cs = refl
 
 pub first_are : (k : ℕ) (cs : List ℕ) → take (skipped k (encode_utf8_all cs)) (encode_utf8_all cs) ≡ encode_utf8_all (take k cs)
 first_are k cs =

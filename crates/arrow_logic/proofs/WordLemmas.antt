@@ -75,8 +75,6 @@ next_true : (s : Slot) (rows : List Slot) → All (λ s. s ≡ Boolean true) (s 
 next_true s rows all = λ k d within. all (suc k) d (omega (arith, within))
 
 all_of_mask : (bits xs : List Bool) → count_by is_null (mask bits (map Boolean xs)) ≡ 0 → count_by not xs ≡ 0 → All (λ s. s ≡ Boolean true) (mask bits (map Boolean xs))
-all_of_mask [] xs nulls unset = All-nil (λ s. s ≡ Boolean true)
-all_of_mask (b ∷ bits) [] nulls unset = All-nil (λ s. s ≡ Boolean true)
 all_of_mask (true ∷ bits) (true ∷ xs) nulls unset =
     let none : count_by is_null (mask bits (map Boolean xs)) ≡ 0 = omega (arith, nulls, sum_by-cons (λ s. cond (is_null s) 1 0) (Boolean true) (mask bits (map Boolean xs))) in
     let no_more : count_by not xs ≡ 0 = omega (arith, unset, sum_by-cons (λ b. cond (not b) 1 0) true xs) in
@@ -85,6 +83,7 @@ all_of_mask (true ∷ bits) (false ∷ xs) nulls unset =
     absurd (omega (arith, unset, sum_by-cons (λ b. cond (not b) 1 0) false xs))
 all_of_mask (false ∷ bits) (x ∷ xs) nulls unset =
     absurd (omega (arith, nulls, sum_by-cons (λ s. cond (is_null s) 1 0) Null (mask bits (map Boolean xs))))
+all_of_mask bits xs nulls unset = All-nil (λ s. s ≡ Boolean true)
 
 none_of_mask : (bits xs : List Bool) → length bits ≡ length xs → All (λ s. s ≡ Boolean true) (mask bits (map Boolean xs)) → (count_by is_null (mask bits (map Boolean xs)) ≡ 0) × (count_by not xs ≡ 0)
 none_of_mask [] [] fits all = (refl, refl)

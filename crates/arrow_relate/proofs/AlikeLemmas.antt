@@ -95,15 +95,12 @@ left_over x y o alike = ap (λ r. ordering_then r o) (nat_cmp_is x y Equal (same
 
 -- rows of m and n bytes compare by the first two bytes that differ
 pub by_byte : (d m n : ℕ) (xs ys : List ℕ) → d < m → d < n → d < length xs → d < length ys → HoldsNowhere (differ xs ys) 0 d → differ xs ys d ≡ true → nat_cmp (slice_index xs d) (slice_index ys d) ≡ byte_order (take m xs) (take n ys)
-by_byte d zero n xs ys l r p q alike hit = absurd (omega arith)
-by_byte d (suc m) zero xs ys l r p q alike hit = absurd (omega arith)
-by_byte d (suc m) (suc n) [] ys l r p q alike hit = absurd (omega arith)
-by_byte d (suc m) (suc n) (x ∷ xs) [] l r p q alike hit = absurd (omega arith)
 by_byte zero (suc m) (suc n) (x ∷ xs) (y ∷ ys) l r p q alike hit =
     decided x y (nat_cmp x y) (byte_order (take m xs) (take n ys)) (ranked x y (nat_cmp x y) refl) (other_byte x y hit)
 by_byte (suc d) (suc m) (suc n) (x ∷ xs) (y ∷ ys) l r p q alike hit =
     by_byte d m n xs ys (omega arith) (omega arith) (omega arith) (omega arith) (λ k from to. alike (suc k) (omega arith) (omega arith)) hit
     ∙ left_over x y (byte_order (take m xs) (take n ys)) (alike 0 (omega arith) (omega arith))
+by_byte d m n xs ys l r p q alike hit = absurd (omega arith)
 
 one_more : (m n : ℕ) (r : Ordering) → MatchOrdering r (m < n) (m ≡ n) (n < m) → MatchOrdering r (suc m < suc n) (suc m ≡ suc n) (suc n < suc m)
 one_more m n Less below = let below : m < n = below in omega (arith, below)
@@ -113,15 +110,13 @@ one_more m n Greater above = let above : n < m = above in omega (arith, above)
 -- and by their lengths where none do
 pub by_lengths : (m n : ℕ) (xs ys : List ℕ) → m ≤ length xs → n ≤ length ys → HoldsNowhere (differ xs ys) 0 (min m n) → nat_cmp m n ≡ byte_order (take m xs) (take n ys)
 by_lengths zero zero xs ys p q alike = refl
-by_lengths zero (suc n) xs [] p q alike = absurd (omega arith)
 by_lengths zero (suc n) xs (y ∷ ys) p q alike = sym (nat_cmp_is 0 (suc n) Less (omega arith))
-by_lengths (suc m) n [] ys p q alike = absurd (omega arith)
 by_lengths (suc m) zero (x ∷ xs) ys p q alike = sym (nat_cmp_is (suc m) 0 Greater (omega arith))
-by_lengths (suc m) (suc n) (x ∷ xs) [] p q alike = absurd (omega arith)
 by_lengths (suc m) (suc n) (x ∷ xs) (y ∷ ys) p q alike =
     sym (nat_cmp_is (suc m) (suc n) (nat_cmp m n) (one_more m n (nat_cmp m n) (ranked m n (nat_cmp m n) refl)))
     ∙ by_lengths m n xs ys (omega arith) (omega arith) (λ k from to. alike (suc k) (omega arith) (omega arith))
     ∙ left_over x y (byte_order (take m xs) (take n ys)) (alike 0 (omega arith) (omega arith))
+by_lengths m n xs ys p q alike = absurd (omega arith)
 
 -- ---- whether such rows are equal
 

@@ -1,5 +1,5 @@
 -- What each pair of members of two lists gives, one pair at a time.
-use Rattle.std.proofs.Common.{◌≡◌, ◌∙◌, ℕ, zero, suc, get_or, ◌<◌, Bool, true, false, Some, List, [], ◌∷◌, if◌then◌else◌, length, map, replicate, arith, ap, sym, refl}
+use Rattle.std.proofs.Common.{◌≡◌, ◌∙◌, ℕ, suc, get_or, ◌<◌, Bool, true, false, Some, List, [], ◌∷◌, if◌then◌else◌, length, map, replicate, arith, ap, sym, refl}
 use Rattle.std.specs.Prelude.{Result, IfOk, slice_get}
 use Rattle.std.specs.Bool.{beq}
 use Rattle.std.specs.Cmp.{booleans_Decides}
@@ -70,12 +70,10 @@ rows_of_bits by unset set low high (false ∷ xs) = (λ i. low i ∷ rows_of_bit
 
 -- bits that stay as they are, and bits that are all alike
 pub kept_bits : (unset set : Bool) → beq unset set ≡ false → set ≡ true → (xs : List Bool) → xs ≡ map (λ bit. if bit then set else unset) xs
-kept_bits true true differ is xs = cc
-kept_bits true false differ is xs = cc
 kept_bits false true differ is [] = refl
 kept_bits false true differ is (true ∷ xs) = ap (λ rest. true ∷ rest) (kept_bits false true differ is xs)
 kept_bits false true differ is (false ∷ xs) = ap (λ rest. false ∷ rest) (kept_bits false true differ is xs)
-kept_bits false false differ is xs = cc
+kept_bits unset set differ is xs = cc
 
 pub equal_bits : (unset set : Bool) → beq unset set ≡ true → (xs : List Bool) → replicate (length xs) set ≡ map (λ bit. if bit then set else unset) xs
 equal_bits unset set same xs =

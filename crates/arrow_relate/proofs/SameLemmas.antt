@@ -80,10 +80,8 @@ neq_turned = turned neq eq (elim [ Less ↦ refl | Equal ↦ refl | Greater ↦ 
 
 -- what is turned to a truth value is the other one
 turned_back : (x : Slot) (b : Bool) → negated x ≡ Boolean b → x ≡ Boolean (not b)
-turned_back (Boolean true) true is = cc
 turned_back (Boolean true) false is = refl
 turned_back (Boolean false) true is = refl
-turned_back (Boolean false) false is = cc
 turned_back x b is = cc
 
 finished_turned : (b p q : Bool) → finished_neq (Boolean b) p q ≡ negated (finished_eq (Boolean (not b)) p q)

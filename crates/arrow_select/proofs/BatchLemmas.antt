@@ -1,5 +1,5 @@
 -- What the kernels that select rows make of batches of rows that are joined.
-use Rattle.arrow_select.proofs.Common.{arith, ◌≡◌, ◌∙◌, ℕ, zero, suc, ◌+◌, ◌-◌, ◌<◌, ◌≤◌, ℤ, pos, negsuc, List, [], ◌∷◌, ◌++◌, drop, length, map, replicate, take, refl, ap, sym, append_assoc, slice_get, unwrap_or, drop-append-le, length-append, length-map, map-append, take-append-drop, map-map, ArrowType, chosen, gather, gathered, joined, mask_of, select, selects, shifted, Slot, null_slot, chosen-append, gather-append, select-append, AreAlikeLong, IsKey, AreIndicesByBatch, chosen_by_batch, kept_by_batch, moved_by_batch, moved_index, shifted_by_edge, taken_by_batch, AreIndices, each_index, map-agree}
+use Rattle.arrow_select.proofs.Common.{arith, ◌≡◌, ◌∙◌, ℕ, zero, suc, ◌+◌, ◌-◌, ◌<◌, ◌≤◌, ℤ, pos, negsuc, List, [], ◌∷◌, ◌++◌, drop, length, map, replicate, take, refl, ap, sym, append_assoc, slice_get, unwrap_or, drop-append-le, length-append, length-map, map-append, take-append-drop, map-map, ArrowType, chosen, gather, gathered, joined, mask_of, select, selects, shifted, Slot, null_slot, chosen-append, gather-append, select-append, AreAlikeLong, IsKey, AreIndicesByBatch, chosen_by_batch, kept_by_batch, moved_by_batch, moved_index, shifted_by_edge, taken_by_batch, AreIndices, each_key, map-agree}
 use Rattle.std.specs.Prelude.{unsigned_abs}
 
 -- filter: each batch by its predicate
@@ -48,7 +48,7 @@ get_behind (x ∷ xs) ys n =
 
 part_row : (before xs after : List Slot) (t : ArrowType) (i : Slot) → IsKey (length xs) i → gathered (before ++ (xs ++ after)) t (moved_index (length before) i) ≡ gathered xs t i
 part_row before xs after t =
-    each_index (length xs) (λ i. gathered (before ++ (xs ++ after)) t (moved_index (length before) i) ≡ gathered xs t i) refl (λ n within. ap (λ o. unwrap_or o (null_slot t)) (get_behind before (xs ++ after) n ∙ get_before xs after n within))
+    each_key (length xs) (λ i. gathered (before ++ (xs ++ after)) t (moved_index (length before) i) ≡ gathered xs t i) refl (λ n within. ap (λ o. unwrap_or o (null_slot t)) (get_behind before (xs ++ after) n ∙ get_before xs after n within))
 
 gather_part : (before xs after is : List Slot) (t : ArrowType) → AreIndices (length xs) is → gather (before ++ (xs ++ after)) (map (moved_index (length before)) is) t ≡ gather xs is t
 gather_part before xs after is t inside =

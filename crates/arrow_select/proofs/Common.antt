@@ -25,6 +25,7 @@ pub use Rattle.std.specs.Prelude.{Contains, IfSome, OnOk, count_by, count_ones, 
 pub use Rattle.std.specs.Vec.{vec_capacity, vec_len}
 pub use Rattle.arrow_arrays.proofs.ColumnLemmas.{only_memory}
 pub use Rattle.arrow_arrays.proofs.FaultLemmas.{failed}
+pub use Rattle.arrow_arrays.proofs.KeyLemmas.{each_key}
 pub use Rattle.arrow_arrays.proofs.ShapeLemmas.{shape_of}
 pub use Rattle.arrow_arrays.proofs.StructLemmas.{length-struct_rows}
 pub use Rattle.arrow_arrays.specs.Any.{Kind, any_array_meaning, any_array_rows, any_array_type, kind_in, layout_of, union_kind}
@@ -97,7 +98,7 @@ pub use Rattle.arrow_select.specs.Ranges.{IsPlan, IsRangesOf, ended, mask_at}
 pub use Rattle.arrow_select.specs.Selected.{FirstDoesNotFit, IsLowestRun, IsRunOf, KeptColumns, KeptUnder, at_set, item_bits, item_mask, kept_rows_under, selected_rows, set_in_word}
 unfoldable pub use Rattle.arrow_select.specs.Selected.{word_bits}
 pub use Rattle.arrow_select.specs.Selection.{mask_in}
-pub use Rattle.arrow_take.proofs.IndexLemmas.{Stores, each_index, length-gather, map-agree, nil_of, row_taken}
+pub use Rattle.arrow_take.proofs.IndexLemmas.{Stores, length-gather, map-agree, nil_of, row_taken}
 pub use Rattle.arrow_take.proofs.SpanLemmas.{spanned_more, spans_fit}
 pub use Rattle.arrow_take.proofs.SparseRows.{arrays_fit, arrays_known, arrays_long, arrays_rows, arrays_typed, parts_next}
 pub use Rattle.arrow_take.proofs.TakenBytes.{rows_fit}

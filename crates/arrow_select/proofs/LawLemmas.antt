@@ -1,5 +1,5 @@
 -- The laws of rows that are selected, taken and joined.
-use Rattle.arrow_select.proofs.Common.{arith, ◌≡◌, ◌+◌, ◌-◌, ℕ, ◌≤◌, pos, Bool, true, false, Some, List, [], ◌∷◌, ◌++◌, length, map, take, drop, refl, ap, sym, subst, ◌∙◌, append_assoc, option_map, slice_get, unwrap_or, append-nil, length-append, length-drop, take-append-drop, take_all, slice_get-get_or, slice_get-map, map-map, ArrowType, gather, gathered, joined, mask_of, select, Slot, Null, Number, null_slot, sliced, AreKeys, IsKey, Layout, rows, RowsFit, kept_columns, places_from, true_places, each_index, map-agree}
+use Rattle.arrow_select.proofs.Common.{arith, ◌≡◌, ◌+◌, ◌-◌, ℕ, ◌≤◌, pos, Bool, true, false, Some, List, [], ◌∷◌, ◌++◌, length, map, take, drop, refl, ap, sym, subst, ◌∙◌, append_assoc, option_map, slice_get, unwrap_or, append-nil, length-append, length-drop, take-append-drop, take_all, slice_get-get_or, slice_get-map, map-map, ArrowType, gather, gathered, joined, mask_of, select, Slot, Null, Number, null_slot, sliced, AreKeys, IsKey, Layout, rows, RowsFit, kept_columns, places_from, true_places, each_key, map-agree}
 
 -- the row behind others
 row_behind : (before xs : List Slot) (x : Slot) → slice_get (before ++ x ∷ xs) (length before) ≡ Some x
@@ -24,7 +24,7 @@ selected_is_gathered xs mask t same = gather_behind [] xs mask t same
 -- rows by index of rows by index
 pub gather-gather : (xs is js : List Slot) (t u : ArrowType) → null_slot u ≡ Null → AreKeys (length is) js → gather (gather xs is t) js t ≡ gather xs (gather is js u) t
 gather-gather xs is js t u none keys =
-    map-agree (IsKey (length is)) (gathered (gather xs is t) t) (λ s. gathered xs t (gathered is u s)) (each_index (length is) (λ s. gathered (gather xs is t) t s ≡ gathered xs t (gathered is u s)) (sym (ap (gathered xs t) none)) (λ n within. ap (λ o. unwrap_or o (null_slot t)) (slice_get-map (gathered xs t) is n ∙ ap (option_map (gathered xs t)) (slice_get-get_or is n Null within)) ∙ sym (ap (λ o. gathered xs t (unwrap_or o (null_slot u))) (slice_get-get_or is n Null within)))) js keys ∙ sym (map-map (gathered xs t) (gathered is u) js)
+    map-agree (IsKey (length is)) (gathered (gather xs is t) t) (λ s. gathered xs t (gathered is u s)) (each_key (length is) (λ s. gathered (gather xs is t) t s ≡ gathered xs t (gathered is u s)) (sym (ap (gathered xs t) none)) (λ n within. ap (λ o. unwrap_or o (null_slot t)) (slice_get-map (gathered xs t) is n ∙ ap (option_map (gathered xs t)) (slice_get-get_or is n Null within)) ∙ sym (ap (λ o. gathered xs t (unwrap_or o (null_slot u))) (slice_get-get_or is n Null within)))) js keys ∙ sym (map-map (gathered xs t) (gathered is u) js)
 
 pub joined-associative : (l m r : List Slot) → joined (joined (l ∷ m ∷ []) ∷ r ∷ []) ≡ joined (l ∷ joined (m ∷ r ∷ []) ∷ [])
 joined-associative l m r =

@@ -22,7 +22,7 @@ pub use Rattle.std.specs.Vec.{vec_capacity, vec_len}
 pub use Rattle.arrow_arrays.proofs.DepthLemmas.{depth_at}
 pub use Rattle.arrow_arrays.proofs.EqualLemmas.{one_row}
 pub use Rattle.arrow_arrays.proofs.FitNullLemmas.{bytes_fit, whole_product}
-pub use Rattle.arrow_arrays.proofs.KeyLemmas.{not_negative, null_row, number_row}
+pub use Rattle.arrow_arrays.proofs.KeyLemmas.{not_negative, null_row, number_row, each_key}
 pub use Rattle.arrow_arrays.proofs.NullLemmas.{grown_copies}
 pub use Rattle.arrow_arrays.proofs.PartLemmas.{type_of_part}
 pub use Rattle.arrow_arrays.proofs.ShapeLemmas.{dictionary_shape, list_shaped, null_slot-shape, plain_shape}

@@ -1,5 +1,5 @@
 -- Rows by index: what is stored by index, under the validity by index.
-use Rattle.arrow_take.proofs.Common.{arith, ◌≡◌, ◌/◌, ◌^◌, ◌==◌, ℕ, suc, ◌<◌, ℤ, pos, negsuc, Bool, true, false, not, Option, Some, None, List, [], ◌∷◌, ◌++◌, ◌+◌, ◌≤◌, length, map, take, take-add, get_or, nat_eq, bit_and, replicate, if◌then◌else◌, refl, ap, sym, subst, ◌∙◌, append_assoc, IfSome, slice_get, slice_index_or, option_map, unwrap_or, bit_at, All, get_or-replicate, get_or_default, length-map, length-replicate, map-append, take_all, map-map, shr_and_one, get_or_from_slice_get, slice_get-get_or, slice_get-map, slice_get_read, slice_get_within, ArrowType, gather, gathered, mask, masked, valid_at, Slot, Null, Boolean, Number, DayTime, MonthDayNano, Bytes, Text, Items, Dict, Variant, null_slot, slice_get-mask, take_at_read, sliced, FitsRows, IsValue, bit_within, length-masked, row_at, slot_of_row, AreKeys, IsKey, key_in, null_row, number_row, MarksTaken, is_taken_valid, named_bit, picked, valid_index}
+use Rattle.arrow_take.proofs.Common.{arith, ◌≡◌, ◌/◌, ◌^◌, ◌==◌, ℕ, suc, ◌<◌, ℤ, pos, negsuc, Bool, true, false, not, Option, Some, None, List, [], ◌∷◌, ◌++◌, ◌+◌, ◌≤◌, length, map, take, take-add, get_or, nat_eq, bit_and, replicate, if◌then◌else◌, refl, ap, sym, subst, ◌∙◌, append_assoc, IfSome, slice_get, slice_index_or, option_map, unwrap_or, bit_at, All, get_or-replicate, get_or_default, length-map, length-replicate, map-append, take_all, map-map, shr_and_one, get_or_from_slice_get, slice_get-get_or, slice_get-map, slice_get_read, slice_get_within, ArrowType, gather, gathered, mask, masked, valid_at, Slot, Null, Boolean, Number, DayTime, MonthDayNano, Bytes, Text, Items, Dict, Variant, null_slot, slice_get-mask, take_at_read, sliced, FitsRows, IsValue, bit_within, length-masked, row_at, slot_of_row, AreKeys, IsKey, key_in, null_row, number_row, MarksTaken, is_taken_valid, named_bit, picked, valid_index, each_key}
 use Rattle.arrow_types.specs.Slot.{Parts as fields}
 
 -- functions that agree on each member
@@ -9,21 +9,6 @@ map-agree P f g same (x ∷ xs) all =
     let first = same x (all 0 x (omega arith)) in
     let rest = map-agree P f g same xs (λ k d within. all (suc k) d (omega (arith, within))) in
     λ i. first i ∷ rest i
-
--- an index is null or names one of so many rows
-pub each_index : (count : ℕ) (P : Slot → Type 0) → P Null → ((n : ℕ) → n < count → P (Number (pos n))) → (s : Slot) → IsKey count s → P s
-each_index count P none one Null key = none
-each_index count P none one (Number (pos n)) key = one n key
-each_index count P none one (Number (negsuc n)) key = absurd key
-each_index count P none one (Boolean b) key = absurd key
-each_index count P none one (DayTime days ms) key = absurd key
-each_index count P none one (MonthDayNano months days ns) key = absurd key
-each_index count P none one (Bytes bytes) key = absurd key
-each_index count P none one (Text bytes) key = absurd key
-each_index count P none one (Items slots) key = absurd key
-each_index count P none one (fields slots) key = absurd key
-each_index count P none one (Dict slot) key = absurd key
-each_index count P none one (Variant id slot) key = absurd key
 
 -- the row of a key, and of none the null slot
 abbrev pub row_by : List Slot → ArrowType → Option ℕ → Slot
@@ -80,13 +65,13 @@ module _ (xs : List Slot) (t : ArrowType) (f : Slot → Slot) (none : null_slot 
 
   pub row_taken : (v : Option (List Bool)) → FitsRows v (length xs) → Stores v xs f → (s : Slot) → IsKey (length xs) s → (if is_taken_valid v s then f s else Null) ≡ gathered (masked v xs) t s
   row_taken None fits stores =
-      each_index (length xs) _ (sym none) (λ n within. sym (ap (λ o. unwrap_or o (null_slot t)) (stores n within refl)))
+      each_key (length xs) _ (sym none) (λ n within. sym (ap (λ o. unwrap_or o (null_slot t)) (stores n within refl)))
   row_taken (Some bits) fits stores =
-      each_index (length xs) _ (sym none) (λ n within. row_under bits fits stores n within (slice_index_or bits n false) refl)
+      each_key (length xs) _ (sym none) (λ n within. row_under bits fits stores n within (slice_index_or bits n false) refl)
 
   row_valid : Stores None xs f → (s : Slot) → IsKey (length xs) s → IsValue s → f s ≡ gathered xs t s
   row_valid stores =
-      each_index (length xs) (λ s. IsValue s → f s ≡ gathered xs t s) (λ value. absurd (cc)) (λ n within value. sym (ap (λ o. unwrap_or o (null_slot t)) (stores n within refl)))
+      each_key (length xs) (λ s. IsValue s → f s ≡ gathered xs t s) (λ value. absurd (cc)) (λ n within value. sym (ap (λ o. unwrap_or o (null_slot t)) (stores n within refl)))
 
   -- under the validity by index these are the rows by index
   pub rows_taken : (v taken : Option (List Bool)) (indices : List Slot) → FitsRows v (length xs) → Stores v xs f → AreKeys (length xs) indices → MarksTaken v indices taken → masked taken (map f indices) ≡ gather (masked v xs) indices t
@@ -208,7 +193,7 @@ picked_none spare (s ∷ indices) = ap (λ xs. spare ∷ xs) (picked_none spare 
 pub no_bits : (indices : List Slot) → AreKeys 0 indices → replicate (length indices) false ≡ map (named_bit []) indices
 no_bits [] keys = refl
 no_bits (s ∷ indices) keys =
-    let first = each_index 0 (λ s. false ≡ named_bit [] s) refl (λ n none. absurd (omega (arith, none))) s (keys 0 s (omega arith)) in
+    let first = each_key 0 (λ s. false ≡ named_bit [] s) refl (λ n none. absurd (omega (arith, none))) s (keys 0 s (omega arith)) in
     let rest = no_bits indices (λ k d within. keys (suc k) d (omega (arith, within))) in
     λ i. first i ∷ rest i
 

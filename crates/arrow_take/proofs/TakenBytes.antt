@@ -1,6 +1,6 @@
 -- Texts and bytes by index: where the rows end, their bytes, and when there are too many.
-use Rattle.arrow_take.proofs.Common.{arith, ◌≡◌, ◌+◌, ◌-◌, ℕ, zero, suc, ◌<◌, ◌≤◌, ◌^◌, Bool, true, false, not, Option, Some, None, List, [], ◌∷◌, length, map, take, get_or, slice_index, if◌then◌else◌, refl, ap, sym, subst, ◌∙◌, option_map, slice_get, sum, sum_by, All, concat, length-map, All-map, map-map, sum-map, sum_by-cons, slice_get-map, PhysicalType, ArrowType, Fits, byte_count, greatest_offset, physical_type_of, gather, mask, masked, valid_at, Slot, Null, IsOffsets, last_of, with_row, sliced, at_most_last, offsets_rise, length-sliced, FitsRows, pieces, holds_at, length-pieces, piece_at, AreKeys, IsKey, fits_rows, fits_stored, null_of, slots_fit, slots_pass, IsBytesType, SparesBytes, total, IsSpanWithin, span_bytes, spanned, MarksTaken, is_taken_valid, span_length, taken_bytes, taken_span, ends_from, as_concatenated, concatenated_length, ends_last, ends_next, length-ends, rows_between}
-use Rattle.arrow_take.proofs.IndexLemmas.{Stores, each_index, fits_taken, gives_next, map-agree, mask-map, named_valid, rows_taken}
+use Rattle.arrow_take.proofs.Common.{arith, ◌≡◌, ◌+◌, ◌-◌, ℕ, zero, suc, ◌<◌, ◌≤◌, ◌^◌, Bool, true, false, not, Option, Some, None, List, [], ◌∷◌, length, map, take, get_or, slice_index, if◌then◌else◌, refl, ap, sym, subst, ◌∙◌, option_map, slice_get, sum, sum_by, All, concat, length-map, All-map, map-map, sum-map, sum_by-cons, slice_get-map, PhysicalType, ArrowType, Fits, byte_count, greatest_offset, physical_type_of, gather, mask, masked, valid_at, Slot, Null, IsOffsets, last_of, with_row, sliced, at_most_last, offsets_rise, length-sliced, FitsRows, pieces, holds_at, length-pieces, piece_at, AreKeys, IsKey, fits_rows, fits_stored, null_of, slots_fit, slots_pass, IsBytesType, SparesBytes, total, IsSpanWithin, span_bytes, spanned, MarksTaken, is_taken_valid, span_length, taken_bytes, taken_span, ends_from, as_concatenated, concatenated_length, ends_last, ends_next, length-ends, rows_between, each_key}
+use Rattle.arrow_take.proofs.IndexLemmas.{Stores, fits_taken, gives_next, map-agree, mask-map, named_valid, rows_taken}
 
 -- where the rows so far end, and one more
 pub offsets_next : (f : Slot → ℕ) (rows : List Slot) (i n : ℕ) (old new : List ℕ) → i < length rows → n ≡ f (get_or rows i Null) → old ≡ 0 ∷ ends_from 0 (map f (take i rows)) → new ≡ with_row old n → new ≡ 0 ∷ ends_from 0 (map f (take (i + 1) rows))
@@ -49,7 +49,7 @@ bytes_where false os bytes n sound within has = refl
 module _ (v : Option (List Bool)) (os bytes : List ℕ) (sound : IsOffsets os) (within : last_of os ≤ length bytes) where
   bytes_counted : (s : Slot) → IsKey (length os - 1) s → length (taken_bytes v os bytes s) ≡ span_length v os s
   bytes_counted =
-      each_index (length os - 1) _ refl (λ n has. bytes_where (valid_at v n) os bytes n sound within has)
+      each_key (length os - 1) _ refl (λ n has. bytes_where (valid_at v n) os bytes n sound within has)
 
   -- and lies within the bytes
   within_where : (valid : Bool) (n : ℕ) → n < length os - 1 → IsSpanWithin (length bytes) (span_where valid os n)
@@ -59,7 +59,7 @@ module _ (v : Option (List Bool)) (os bytes : List ℕ) (sound : IsOffsets os) (
 
   pub spans_within : (indices : List Slot) → AreKeys (length os - 1) indices → All (IsSpanWithin (length bytes)) (map (taken_span v os) indices)
   spans_within indices keys =
-      All-map (IsSpanWithin (length bytes)) (taken_span v os) indices (λ k d among. each_index (length os - 1) (λ s. IsSpanWithin (length bytes) (taken_span v os s)) (omega arith, omega arith) (λ n has. within_where (valid_at v n) n has) (get_or indices k d) (keys k d among))
+      All-map (IsSpanWithin (length bytes)) (taken_span v os) indices (λ k d among. each_key (length os - 1) (λ s. IsSpanWithin (length bytes) (taken_span v os s)) (omega arith, omega arith) (λ n has. within_where (valid_at v n) n has) (get_or indices k d) (keys k d among))
 
   -- as many bytes as the offsets say
   pub bytes_by_index : (indices : List Slot) → AreKeys (length os - 1) indices → map length (map (taken_bytes v os bytes) indices) ≡ map (span_length v os) indices
@@ -74,7 +74,7 @@ module _ (v : Option (List Bool)) (os bytes : List ℕ) (sound : IsOffsets os) (
 
   pub allowed_by_index : (Allows : List ℕ → Type 0) → Allows [] → All Allows (pieces os bytes) → (indices : List Slot) → AreKeys (length os - 1) indices → All Allows (map (taken_bytes v os bytes) indices)
   allowed_by_index Allows none all indices keys =
-      All-map Allows (taken_bytes v os bytes) indices (λ k d among. each_index (length os - 1) (λ s. Allows (taken_bytes v os bytes s)) none (λ n has. allowed_where Allows none all (valid_at v n) n has) (get_or indices k d) (keys k d among))
+      All-map Allows (taken_bytes v os bytes) indices (λ k d among. each_key (length os - 1) (λ s. Allows (taken_bytes v os bytes s)) none (λ n has. allowed_where Allows none all (valid_at v n) n has) (get_or indices k d) (keys k d among))
 
   -- what is stored of a row that is valid
   stored_where : (slot : List ℕ → Slot) (valid : Bool) (n : ℕ) → n < length os - 1 → valid ≡ true → slice_get (map slot (pieces os bytes)) n ≡ Some (slot (sliced bytes (span_where valid os n).0 ((span_where valid os n).1 - (span_where valid os n).0)))
@@ -93,7 +93,7 @@ module _ (v : Option (List Bool)) (os bytes : List ℕ) (sound : IsOffsets os) (
 
   none_by_index : FitsRows v (length os - 1) → (s : Slot) → IsKey (length os - 1) s → is_taken_valid v s ≡ false → taken_bytes v os bytes s ≡ []
   none_by_index fits =
-      each_index (length os - 1) (λ s. is_taken_valid v s ≡ false → taken_bytes v os bytes s ≡ []) (λ null. refl) (λ n has null. spared_where (valid_at v n) n (named_valid v n (length os - 1) fits has ∙ null))
+      each_key (length os - 1) (λ s. is_taken_valid v s ≡ false → taken_bytes v os bytes s ≡ []) (λ null. refl) (λ n has null. spared_where (valid_at v n) n (named_valid v n (length os - 1) fits has ∙ null))
 
 -- the bytes of slots, of which some become null that have none
 same_bytes : (g : Slot → Bool) (f : Slot → Slot) (P : Slot → Type 0) → ((s : Slot) → P s → g s ≡ false → byte_count (f s) ≡ 0) → (indices : List Slot) → All P indices → sum_by byte_count (map (λ s. if g s then f s else Null) indices) ≡ sum_by byte_count (map f indices)

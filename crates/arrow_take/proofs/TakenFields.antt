@@ -1,7 +1,7 @@
 -- Structs by index: each column by index, under the validity by index.
-use Rattle.arrow_take.proofs.Common.{arith, ◌≡◌, ℕ, ◌<◌, ◌^◌, pos, Bool, true, false, Option, Some, None, List, [], ◌∷◌, length, map, get_or, replicate, if◌then◌else◌, refl, ap, sym, subst, ◌∙◌, slice_index_or, unwrap_or, All, get_or-map, length-map, All-map, get_or_from_slice_get, slice_get-get_or, slice_get_within, map-map, ArrowType, Fits, part_in, gather, gathered, masked, valid_at, Slot, Slots, Null, Number, more_slots, no_slots, null_slot, to_slots, FitsRows, any_array_rows, any_array_type, layout_of, AreKeys, IsKey, across, columns_of, rows, stacked, struct_items, to_layouts, FitsColumns, HaveRows, IsStruct, StructParts, row_count, row_of, struct_rows, AnyArray, columns_of-to_layouts, length-struct_rows, struct_row_null, struct_row_valid, MarksTaken, SomeDoNotFit, is_taken_valid, taken_rows, valid_index, column_long, column_of_fits, columns_fit, first_long, part_at, some_column}
+use Rattle.arrow_take.proofs.Common.{arith, ◌≡◌, ℕ, ◌<◌, ◌^◌, pos, Bool, true, false, Option, Some, None, List, [], ◌∷◌, length, map, get_or, replicate, if◌then◌else◌, refl, ap, sym, subst, ◌∙◌, slice_index_or, unwrap_or, All, get_or-map, length-map, All-map, get_or_from_slice_get, slice_get-get_or, slice_get_within, map-map, ArrowType, Fits, part_in, gather, gathered, masked, valid_at, Slot, Slots, Null, Number, more_slots, no_slots, null_slot, to_slots, FitsRows, any_array_rows, any_array_type, layout_of, AreKeys, IsKey, across, columns_of, rows, stacked, struct_items, to_layouts, FitsColumns, HaveRows, IsStruct, StructParts, row_count, row_of, struct_rows, AnyArray, columns_of-to_layouts, length-struct_rows, struct_row_null, struct_row_valid, MarksTaken, SomeDoNotFit, is_taken_valid, taken_rows, valid_index, column_long, column_of_fits, columns_fit, first_long, part_at, some_column, each_key}
 use Rattle.arrow_types.specs.Slot.{Parts as fields}
-use Rattle.arrow_take.proofs.IndexLemmas.{Stores, each_index, fits_taken, length-gather, map-agree, named_valid, null_is_none, rows_taken}
+use Rattle.arrow_take.proofs.IndexLemmas.{Stores, fits_taken, length-gather, map-agree, named_valid, null_is_none, rows_taken}
 
 -- columns of so many rows, read across
 stacked-map : (a : Slot → Slot) (b : Slot → Slots) (indices : List Slot) → stacked (map a indices) (map b indices) ≡ map (λ s. more_slots (a s) (b s)) indices
@@ -112,7 +112,7 @@ module _ (p : StructParts) (columns : List AnyArray) (held : IsStruct p) (childr
 
   part_taken : (u : ArrowType) (f : ℕ) (d : AnyArray) → f < length columns → any_array_type (get_or columns f d) ≡ u → (s : Slot) → IsKey (length (struct_rows p)) s → part_in f u (gathered (struct_rows p) p.arrow_type s) ≡ by_index (get_or columns f d) s
   part_taken u f d has is =
-      each_index (length (struct_rows p)) (λ s. part_in f u (gathered (struct_rows p) p.arrow_type s) ≡ by_index (get_or columns f d) s) (ap (part_in f u) none ∙ (ap null_slot (sym is) ∙ sym (ap (gathered (any_array_rows (get_or columns f d)) (any_array_type (get_or columns f d))) (ap (λ b. if b then Null else Null) (null_is_none v))))) (λ n within. ap (λ o. part_in f u (unwrap_or o (null_slot p.arrow_type))) (slice_get-get_or (struct_rows p) n Null within) ∙ part_stored u f d has is n (omega (arith, within, long)) (valid_at v n) refl)
+      each_key (length (struct_rows p)) (λ s. part_in f u (gathered (struct_rows p) p.arrow_type s) ≡ by_index (get_or columns f d) s) (ap (part_in f u) none ∙ (ap null_slot (sym is) ∙ sym (ap (gathered (any_array_rows (get_or columns f d)) (any_array_type (get_or columns f d))) (ap (λ b. if b then Null else Null) (null_is_none v))))) (λ n within. ap (λ o. part_in f u (unwrap_or o (null_slot p.arrow_type))) (slice_get-get_or (struct_rows p) n Null within) ∙ part_stored u f d has is n (omega (arith, within, long)) (valid_at v n) refl)
 
   pub column_taken : (u : ArrowType) (f : ℕ) (d : AnyArray) → f < length columns → any_array_type (get_or columns f d) ≡ u → map (part_in f u) (gather (struct_rows p) indices p.arrow_type) ≡ taken_rows (map (valid_index v) indices) (get_or columns f d)
   column_taken u f d has is =

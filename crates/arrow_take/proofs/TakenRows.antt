@@ -1,7 +1,7 @@
 -- Bytes of a fixed size by index: the rows, one behind the other, and that they fit where their bytes can be counted.
-use Rattle.arrow_take.proofs.Common.{arith, ◌≡◌, ◌+◌, ◌-◌, ◌*◌, ◌/◌, ◌%◌, ℕ, suc, ◌<◌, ◌≤◌, ◌^◌, Bool, Option, List, [], ◌∷◌, ◌++◌, length, map, take, drop, get_or, replicate, refl, ap, sym, subst, ◌∙◌, append_assoc, IfSome, option_map, All, concat, append-nil, drop-replicate, length-append, length-map, length-replicate, length-take-le, map-append, take-replicate, take_all, All-map, All-take, concat-append, slice_get-get_or, slice_get-map, map-map, mul-le-mul_right, drop-append-add, drop-append_seam, take-append_seam, ArrowType, Fits, physical_type_of, gather, masked, Slot, Null, Bytes, take_at_read, sliced, length-sliced, FitsBytes, FixedParts, fixed_row_bytes, fixed_size_in, fixed_slots, FitsRows, Parts, rows_by, chunks, chunk_at, length-fixed_slots, length-masked, AreKeys, IsKey, key_in, bytes_fit, whole_product, fits_counted, is_counted, null_of_counted, MarksTaken, taken_row}
+use Rattle.arrow_take.proofs.Common.{arith, ◌≡◌, ◌+◌, ◌-◌, ◌*◌, ◌/◌, ◌%◌, ℕ, suc, ◌<◌, ◌≤◌, ◌^◌, Bool, Option, List, [], ◌∷◌, ◌++◌, length, map, take, drop, get_or, replicate, refl, ap, sym, subst, ◌∙◌, append_assoc, IfSome, option_map, All, concat, append-nil, drop-replicate, length-append, length-map, length-replicate, length-take-le, map-append, take-replicate, take_all, All-map, All-take, concat-append, slice_get-get_or, slice_get-map, map-map, mul-le-mul_right, drop-append-add, drop-append_seam, take-append_seam, ArrowType, Fits, physical_type_of, gather, masked, Slot, Null, Bytes, take_at_read, sliced, length-sliced, FitsBytes, FixedParts, fixed_row_bytes, fixed_size_in, fixed_slots, FitsRows, Parts, rows_by, chunks, chunk_at, length-fixed_slots, length-masked, AreKeys, IsKey, key_in, bytes_fit, whole_product, fits_counted, is_counted, null_of_counted, MarksTaken, taken_row, each_key}
 use Rattle.arrow_types.specs.declared.datatypes.physical_type.PhysicalType.TheVariants as physical
-use Rattle.arrow_take.proofs.IndexLemmas.{Stores, each_index, fits_taken, length-gather, rows_taken}
+use Rattle.arrow_take.proofs.IndexLemmas.{Stores, fits_taken, length-gather, rows_taken}
 
 -- rows of so many bytes, one behind the other
 chunks_of_rows : (size : ℕ) (rows : List (List ℕ)) → All (λ row. length row ≡ size) rows → chunks (length rows) size (concat rows) ≡ rows
@@ -53,11 +53,11 @@ module _ (p : FixedParts) (some : 0 < p.size) (whole : p.count * p.size ≡ leng
 
   -- an index names a row that lies in the bytes
   pub place_inside : (s : Slot) → IsKey p.count s → IfSome (key_in s) (λ n. n * p.size + p.size ≤ length p.bytes)
-  place_inside = each_index p.count _ tt row_inside
+  place_inside = each_key p.count _ tt row_inside
 
   row_long : (s : Slot) → IsKey p.count s → length (taken_row p.size p.bytes s) ≡ p.size
   row_long =
-      each_index p.count _ (length-replicate p.size 0) (λ n within. length-sliced p.bytes (n * p.size) p.size (row_inside n within))
+      each_key p.count _ (length-replicate p.size 0) (λ n within. length-sliced p.bytes (n * p.size) p.size (row_inside n within))
 
   rows_long : (indices : List Slot) → AreKeys p.count indices → All (λ row. length row ≡ p.size) (map (taken_row p.size p.bytes) indices)
   rows_long indices keys =

@@ -1,6 +1,5 @@
 -- Runs of indices, and the rows that they name.
-use Rattle.arrow_take.proofs.Common.{arith, ◌≡◌, ◌+◌, ℕ, zero, suc, ◌<◌, ◌≤◌, pos, Some, None, List, [], ◌∷◌, ◌++◌, length, take, drop, get_or, replicate, refl, ap, sym, ◌∙◌, unwrap_or, map-append, take-append-drop, map-range_with_len_more, slice_get-get_or, ArrowType, gather, gathered, Slot, Null, Number, null_slot, drop_at_read, sliced, sliced-cut, one_row, AreKeys, IsKey, key_in, run_of}
-use Rattle.arrow_take.proofs.IndexLemmas.{each_index}
+use Rattle.arrow_take.proofs.Common.{arith, ◌≡◌, ◌+◌, ℕ, zero, suc, ◌<◌, ◌≤◌, pos, Some, None, List, [], ◌∷◌, ◌++◌, length, take, drop, get_or, replicate, refl, ap, sym, ◌∙◌, unwrap_or, map-append, take-append-drop, map-range_with_len_more, slice_get-get_or, ArrowType, gather, gathered, Slot, Null, Number, null_slot, drop_at_read, sliced, sliced-cut, one_row, AreKeys, IsKey, key_in, run_of, each_key}
 
 -- the rows of a run of places
 rows_of_places : (xs : List Slot) (t : ArrowType) (start count : ℕ) → start + count ≤ length xs → gather xs (run_of (Some start) count) t ≡ sliced xs start count
@@ -18,10 +17,10 @@ rows_of_nulls xs t (suc count) = ap (λ ys. null_slot t ∷ ys) (rows_of_nulls x
 -- what an index is, by its key
 number_by : (count n : ℕ) (s : Slot) → IsKey count s → key_in s ≡ Some n → s ≡ Number (pos n)
 number_by count n =
-    each_index count (λ s. key_in s ≡ Some n → s ≡ Number (pos n)) (λ is. absurd (cc)) (λ m has is. cc)
+    each_key count (λ s. key_in s ≡ Some n → s ≡ Number (pos n)) (λ is. absurd (cc)) (λ m has is. cc)
 
 null_by : (count : ℕ) (s : Slot) → IsKey count s → key_in s ≡ None → s ≡ Null
-null_by count = each_index count (λ s. key_in s ≡ None → s ≡ Null) (λ is. refl) (λ m has is. absurd (cc))
+null_by count = each_key count (λ s. key_in s ≡ None → s ≡ Null) (λ is. refl) (λ m has is. absurd (cc))
 
 -- a run of one, and one more
 module _ (indices : List Slot) (len : ℕ) (keys : AreKeys len indices) (row : ℕ) where

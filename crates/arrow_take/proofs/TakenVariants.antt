@@ -1,8 +1,8 @@
 -- Sparse unions by index: what each field has of the rows that are named, and the rows by that.
-use Rattle.arrow_take.proofs.Common.{arith, ◌≡◌, ◌+◌, ◌*◌, ◌<◌, ◌≤◌, ℕ, suc, max, ℤ, pos, Bool, true, false, not, Option, Some, None, List, [], drop, length, map, get_or, if◌then◌else◌, refl, ap, sym, subst, ◌∙◌, option_map, unwrap_or, All, range_with_len, zip, int_eq, Decides-int_eq, get_or-drop, get_or-map, get_or-take, get_or_default, length-map, same_lists, All-map, get_or-range_with_len, length-range_with_len, slice_get-get_or, map-map, length-zip, Union, ArrowType, null, plain, union, sparse_part, is_null, gather, gathered, valid_at, Slot, Null, Number, Variant, id_at, null_slot, type_of, AnswersBits, sliced, length-sliced, marked_row, MarksNulls, AnyArray, any_array_rows, any_array_type, layout_of, AreKeys, IsKey, Layout, Layouts, column_of_id, dense, depth, depth_of_all, field_ids, fielded, fixed, flat, keyed, listed, more_layouts, no_layouts, rows, sparse, to_layouts, type_of_layout, union_items, variant_at, slice_of, slices_of, field_types, IsKnown, SpansRows, UnionParts, child_rows_by, union_layout, union_layout_by, union_rows, depth_at, type_of_part, field_rows, field_part, part_of_id, variant_type, rows_are, ids_apart, null_variant, AreApart, own_column, named_bit, valid_index, taken_id, IsSparse, have_id}
+use Rattle.arrow_take.proofs.Common.{arith, ◌≡◌, ◌+◌, ◌*◌, ◌<◌, ◌≤◌, ℕ, suc, max, ℤ, pos, Bool, true, false, not, Option, Some, None, List, [], drop, length, map, get_or, if◌then◌else◌, refl, ap, sym, subst, ◌∙◌, option_map, unwrap_or, All, range_with_len, zip, int_eq, Decides-int_eq, get_or-drop, get_or-map, get_or-take, get_or_default, length-map, same_lists, All-map, get_or-range_with_len, length-range_with_len, slice_get-get_or, map-map, length-zip, Union, ArrowType, null, plain, union, sparse_part, is_null, gather, gathered, valid_at, Slot, Null, Number, Variant, id_at, null_slot, type_of, AnswersBits, sliced, length-sliced, marked_row, MarksNulls, AnyArray, any_array_rows, any_array_type, layout_of, AreKeys, IsKey, Layout, Layouts, column_of_id, dense, depth, depth_of_all, field_ids, fielded, fixed, flat, keyed, listed, more_layouts, no_layouts, rows, sparse, to_layouts, type_of_layout, union_items, variant_at, slice_of, slices_of, field_types, IsKnown, SpansRows, UnionParts, child_rows_by, union_layout, union_layout_by, union_rows, depth_at, type_of_part, field_rows, field_part, part_of_id, variant_type, rows_are, ids_apart, null_variant, AreApart, own_column, named_bit, valid_index, taken_id, IsSparse, have_id, each_key}
 use Rattle.std.specs.Prelude.{◌&&◌}
 use Rattle.arrow_types.specs.declared.datatypes.physical_type.PhysicalType.TheVariants as physical
-use Rattle.arrow_take.proofs.IndexLemmas.{each_index, map-agree}
+use Rattle.arrow_take.proofs.IndexLemmas.{map-agree}
 use Rattle.arrow_take.proofs.SparseRows.{item_at}
 use Rattle.arrow_take.proofs.TakenFields.{valid_keys}
 
@@ -39,7 +39,7 @@ answered_bit answered count bits answers bit_at each i within =
 -- which of the rows that indices name are of a field, by a bit each
 own_bit : (p : UnionParts) (id : ℤ) (s : Slot) → IsKey (length p.types) s → not (is_null s) && int_eq id (taken_id p s) ≡ named_bit (have_id id p.types) s
 own_bit p id =
-    each_index (length p.types) (λ s. not (is_null s) && int_eq id (taken_id p s) ≡ named_bit (have_id id p.types) s) refl (λ n within. sym (get_or-map (int_eq id) p.types n (id_at (field_ids p.arrow_type) 0) false within))
+    each_key (length p.types) (λ s. not (is_null s) && int_eq id (taken_id p s) ≡ named_bit (have_id id p.types) s) refl (λ n within. sym (get_or-map (int_eq id) p.types n (id_at (field_ids p.arrow_type) 0) false within))
 
 pub own_bits : (p : UnionParts) (id : ℤ) (indices : List Slot) (v : Option (List Bool)) (types : List ℤ) (bits : List Bool) → AreKeys (length p.types) indices → MarksNulls v indices → types ≡ map (taken_id p) indices → length bits ≡ length indices → ((i : ℕ) → i < length indices → get_or bits i false ≡ valid_at v i && int_eq id (get_or types i id)) → bits ≡ map (named_bit (have_id id p.types)) indices
 own_bits p id indices v types bits keys marks types_are count each =
@@ -110,7 +110,7 @@ module _ (p : UnionParts) (held : IsSparse p) (indices : List Slot) (keys : AreK
 
   named : (s : Slot) → IsKey (length p.types) s → IsNamed s
   named =
-      each_index (length p.types) IsNamed (null_slot (variant_type t 0), none_stored, (0, some, refl)) (λ n within. (stored n, row_stored n within, subst (λ count. IsKnown (field_ids t) count (get_or p.types n first)) (sym (length-map p.children rows)) (held.known n first within)))
+      each_key (length p.types) IsNamed (null_slot (variant_type t 0), none_stored, (0, some, refl)) (λ n within. (stored n, row_stored n within, subst (λ count. IsKnown (field_ids t) count (get_or p.types n first)) (sym (length-map p.children rows)) (held.known n first within)))
 
   -- the rows of a field that lie beside those of the union
   abbrev pub part : ℕ → List Slot
@@ -144,7 +144,7 @@ module _ (p : UnionParts) (held : IsSparse p) (indices : List Slot) (keys : AreK
   part_named : (f : ℕ) → f < length columns → (s : Slot) → IsKey (length p.types) s → sparse_part (id_of f) (variant_type t f) (gathered xs t s) ≡ gathered (part f) (variant_type t f) (own f s)
   part_named f within =
       let u = variant_type t f in
-      each_index (length p.types) (λ s. sparse_part (id_of f) u (gathered xs t s) ≡ gathered (part f) u (own f s)) (ap (sparse_part (id_of f) u) none_stored ∙ nulls_same f (int_eq (id_of f) first) (λ told. apart f 0 within some ((Decides-int_eq (id_of f) first).0 told))) (λ n row.
+      each_key (length p.types) (λ s. sparse_part (id_of f) u (gathered xs t s) ≡ gathered (part f) u (own f s)) (ap (sparse_part (id_of f) u) none_stored ∙ nulls_same f (int_eq (id_of f) first) (λ told. apart f 0 within some ((Decides-int_eq (id_of f) first).0 told))) (λ n row.
       let bit : get_or (have_id (id_of f) p.types) n false ≡ int_eq (id_of f) (get_or p.types n first) = get_or-map (int_eq (id_of f)) p.types n first false row in
       ap (sparse_part (id_of f) u) (row_stored n row) ∙ (own_row f n within row (int_eq (id_of f) (get_or p.types n first)) refl ∙ ap (λ b. gathered (part f) u (if b then Number (pos n) else Null)) (sym bit)))
 

@@ -6,7 +6,7 @@ use Rattle.std.proofs.lemmas.List.{map-append}
 use Rattle.std.proofs.lemmas.List.Sums.{sum_by-append}
 use Rattle.std.specs.Ordering.{int_eq}
 use Rattle.arrow_types.specs.declared.datatypes.UnionMode.TheVariants.{Dense, Sparse}
-use Rattle.arrow_types.specs.ArrowType.{ArrowType, ArrowFields, PlainType, ListForm, plain, list, struct, union, dictionary, extension, field, no_fields, more_fields, small, large, fixed_size, mapped, binary, large_binary, utf8, large_utf8, fixed_size_binary}
+use Rattle.arrow_types.specs.ArrowType.{ArrowType, ArrowFields, PlainType, ListForm, plain, list, struct, union, dictionary, extension, field, no_fields, more_fields, small, fixed_size, binary, large_binary, utf8, large_utf8, fixed_size_binary}
 use Rattle.arrow_types.specs.Slot.{Slot, Variant, id_at}
 use Rattle.arrow_types.specs.Fits.{IsCounted, byte_count, items_in, all_items, fixed_items_in, part_in, sparse_part, dense_part, FitsPlain, FitsForm, child_rows, Fits, FitsParts, FitsSparse, FitsDense}
 
@@ -26,10 +26,8 @@ pub all_items-append : (xs ys : List Slot) → all_items (xs ++ ys) ≡ all_item
 all_items-append xs ys = flat_map-append items_in xs ys
 
 pub child_rows-append : (form : ListForm) (t : ArrowType) (xs ys : List Slot) → child_rows form t (xs ++ ys) ≡ child_rows form t xs ++ child_rows form t ys
-child_rows-append small t xs ys = all_items-append xs ys
-child_rows-append large t xs ys = all_items-append xs ys
 child_rows-append (fixed_size s) t xs ys = flat_map-append (fixed_items_in s t) xs ys
-child_rows-append (mapped sorted) t xs ys = all_items-append xs ys
+child_rows-append form t xs ys = all_items-append xs ys
 
 if-append : (b : Bool) (s : Slot) (xs ys zs : List Slot) → zs ≡ xs ++ ys → (if b then s ∷ zs else zs) ≡ (if b then s ∷ xs else xs) ++ ys
 if-append true s xs ys zs e = ap (λ ws. s ∷ ws) e
@@ -52,10 +50,8 @@ fewer_items : (xs ys : List Slot) → length (all_items xs) ≤ length (all_item
 fewer_items xs ys = omega (arith, ap length (all_items-append xs ys), length-append (all_items xs) (all_items ys))
 
 FitsForm-beginning : (form : ListForm) (xs ys : List Slot) → FitsForm form (xs ++ ys) → FitsForm form xs
-FitsForm-beginning small xs ys h = omega (arith, h, fewer_items xs ys)
-FitsForm-beginning large xs ys h = omega (arith, h, fewer_items xs ys)
 FitsForm-beginning (fixed_size s) xs ys h = times s xs ys h
-FitsForm-beginning (mapped sorted) xs ys h = omega (arith, h, fewer_items xs ys)
+FitsForm-beginning form xs ys h = omega (arith, h, fewer_items xs ys)
 
 mutual
   pub Fits-beginning : (t : ArrowType) (xs ys : List Slot) → Fits t (xs ++ ys) → Fits t xs
@@ -99,15 +95,11 @@ FitsPlain-nil _ = tt
 
 FitsForm-nil : (form : ListForm) → FitsForm form []
 FitsForm-nil small = omega arith
-FitsForm-nil large = omega arith
-FitsForm-nil (fixed_size s) = omega arith
-FitsForm-nil (mapped sorted) = omega arith
+FitsForm-nil form = omega arith
 
 child_rows-nil : (form : ListForm) (t : ArrowType) → [] ≡ child_rows form t []
 child_rows-nil small t = refl
-child_rows-nil large t = refl
-child_rows-nil (fixed_size s) t = refl
-child_rows-nil (mapped sorted) t = refl
+child_rows-nil form t = refl
 
 -- no row at all fits every type
 mutual

@@ -35,7 +35,5 @@ length-mask (valid ∷ validity) (x ∷ xs) h = ap suc (length-mask validity xs 
 
 -- a row under a validity
 pub slice_get-mask : (validity : List Bool) (xs : List Slot) (i : ℕ) (valid : Bool) (x : Slot) → slice_get validity i ≡ Some valid → slice_get xs i ≡ Some x → slice_get (mask validity xs) i ≡ Some (if valid then x else Null)
-slice_get-mask validity [] i valid x h read = cc
-slice_get-mask [] (y ∷ ys) i valid x h read = cc
-slice_get-mask (v ∷ validity) (y ∷ ys) zero valid x h read = cc
 slice_get-mask (v ∷ validity) (y ∷ ys) (suc i) valid x h read = slice_get-mask validity ys i valid x h read
+slice_get-mask validity xs i valid x h read = cc

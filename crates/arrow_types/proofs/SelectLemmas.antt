@@ -50,9 +50,6 @@ length-chosen (p ∷ ps) (l ∷ ls) (r ∷ rs) t left right = ap suc (length-cho
 
 pub chosen-append : (ps ls rs qs ms ss : List Slot) (t : ArrowType) → length ps ≡ length ls → length ps ≡ length rs → chosen (ps ++ qs) (ls ++ ms) (rs ++ ss) t ≡ chosen ps ls rs t ++ chosen qs ms ss t
 chosen-append [] [] [] qs ms ss t left right = refl
-chosen-append [] [] (r ∷ rs) qs ms ss t left right = absurd (omega (arith, right))
-chosen-append [] (l ∷ ls) rs qs ms ss t left right = absurd (omega (arith, left))
-chosen-append (p ∷ ps) [] rs qs ms ss t left right = absurd (omega (arith, left))
-chosen-append (p ∷ ps) (l ∷ ls) [] qs ms ss t left right = absurd (omega (arith, right))
 chosen-append (p ∷ ps) (l ∷ ls) (r ∷ rs) qs ms ss t left right =
     ap (λ zs. choice t p l r ∷ zs) (chosen-append ps ls rs qs ms ss t (omega (arith, left)) (omega (arith, right)))
+chosen-append ps ls rs qs ms ss t left right = absurd (omega (arith, right, left))

@@ -3,7 +3,7 @@ use Rattle.std.proofs.Common.{◌≡◌, Bool, List, [], ◌∷◌, Option, ℤ,
 use Rattle.std.specs.Bool.{Decides}
 use Rattle.arrow_types.specs.declared.datatypes.UnionMode.{UnionMode}
 use Rattle.arrow_types.specs.declared.datatypes.physical_type.PhysicalType.TheVariants as physical
-use Rattle.arrow_types.specs.ArrowType.{ArrowType, ArrowField, ArrowFields, plain, list, struct, union, dictionary, extension, field, more_fields, type_in, logical}
+use Rattle.arrow_types.specs.ArrowType.{ArrowType, ArrowField, ArrowFields, union, extension, field, more_fields, type_in, logical}
 use Rattle.arrow_types.specs.Physical.{physical_type_of}
 use Rattle.arrow_types.specs.Relation.{Relation, related, same}
 use Rattle.arrow_types.specs.SameTree.{same_by-decides}
@@ -20,12 +20,8 @@ to_slots-from_slots (more_slots s ss) = ap (λ ys. more_slots s ys) (to_slots-fr
 
 -- an extension changes no null slot
 pub null_slot-logical : (t : ArrowType) → null_slot (logical t) ≡ null_slot t
-null_slot-logical (plain p) = refl
-null_slot-logical (list form f) = refl
-null_slot-logical (struct fs) = refl
-null_slot-logical (union mode ids fs) = refl
-null_slot-logical (dictionary keys ordered t) = refl
 null_slot-logical (extension name metadata t) = null_slot-logical t
+null_slot-logical t = refl
 
 -- of a union it is the first field's, under the first id
 pub null_slot-union : (mode : UnionMode) (ids : Option (List ℤ)) (f : ArrowField) (fs : ArrowFields) → null_slot (union mode ids (more_fields f fs)) ≡ Variant (id_at ids 0) (null_slot (type_in f))
@@ -33,12 +29,9 @@ null_slot-union mode ids (field name t nullable) fs = refl
 
 -- and of any other type Null
 pub null_slot-no_union : (t : ArrowType) → (physical_type_of t ≡ physical.Union → ⊥) → null_slot t ≡ Null
-null_slot-no_union (plain p) other = refl
-null_slot-no_union (list form f) other = refl
-null_slot-no_union (struct fs) other = refl
 null_slot-no_union (union mode ids fs) other = absurd (other refl)
-null_slot-no_union (dictionary keys ordered t) other = refl
 null_slot-no_union (extension name metadata t) other = null_slot-no_union t other
+null_slot-no_union t other = refl
 
 -- what a relation answers about is not null
 related-null : (op : Relation) (r : Slot) → related op Null r ≡ Null

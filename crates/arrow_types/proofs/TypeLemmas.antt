@@ -1,6 +1,6 @@
 -- What the types of src/ stand for, lists of fields, and what makes a type carried.
 use Rattle.std.proofs.Common.{◌≡◌, ◌↔◌, ℕ, zero, suc, ◌+◌, ◌<◌, List, [], ◌∷◌, length, take, get_or, refl, ap, sym, ◌∙◌, subst, arith, rules, Vec, Global, Option, ℤ}
-use Rattle.arrow_types.specs.ArrowType.{ArrowType, ArrowField, ArrowFields, PlainType, plain, list, struct, union, dictionary, extension, float16, float32, float64, fixed_size_binary, small, large, fixed_size, mapped, field, no_fields, more_fields, type_in, to_fields, from_fields}
+use Rattle.arrow_types.specs.ArrowType.{ArrowType, ArrowField, ArrowFields, PlainType, plain, list, struct, union, extension, float16, float32, float64, fixed_size_binary, small, field, no_fields, more_fields, type_in, to_fields, from_fields}
 use Rattle.arrow_types.specs.Carried.{HasField, IsPair, AreTypeIds, IsCarried, IsCarriedPlain, IsCarriedElement, AreCarried}
 use Rattle.arrow_types.specs.Physical.{physical_type_of, plain_physical_type}
 use Rattle.arrow_types.specs.TypeOf.{type_of, field_of, fields_of, ids_of}
@@ -60,10 +60,8 @@ HasField-fields_of [] = (λ h. absurd h, λ h. absurd (omega arith))
 HasField-fields_of (f ∷ fs) = (λ h. omega arith, λ h. tt)
 
 pub IsPair-fields_of : (fs : List Field) → IsPair (struct (fields_of fs)) ↔ (length fs ≡ 2)
-IsPair-fields_of [] = (λ h. absurd h, λ h. absurd (omega (arith, h)))
-IsPair-fields_of (f ∷ []) = (λ h. absurd h, λ h. absurd (omega (arith, h)))
 IsPair-fields_of (f ∷ g ∷ []) = (λ h. refl, λ h. tt)
-IsPair-fields_of (f ∷ g ∷ e ∷ fs) = (λ h. absurd h, λ h. absurd (omega (arith, h)))
+IsPair-fields_of fs = (λ h. absurd h, λ h. absurd (omega (arith, h)))
 
 -- as many fields in the tree
 pub length-fields_of : (fs : List Field) → length (from_fields (fields_of fs)) ≡ length fs
@@ -88,14 +86,9 @@ plain_of_element _ h = tt
 
 of_element : (t : ArrowType) → IsOfElement (physical_type_of t) → IsCarried t
 of_element (plain p) h = plain_of_element p h
-of_element (list small f) h = absurd h
-of_element (list large f) h = absurd h
-of_element (list (fixed_size size) f) h = absurd h
-of_element (list (mapped sorted) f) h = absurd h
-of_element (struct fs) h = absurd h
-of_element (union mode ids fs) h = absurd h
-of_element (dictionary keys ordered t) h = absurd h
 of_element (extension name metadata t) h = of_element t h
+of_element (list small f) h = absurd h
+of_element t h = absurd h
 
 -- then it is carried
 pub carried_as_element : (element : PrimitiveType) (t : ArrowType) → IsCarriedElement element → physical_type_of t ≡ physical.Primitive element → IsCarried t

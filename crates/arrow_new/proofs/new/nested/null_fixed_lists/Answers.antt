@@ -3,7 +3,7 @@ use Rattle.arrow_types.specs.Slot.{null_slot}
 use Rattle.arrow_types.specs.TypeOf.{type_of}
 use Rattle.arrow_arrays.specs.Any.{any_array_rows}
 use Rattle.arrow_arrays.specs.TypeParts.{item_type, list_size}
-use Rattle.arrow_arrays.proofs.FitNullLemmas.{some_items}
+use Rattle.arrow_arrays.proofs.TypeLemmas.{some_items}
 use Rattle.arrow_arrays.proofs.NullLemmas.{no_fault}
 use Rattle.arrow_arrays.proofs.NullPartsLemmas.{fixed_rows_null, fixed_parts_fit}
 use Rattle.arrow_arrays.proofs.ShapeLemmas.{shape_of}

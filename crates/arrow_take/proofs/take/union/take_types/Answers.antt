@@ -1,5 +1,5 @@
-use Rattle.arrow_take.proofs.Common.{◌≡◌, ◌<◌, ◌∙◌, [], arith, ap, get_or, length, map, of_z, sym, to_z, w8, IfSome, ints, to_z-of_z, length-map, masked, Null, id_at, rows_by, length-masked, key_in, field_ids, id_or, taken_id}
-use Rattle.arrow_take.proofs.IndexLemmas.{each_index, gives_all, gives_next}
+use Rattle.arrow_take.proofs.Common.{◌≡◌, ◌<◌, ◌∙◌, [], arith, ap, get_or, length, map, of_z, sym, to_z, w8, IfSome, ints, to_z-of_z, length-map, masked, Null, id_at, rows_by, length-masked, key_in, field_ids, id_or, taken_id, each_key}
+use Rattle.arrow_take.proofs.IndexLemmas.{gives_all, gives_next}
 use Rattle.arrow_take.proofs.take.union.take_types.Goals as goal
 
 pub type_at-requires : goal.type_at-requires
@@ -10,7 +10,7 @@ type_at-requires g c =
     let long = length-masked c.args.indices.now.validity (map slot c.args.indices.now.values) c.validity-validity.ensures.fits ∙ (length-map c.args.indices.now.values slot ∙ sym (ap length lent)) in
     let within : c.loop-row.row < length rows = omega (arith, long, c.loop-row-test.true) in
     let place : c.index_at.result ≡ key_in (get_or rows c.loop-row.row Null) = c.index_at.ensures ∙ (λ i. key_in (get_or (masked (c.validity-validity.ensures.same i) (map slot (lent i))) c.loop-row.row Null)) in
-    let inside = each_index (length c.args.values.now.types) (λ s. IfSome (key_in s) (λ n. n < length c.args.values.now.types)) tt (λ n below. below) (get_or rows c.loop-row.row Null) (c.requires.inside c.loop-row.row Null within) in
+    let inside = each_key (length c.args.values.now.types) (λ s. IfSome (key_in s) (λ n. n < length c.args.values.now.types)) tt (λ n below. below) (get_or rows c.loop-row.row Null) (c.requires.inside c.loop-row.row Null within) in
     let types = c.as_slice-types.ensures ∙ c.types.ensures.same in
     rw (place, types) inside
 

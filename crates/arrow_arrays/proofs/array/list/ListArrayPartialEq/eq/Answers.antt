@@ -1,18 +1,9 @@
-use Rattle.std.proofs.Common.{◌≡◌, true}
-use Rattle.arrow_flat.proofs.PartsLemmas.{same_where_types_are, differs_where_types_do}
-use Rattle.arrow_arrays.specs.ListParts.{list_meaning}
+use Rattle.std.proofs.Common.{rules}
+use Rattle.arrow_flat.proofs.PartsLemmas.{same_by_meaning}
 use Rattle.arrow_arrays.proofs.array.list.ListArrayPartialEq.eq.Goals as goal
 
 pub returns-then-eq-clause-value : goal.returns-then-eq-clause-value
-returns-then-eq-clause-value c =
-    let left = list_meaning c.args.self.now in
-    let right = list_meaning c.args.other.now in
-    let types : left.0 ≡ right.0 = rw (← c.self.view_is, ← c.other.view_is) (c.eq.ensures.types.0 c.if-eq.true) in
-    same_where_types_are left right c.equal_rows.result types c.equal_rows.ensures
+returns-then-eq-clause-value c = same_by_meaning _ _ _ (search rules)
 
 pub returns-else-eq-clause-value : goal.returns-else-eq-clause-value
-returns-else-eq-clause-value c =
-    let left = list_meaning c.args.self.now in
-    let right = list_meaning c.args.other.now in
-    let types : left.0 ≡ right.0 → c.eq.result ≡ true = rw (← c.self.view_is, ← c.other.view_is) c.eq.ensures.types.1 in
-    differs_where_types_do left right c.eq.result (λ e. cc c.if-eq.false) types
+returns-else-eq-clause-value c = same_by_meaning _ _ _ (search rules)
