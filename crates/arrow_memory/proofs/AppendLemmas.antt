@@ -1,10 +1,8 @@
 -- Bits that are appended a word at a time.
-use Rattle.arrow_memory.proofs.Common.{◌≡◌, ℕ, ◌+◌, ◌-◌, ◌*◌, ◌/◌, ◌%◌, ◌^◌, ◌<◌, ◌≤◌, Bool, true, false, ◌||◌, List, [], ◌∷◌, ◌++◌, length, get_or, take, drop, replicate, zero, suc, refl, ap, sym, ◌∙◌, subst, arith, slice_index, inl, inr, add-zero, zero-add, append_assoc, length-append, post_of, bit_or, set, bit_at, cases_lt, cases_eq, get_or-set_same, get_or-set_other, get_or_append_left, get_or-append_right, get_or_past, get_or-take, get_or-drop, length-set, length-take, length-take-le, length-drop, take_all, drop_all, take-append-drop, append-nil, length-replicate, replicate-append-replicate, shr-shr, shr_split, pow_pos, bit_at-zero, bit_at_cat_low, bit_at_cat_high, mask_l-lt, take-append-add, add-mul-div_left, div-eq_of_lt, is_set, bits_in, word_of, Reads, AppendsWord, AppendsBits}
-use Rattle.std.specs.Prelude.{◌==◌}
-use Rattle.std.proofs.lemmas.List.{nil_from_length}
+use Rattle.arrow_memory.proofs.Common.{◌≡◌, ℕ, ◌+◌, ◌-◌, ◌*◌, ◌/◌, ◌%◌, ◌^◌, ◌<◌, ◌≤◌, ◌==◌, Bool, true, false, ◌||◌, List, [], ◌∷◌, ◌++◌, length, get_or, take, drop, replicate, zero, suc, refl, ap, sym, ◌∙◌, subst, arith, slice_index, inl, inr, zero-add, append_assoc, length-append, post_of, bit_or, set, bit_at, cases_lt, cases_eq, get_or-set_same, get_or-set_other, get_or_append_left, get_or-append_right, get_or_past, get_or-take, get_or-drop, length-set, length-take, length-take-le, length-drop, take_all, take_at, drop_all, take-append-drop, append-nil, nil_from_length, length-replicate, replicate-append-replicate, shr-shr, pow_pos, bit_at-zero, mask_l-lt, add-mul-div_left, div-eq_of_lt, is_set, bits_in, word_of, Reads, AppendsWord, AppendsBits}
 use Rattle.arrow_memory.proofs.BitmapLemmas.{bit_of-word_of}
 use Rattle.arrow_memory.proofs.LogicLemmas.{or_each}
-use Rattle.arrow_memory.proofs.WordLemmas.{length-bits_in, get_or-bits_in, word_of-append}
+use Rattle.arrow_memory.proofs.WordLemmas.{length-bits_in, get_or-bits_in, word_of-append, bit_alone, bit_at-shl_low, bit_at-shl_high}
 
 -- ---- one word written by `|=`
 
@@ -19,19 +17,6 @@ set_or-here words index v i within here =
 set_or-there : (words : List ℕ) (index v i : ℕ) → (i / 64 ≡ index → ⊥) → is_set (set words index v) i ≡ is_set words i
 set_or-there words index v i there = ap (λ w. bit_at w (i % 64) == 1) (get_or-set_other words index (i / 64) v 0 there)
 
--- ---- a word that is shifted
-
-bit_at-low : (n k : ℕ) → k < 64 → bit_at (n % 2 ^ 64) k ≡ bit_at n k
-bit_at-low n k below = sym (bit_at_cat_low (n / 2 ^ 64) 64 (n % 2 ^ 64) k below) ∙ ap (λ m. bit_at m k) (shr_split n 64)
-
-bit_at-shl_low : (word shift k : ℕ) → k < 64 → k < shift → bit_at (word * 2 ^ shift % 2 ^ 64) k ≡ 0
-bit_at-shl_low word shift k below before =
-    bit_at-low (word * 2 ^ shift) k below ∙ (ap (λ n. bit_at n k) (sym (add-zero (word * 2 ^ shift))) ∙ (bit_at_cat_low word shift 0 k before ∙ bit_at-zero k))
-
-bit_at-shl_high : (word shift k : ℕ) → k < 64 → shift ≤ k → bit_at (word * 2 ^ shift % 2 ^ 64) k ≡ bit_at word (k - shift)
-bit_at-shl_high word shift k below from =
-    bit_at-low (word * 2 ^ shift) k below ∙ (ap (λ n. bit_at n k) (sym (add-zero (word * 2 ^ shift))) ∙ bit_at_cat_high word shift 0 k (pow_pos shift) from)
-
 pub bit_at-shr : (word m k : ℕ) → bit_at (word / 2 ^ m) k ≡ bit_at word (m + k)
 bit_at-shr word m k = ap (λ x. x % 2) (shr-shr word m k)
 
@@ -39,63 +24,54 @@ or-false : (b : Bool) → (b || (0 == 1)) ≡ b
 or-false true = refl
 or-false false = refl
 
--- ---- what `append_word` leaves
+-- ---- words that hold some bits
 
--- a bit of `xs ++ ys`, before the seam and behind it
-before : (xs ys : List Bool) (place i : ℕ) → length xs ≡ place → i < place → get_or (xs ++ ys) i false ≡ get_or xs i false
-before xs ys place i long below = get_or_append_left xs ys false i (omega arith)
-
-behind : (xs ys : List Bool) (place i : ℕ) → length xs ≡ place → place ≤ i → get_or (xs ++ ys) i false ≡ get_or ys (i - place) false
-behind xs ys place i long from = get_or-append_right xs ys place i false long from
-
-clear_behind : (words : List ℕ) (xs : List Bool) (place i : ℕ) → Reads words xs → length xs ≡ place → place ≤ i → is_set words i ≡ false
-clear_behind words xs place i reads long from = reads.each i ∙ get_or_past xs i false (omega arith)
-
-first_word : (words : List ℕ) (xs ys : List Bool) (place word i : ℕ) → Reads words xs → length xs ≡ place → word ≡ word_of ys → place / 64 < length words → i / 64 ≡ place / 64
-    → is_set (set words (place / 64) (bit_or (slice_index words (place / 64)) (word * 2 ^ (place % 64) % 2 ^ 64))) i ≡ get_or (xs ++ ys) i false
-first_word words xs ys place word i reads long is within here =
-    let v = word * 2 ^ (place % 64) % 2 ^ 64 in
-    let low : i % 64 < 64 = omega arith in
-    set_or-here words (place / 64) v i within here ∙
-    elim (cases_lt i place) as (λ _. (is_set words i || (bit_at v (i % 64) == 1)) ≡ get_or (xs ++ ys) i false) [
-      | inl below ↦
-          let under : i % 64 < place % 64 = omega arith in
-          ap (λ x. is_set words i || (x == 1)) (bit_at-shl_low word (place % 64) (i % 64) low under) ∙ (or-false (is_set words i) ∙ (reads.each i ∙ sym (before xs ys place i long below)))
-      | inr from ↦
-          let over : place % 64 ≤ i % 64 = omega arith in
-          let at : i % 64 - place % 64 ≡ i - place = omega arith in
-          ap (λ b. b || (bit_at v (i % 64) == 1)) (clear_behind words xs place i reads long from) ∙ (ap (λ x. x == 1) (bit_at-shl_high word (place % 64) (i % 64) low over ∙ (ap (bit_at word) at ∙ ap (λ w. bit_at w (i - place)) is)) ∙ (bit_of-word_of ys (i - place) ∙ sym (behind xs ys place i long from)))
-    ]
-
--- a bit that no write has touched
-untouched : (words : List ℕ) (xs ys : List Bool) (place i : ℕ) → Reads words xs → length xs ≡ place → (place ≤ i → length ys ≤ i - place) → is_set words i ≡ get_or (xs ++ ys) i false
-untouched words xs ys place i reads long past =
-    elim (cases_lt i place) as (λ _. is_set words i ≡ get_or (xs ++ ys) i false) [
-      | inl below ↦ reads.each i ∙ sym (before xs ys place i long below)
-      | inr from ↦ clear_behind words xs place i reads long from ∙ (sym (get_or_past ys (i - place) false (past from)) ∙ sym (behind xs ys place i long from))
-    ]
-
--- a bit before the last of those that are taken
-taken : (xs ys : List Bool) (place n i : ℕ) → length xs ≡ place → i < place + n → get_or (xs ++ ys) i false ≡ get_or (xs ++ take n ys) i false
-taken xs ys place n i long within =
-    elim (cases_lt i place) as (λ _. get_or (xs ++ ys) i false ≡ get_or (xs ++ take n ys) i false) [
-      | inl below ↦ before xs ys place i long below ∙ sym (before xs (take n ys) place i long below)
-      | inr from ↦ behind xs ys place i long from ∙ (sym (get_or-take n ys (i - place) false (omega arith)) ∙ sym (behind xs (take n ys) place i long from))
-    ]
-
--- as many bits as the word has room for, in which they begin
-first_part : (words : List ℕ) (xs ys : List Bool) (place word : ℕ) → Reads words xs → length xs ≡ place → word ≡ word_of ys → place / 64 < length words
-    → Reads (set words (place / 64) (bit_or (slice_index words (place / 64)) (word * 2 ^ (place % 64) % 2 ^ 64))) (xs ++ take (64 - place % 64) ys)
-first_part words xs ys place word reads long is within =
-    let n = 64 - place % 64 in
-    let v = bit_or (slice_index words (place / 64)) (word * 2 ^ (place % 64) % 2 ^ 64) in
+-- a bit of the words for each, and zeros behind them
+reads_each : (words : List ℕ) (bits : List Bool) (n : ℕ) → length bits ≤ n → ((i : ℕ) → i < n → is_set words i ≡ get_or bits i false) → ((i : ℕ) → n ≤ i → is_set words i ≡ false) → Reads words bits
+reads_each words bits n within each zeros =
     record {
       each = λ i.
-          elim (cases_eq (i / 64) (place / 64)) as (λ _. is_set (set words (place / 64) v) i ≡ get_or (xs ++ take n ys) i false) [
-            | inl here ↦ first_word words xs ys place word i reads long is within here ∙ taken xs ys place n i long (omega arith)
-            | inr there ↦ set_or-there words (place / 64) v i there ∙ untouched words xs (take n ys) place i reads long (λ from. omega (arith, length-take n ys))
+          elim (cases_lt i n) as (λ _. is_set words i ≡ get_or bits i false) [
+            | inl below ↦ each i below
+            | inr past ↦ zeros i past ∙ sym (get_or_past bits i false (omega arith))
           ];
     }
+
+-- the same of bits behind others
+reads_both : (words : List ℕ) (xs ys : List Bool) (n : ℕ) → length xs ≡ n → ((i : ℕ) → i < n → is_set words i ≡ get_or xs i false) → ((i : ℕ) → n ≤ i → is_set words i ≡ get_or ys (i - n) false) → Reads words (xs ++ ys)
+reads_both words xs ys n long front back =
+    record {
+      each = λ i.
+          elim (cases_lt i n) as (λ _. is_set words i ≡ get_or (xs ++ ys) i false) [
+            | inl below ↦ front i below ∙ sym (get_or_append_left xs ys false i (omega arith))
+            | inr from ↦ back i from ∙ sym (get_or-append_right xs ys n i false long from)
+          ];
+    }
+
+-- ---- what `append_word` leaves
+
+-- as many bits as the word has room for, in which they begin
+pub first_part : (words : List ℕ) (xs ys : List Bool) (place word : ℕ) → Reads words xs → length xs ≡ place → word ≡ word_of ys → place / 64 < length words
+    → Reads (set words (place / 64) (bit_or (slice_index words (place / 64)) (word * 2 ^ (place % 64) % 2 ^ 64))) (xs ++ take (64 - place % 64) ys)
+first_part words xs ys place word reads long is within =
+    let index = place / 64 in
+    let shift = place % 64 in
+    let v = word * 2 ^ shift % 2 ^ 64 in
+    let new = set words index (bit_or (slice_index words index) v) in
+    reads_both new xs (take (64 - shift) ys) place long
+    (λ i before. elim (cases_eq (i / 64) index) as (λ _. is_set new i ≡ get_or xs i false) [
+      | inl here ↦ set_or-here words index v i within here ∙ (ap (λ x. is_set words i || (x == 1)) (bit_at-shl_low word shift (i % 64) (omega arith) (omega arith)) ∙ (or-false (is_set words i) ∙ reads.each i))
+      | inr there ↦ set_or-there words index (bit_or (slice_index words index) v) i there ∙ reads.each i
+    ])
+    (λ i from.
+    let clear = reads.each i ∙ get_or_past xs i false (omega arith) in
+    elim (cases_eq (i / 64) index) as (λ _. is_set new i ≡ get_or (take (64 - shift) ys) (i - place) false) [
+      | inl here ↦
+          let at : i % 64 - shift ≡ i - place = omega arith in
+          let bit = bit_at-shl_high word shift (i % 64) (omega arith) (omega arith) ∙ (λ t. bit_at (is t) (at t)) in
+          set_or-here words index v i within here ∙ ((λ t. clear t || (bit t == 1)) ∙ (bit_of-word_of ys (i - place) ∙ sym (get_or-take (64 - shift) ys (i - place) false (omega arith))))
+      | inr there ↦ set_or-there words index (bit_or (slice_index words index) v) i there ∙ (clear ∙ sym (get_or_past (take (64 - shift) ys) (i - place) false (omega (arith, length-take (64 - shift) ys))))
+    ])
 
 -- the bits end within the word in which they begin
 pub one_word : (words : List ℕ) (xs ys : List Bool) (place word : ℕ) → Reads words xs → length xs ≡ place → word ≡ word_of ys → place / 64 < length words → place % 64 + length ys ≤ 64
@@ -128,26 +104,11 @@ reads_none = record { each = λ i. is_set-past [] i (omega arith) }
 
 pub reads_join : (ws vs : List ℕ) (xs ys : List Bool) → Reads ws xs → Reads vs ys → length xs ≡ 64 * length ws → Reads (ws ++ vs) (xs ++ ys)
 reads_join ws vs xs ys front back long =
-    record {
-      each = λ i.
-          elim (cases_lt i (64 * length ws)) as (λ _. is_set (ws ++ vs) i ≡ get_or (xs ++ ys) i false) [
-            | inl below ↦ is_set-before ws vs i below ∙ (front.each i ∙ sym (before xs ys (64 * length ws) i long below))
-            | inr from ↦ is_set-behind ws vs i from ∙ (back.each (i - 64 * length ws) ∙ sym (behind xs ys (64 * length ws) i long from))
-          ];
-    }
+    reads_both (ws ++ vs) xs ys (64 * length ws) long (λ i below. is_set-before ws vs i below ∙ front.each i) (λ i from. is_set-behind ws vs i from ∙ back.each (i - 64 * length ws))
 
 pub reads_word : (ys : List Bool) (word : ℕ) → word ≡ word_of ys → length ys ≤ 64 → Reads (word ∷ []) ys
 reads_word ys word is short =
-    record {
-      each = λ i.
-          elim (cases_lt i 64) as (λ _. is_set (word ∷ []) i ≡ get_or ys i false) [
-            | inl below ↦
-                let first : i / 64 ≡ 0 = omega arith in
-                let bit : i % 64 ≡ i = omega arith in
-                ap (λ q. bit_at (slice_index (word ∷ []) q) (i % 64) == 1) first ∙ (ap (λ k. bit_at word k == 1) bit ∙ (ap (λ w. bit_at w i == 1) is ∙ bit_of-word_of ys i))
-            | inr from ↦ is_set-past (word ∷ []) i from ∙ sym (get_or_past ys i false (omega arith))
-          ];
-    }
+    reads_each (word ∷ []) ys 64 short (λ i below. sym (bit_alone word i below) ∙ (ap (λ w. bit_at w i == 1) is ∙ bit_of-word_of ys i)) (λ i past. is_set-past (word ∷ []) i past)
 
 word_of-drop : (ys : List Bool) (n : ℕ) → n ≤ length ys → word_of ys / 2 ^ n ≡ word_of (drop n ys)
 word_of-drop ys n within =
@@ -158,8 +119,7 @@ word_of-drop ys n within =
     ap (λ w. w / 2 ^ n) parts ∙ (add-mul-div_left (word_of low) (word_of (drop n ys)) (pow_pos n) ∙ rw (div-eq_of_lt small) (zero-add (word_of (drop n ys))))
 
 pub no_bits : (words : List ℕ) (xs ys : List Bool) → Reads words xs → length ys ≡ 0 → Reads words (xs ++ ys)
-no_bits words xs [] reads none = rw (append-nil xs) reads
-no_bits words xs (y ∷ ys) reads none = absurd (omega (arith, none))
+no_bits words xs ys reads none = rw (nil_from_length ys none, append-nil xs) reads
 
 -- ---- what `append_word` leaves: behind whole words, within the last word, and over its end
 
@@ -182,44 +142,34 @@ over_end words xs ys place word reads long is short over last =
 
 -- ---- what `append_words` leaves
 
--- whole words of others
-pub reads_part : (others : List ℕ) (from count : ℕ) → from % 64 ≡ 0 → from / 64 + count ≤ length others → Reads (take count (drop (from / 64) others)) (bits_in others from (64 * count))
-reads_part others from count whole within =
-    let part = take count (drop (from / 64) others) in
-    record {
-      each = λ i.
-          elim (cases_lt i (64 * count)) as (λ _. is_set part i ≡ get_or (bits_in others from (64 * count)) i false) [
-            | inl below ↦
-                let word : i / 64 < count = omega arith in
-                let index : from / 64 + i / 64 ≡ (from + i) / 64 = omega arith in
-                let bit : i % 64 ≡ (from + i) % 64 = omega arith in
-                ap (λ w. bit_at w (i % 64) == 1) (get_or-take count (drop (from / 64) others) (i / 64) 0 word ∙ (get_or-drop (from / 64) others (i / 64) 0 ∙ ap (slice_index others) index)) ∙ (ap (λ k. bit_at (slice_index others ((from + i) / 64)) k == 1) bit ∙ sym (get_or-bits_in others from (64 * count) i false below))
-            | inr past ↦ is_set-past part i (omega (arith, length-take count (drop (from / 64) others))) ∙ sym (get_or_past (bits_in others from (64 * count)) i false (omega (arith, length-bits_in others from (64 * count))))
-          ];
-    }
-
--- words whose bits are those
+-- words whose bits are those of others
 pub reads_bits : (words others : List ℕ) (from count : ℕ) → length words ≡ count → ((i : ℕ) → i < 64 * count → is_set words i ≡ is_set others (from + i)) → Reads words (bits_in others from (64 * count))
 reads_bits words others from count long each =
-    record {
-      each = λ i.
-          elim (cases_lt i (64 * count)) as (λ _. is_set words i ≡ get_or (bits_in others from (64 * count)) i false) [
-            | inl below ↦ each i below ∙ sym (get_or-bits_in others from (64 * count) i false below)
-            | inr past ↦ is_set-past words i (omega arith) ∙ sym (get_or_past (bits_in others from (64 * count)) i false (omega (arith, length-bits_in others from (64 * count))))
-          ];
-    }
+    reads_each words (bits_in others from (64 * count)) (64 * count) (omega (arith, length-bits_in others from (64 * count)))
+    (λ i below. each i below ∙ sym (get_or-bits_in others from (64 * count) i false below))
+    (λ i past. is_set-past words i (omega arith))
 
--- a slice that comes back to the words that it was lent from
-pub written : (len : ℕ) (whole words : List ℕ) → len ≡ length whole → take len (whole ++ drop (length whole) words) ≡ whole
-written len whole words long =
-    ap (λ n. take n (whole ++ drop (length whole) words)) (long ∙ sym (add-zero (length whole))) ∙ (take-append-add whole (drop (length whole) words) 0 ∙ append-nil whole)
+-- whole words of them
+pub reads_part : (others : List ℕ) (from count : ℕ) → from % 64 ≡ 0 → from / 64 + count ≤ length others → Reads (take count (drop (from / 64) others)) (bits_in others from (64 * count))
+reads_part others from count whole within =
+    let rest = drop (from / 64) others in
+    reads_bits (take count rest) others from count (omega (arith, length-take count rest, length-drop (from / 64) others)) (λ i below.
+    let index : from / 64 + i / 64 ≡ (from + i) / 64 = omega arith in
+    let bit : i % 64 ≡ (from + i) % 64 = omega arith in
+    let read = get_or-take count rest (i / 64) 0 (omega arith) ∙ get_or-drop (from / 64) others (i / 64) 0 in
+    ap (λ w. bit_at w (i % 64) == 1) read ∙ (λ t. bit_at (slice_index others (index t)) (bit t) == 1))
 
--- and what it held before the slice, of words that were filled up with zeros
+-- and bits of words that have zeros behind them
+pub reads_padded : (words : List ℕ) (len : ℕ) → ((i : ℕ) → len ≤ i → is_set words i ≡ false) → Reads words (bits_in words 0 len)
+reads_padded words len zeros =
+    reads_each words (bits_in words 0 len) len (omega (arith, length-bits_in words 0 len)) (λ i below. sym (get_or-bits_in words 0 len i false below ∙ ap (is_set words) (zero-add i))) zeros
+
+-- what a vector held before a slice of it, and the slice behind, of words that were filled up with zeros
 pub part_written : (place count : ℕ) (old new seen : List ℕ) → place ≡ length old → place ≤ count → seen ≡ take count old ++ replicate (count - length old) 0 → take place seen ++ (new ++ post_of place (length seen - place) seen) ≡ old ++ new
 part_written place count old new seen at more is =
-    let zeros = replicate (count - length old) 0 in
+    let zeros : List ℕ = replicate (count - length old) 0 in
     let filled : seen ≡ old ++ zeros = is ∙ ap (λ front. front ++ zeros) (take_all count old (omega (arith, at, more))) in
-    let front : take place seen ≡ old = (λ i. take (at i) (filled i)) ∙ (ap (λ n. take n (old ++ zeros)) (sym (add-zero (length old))) ∙ (take-append-add old zeros 0 ∙ append-nil old)) in
+    let front = ap (take place) filled ∙ take_at old zeros place (sym at) in
     let none : post_of place (length seen - place) seen ≡ [] = drop_all (length seen - place) (drop place seen) (omega (arith, length-drop place seen)) in
     (λ i. front i ++ (new ++ none i)) ∙ ap (λ xs. old ++ xs) (append-nil new)
 
@@ -233,16 +183,17 @@ reads_equal (suc count) word bit is =
 
 -- ---- one append behind another
 
-pub appends_both : (old mid new : List ℕ) (place next : ℕ) (ys zs : List Bool) → AppendsBits old mid place ys → AppendsBits mid new next zs → next ≡ place + length ys → AppendsBits old new place (ys ++ zs)
-appends_both old mid new place next ys zs front back at = λ xs reads long.
-    let behind_front : length (xs ++ ys) ≡ next = omega (arith, at, long, length-append xs ys) in
-    subst (Reads new) (append_assoc xs ys zs) (back (xs ++ ys) (front xs reads long) behind_front)
+-- bits that are cut in two parts
+pub appends_both : (parts : ℕ → ℕ → List Bool) → ((a n : ℕ) → length (parts a n) ≡ n) → ((a m n : ℕ) → parts a (m + n) ≡ parts a m ++ parts (a + m) n) → (old mid new : List ℕ) (place next from m n all : ℕ) → AppendsBits old mid place (parts from m) → AppendsBits mid new next (parts (from + m) n) → next ≡ place + m → m + n ≡ all
+    → AppendsBits old new place (parts from all)
+appends_both parts long cut old mid new place next from m n all front back at sum = λ xs reads held.
+    let behind : length (xs ++ parts from m) ≡ next = omega (arith, at, held, length-append xs (parts from m), long from m) in
+    let joined = append_assoc xs (parts from m) (parts (from + m) n) ∙ ap (λ bits. xs ++ bits) (sym (cut from m n) ∙ ap (parts from) sum) in
+    subst (Reads new) joined (back (xs ++ parts from m) (front xs reads held) behind)
 
 -- a word of these bits
 pub appends_none : (words others : List ℕ) (place from count : ℕ) → count ≡ 0 → AppendsBits words words place (bits_in others from count)
-appends_none words others place from count none = λ xs reads long.
-    let empty : bits_in others from count ≡ [] = nil_from_length (bits_in others from count) (length-bits_in others from count ∙ none) in
-    subst (Reads words) (sym (ap (λ ys. xs ++ ys) empty ∙ append-nil xs)) reads
+appends_none words others place from count none = λ xs reads long. no_bits words xs (bits_in others from count) reads (length-bits_in others from count ∙ none)
 
 pub word_appends : (old new : List ℕ) (place word count : ℕ) (ys : List Bool) → AppendsWord old new place word count → word ≡ word_of ys → length ys ≡ count → AppendsBits old new place ys
 word_appends old new place word count ys appends is long = λ xs reads at. appends xs ys reads at is long

@@ -1,7 +1,5 @@
 -- Lists of bits against the words that hold them.
-use Rattle.arrow_memory.proofs.Common.{◌≡◌, ℕ, ◌+◌, ◌-◌, ◌*◌, ◌/◌, ◌%◌, ◌^◌, ◌<◌, ◌≤◌, min, replicate, zero, suc, Bool, true, false, not, cond, List, [], ◌∷◌, ◌++◌, length, get_or, take, drop, refl, ap, sym, ◌∙◌, subst, arith, slice_index, zero-add, inl, inr, slice_get, beq, Decides, one_answer, booleans_Decides, pointwise, pointwise_decides, bit_at, count_by, cases_lt, length-replicate, ext_get_or, get_or-replicate, get_or-take, get_or-drop, get_or_append_left, get_or_push, take_all, take_at, drop_at, take_min, drop_min, drop-drop, sum_by-cons, shr_and_one, bit_at-zero, slice_get-get_or, bit_mask_l, sliced, is_set, bits_in, word_of, set_count}
-use Rattle.std.specs.Prelude.{◌==◌, nat_eq, bit_and, Some}
-use Rattle.std.proofs.lemmas.List.{length-append}
+use Rattle.arrow_memory.proofs.Common.{◌≡◌, ℕ, ◌+◌, ◌-◌, ◌*◌, ◌/◌, ◌%◌, ◌^◌, ◌<◌, ◌≤◌, ◌==◌, min, replicate, Bool, true, false, not, cond, List, [], ◌∷◌, ◌++◌, length, map, get_or, take, drop, refl, ap, sym, ◌∙◌, arith, slice_index, zero-add, inl, inr, Some, nat_eq, bit_and, slice_get, beq, Decides, one_answer, booleans_Decides, pointwise, pointwise_decides, bit_at, count_by, cases_lt, length-append, length-replicate, ext_get_or, fill_by_all, range_with_len, get_or-replicate, get_or-take, get_or-drop, get_or_append_left, get_or_push, take_all, take_at, drop_at, take_min, drop_min, drop-drop, sum_by-cons, shr_and_one, slice_get-get_or, bit_mask_l, sliced, is_set, bits_in, word_of, set_count}
 use Rattle.arrow_memory.proofs.SlicedLemmas.{length-sliced, same_joined, sliced-clamped}
 use Rattle.arrow_memory.proofs.WordLemmas.{length-bits_in, get_or-bits_in}
 
@@ -20,6 +18,11 @@ digit_is false = refl
 -- a bit of a word that holds a list of bits
 pub bit_of-word_of : (bits : List Bool) (k : ℕ) → (bit_at (word_of bits) k == 1) ≡ get_or bits k false
 bit_of-word_of bits k = ap (λ x. nat_eq x 1) (bit_mask_l bits k) ∙ digit_is (get_or bits k false)
+
+-- a bit of a word that holds a part of a list
+pub bit_of-word : (bits : List Bool) (place count word k : ℕ) → k < count → word ≡ word_of (sliced bits place count) → (bit_at word k == 1) ≡ get_or bits (place + k) false
+bit_of-word bits place count word k within read =
+    ap (λ w. bit_at w k == 1) read ∙ (bit_of-word_of (sliced bits place count) k ∙ (get_or-take count (drop place bits) k false within ∙ get_or-drop place bits k false))
 
 -- ---- equality by words
 
@@ -50,14 +53,12 @@ all_decide xs ys n result long other_long told =
 pub record Packs (words : List ℕ) (bits : List Bool) : Type 0 where
   pub each : (i : ℕ) → i < 64 * length words → is_set words i ≡ get_or bits i false
 
--- the next 64 bits, or what is left
-chunk_is : (rest chunk next : List Bool) → rest ≡ chunk ++ next → length chunk ≡ min 64 (length rest) → chunk ≡ take 64 rest
-chunk_is rest chunk next e long =
-    sym (take_at chunk next (length chunk) refl) ∙ (ap (take (length chunk)) (sym e) ∙ (ap (λ n. take n rest) long ∙ take_min 64 rest))
-
-next_is : (rest chunk next : List Bool) → rest ≡ chunk ++ next → length chunk ≡ min 64 (length rest) → next ≡ drop 64 rest
-next_is rest chunk next e long =
-    sym (drop_at chunk next (length chunk) refl) ∙ (ap (drop (length chunk)) (sym e) ∙ (ap (λ n. drop n rest) long ∙ drop_min 64 rest))
+-- the next 64 bits, or what is left, and those behind them
+next_bits : (rest chunk next : List Bool) → rest ≡ chunk ++ next → length chunk ≡ min 64 (length rest) → (chunk ≡ take 64 rest) × (next ≡ drop 64 rest)
+next_bits rest chunk next e long = (
+  sym (take_at chunk next (length chunk) refl) ∙ ((λ i. take (long i) (sym e i)) ∙ take_min 64 rest),
+  sym (drop_at chunk next (length chunk) refl) ∙ ((λ i. drop (long i) (sym e i)) ∙ drop_min 64 rest),
+)
 
 -- one more word, of the next 64 bits
 pub Packs-more : (words : List ℕ) (bits rest chunk next : List Bool) → Packs words bits → rest ≡ drop (64 * length words) bits → rest ≡ chunk ++ next → length chunk ≡ min 64 (length rest) → Packs (words ++ word_of chunk ∷ []) bits
@@ -71,26 +72,17 @@ Packs-more words bits rest chunk next packs left e long =
                 let earlier : i / 64 < length words = omega arith in
                 ap (λ word. bit_at word (i % 64) == 1) (get_or_append_left words (word_of chunk ∷ []) 0 (i / 64) earlier) ∙ packs.each i before
             | inr from ↦
-                let last : i / 64 ≡ length words = omega arith in
-                let below : i % 64 < 64 = omega arith in
+                let last : length words ≡ i / 64 = omega arith in
                 let place : 64 * length words + i % 64 ≡ i = omega arith in
-                let read : slice_index more (i / 64) ≡ word_of chunk = get_or_push words (word_of chunk) 0 (i / 64) (sym last) in
-                ap (λ word. bit_at word (i % 64) == 1) read ∙ (bit_of-word_of chunk (i % 64) ∙ (ap (λ xs. get_or xs (i % 64) false) (chunk_is rest chunk next e long) ∙ (get_or-take 64 rest (i % 64) false below ∙ (ap (λ xs. get_or xs (i % 64) false) left ∙ (get_or-drop (64 * length words) bits (i % 64) false ∙ ap (λ k. get_or bits k false) place)))))
+                let made = ap word_of ((next_bits rest chunk next e long).0 ∙ ap (take 64) left) in
+                ap (λ word. bit_at word (i % 64) == 1) (get_or_push words (word_of chunk) 0 (i / 64) last) ∙ (bit_of-word bits (64 * length words) 64 (word_of chunk) (i % 64) (omega arith) made ∙ ap (λ k. get_or bits k false) place)
           ];
     }
 
 pub drop-more : (n : ℕ) (bits rest chunk next : List Bool) → rest ≡ drop (64 * n) bits → rest ≡ chunk ++ next → length chunk ≡ min 64 (length rest) → next ≡ drop (64 * (n + 1)) bits
 drop-more n bits rest chunk next left e long =
     let place : 64 * n + 64 ≡ 64 * (n + 1) = omega arith in
-    next_is rest chunk next e long ∙ (ap (drop 64) left ∙ (drop-drop 64 (64 * n) bits ∙ ap (λ k. drop k bits) place))
-
-pub bits_in-packed : (words : List ℕ) (bits : List Bool) → Packs words bits → length bits ≤ 64 * length words → bits_in words 0 (length bits) ≡ bits
-bits_in-packed words bits packs within =
-    ext_get_or false (bits_in words 0 (length bits)) bits (length-bits_in words 0 (length bits))
-    (λ i h.
-    let below : i < length bits = omega (arith, h, length-bits_in words 0 (length bits)) in
-    let inside : i < 64 * length words = omega arith in
-    get_or-bits_in words 0 (length bits) i false below ∙ (ap (is_set words) (zero-add i) ∙ packs.each i inside))
+    (next_bits rest chunk next e long).1 ∙ (ap (drop 64) left ∙ (drop-drop 64 (64 * n) bits ∙ ap (λ k. drop k bits) place))
 
 -- ---- what the methods read
 
@@ -111,38 +103,31 @@ unset_count words offset len seen ones e counted =
 
 -- ---- bits of words
 
--- the bits that words hold, one by one
+-- a list by its places, and the bits that words hold
+pub by_place : (bits : List Bool) (n : ℕ) → length bits ≡ n → bits ≡ map (λ k. get_or bits k false) (range_with_len 0 n)
+by_place bits n long = fill_by_all (λ k. get_or bits k false) bits n false long (λ k below. refl)
+
+pub bits_by_place : (words : List ℕ) (n : ℕ) (f : ℕ → Bool) → ((k : ℕ) → k < n → is_set words k ≡ f k) → bits_in words 0 n ≡ map f (range_with_len 0 n)
+bits_by_place words n f each =
+    fill_by_all f (bits_in words 0 n) n false (length-bits_in words 0 n) (λ k below. get_or-bits_in words 0 n k false below ∙ (ap (is_set words) (zero-add k) ∙ each k below))
+
 pub bits_in_is : (words : List ℕ) (bits : List Bool) → ((i : ℕ) → i < length bits → is_set words i ≡ get_or bits i false) → bits_in words 0 (length bits) ≡ bits
-bits_in_is words bits each =
-    ext_get_or false (bits_in words 0 (length bits)) bits (length-bits_in words 0 (length bits))
-    (λ i h.
-    let below : i < length bits = omega (arith, h, length-bits_in words 0 (length bits)) in
-    get_or-bits_in words 0 (length bits) i false below ∙ (ap (is_set words) (zero-add i) ∙ each i below))
+bits_in_is words bits each = bits_by_place words (length bits) (λ k. get_or bits k false) each ∙ sym (by_place bits (length bits) refl)
 
-pub get_or-replicate_same : (n i : ℕ) → get_or (replicate n false) i false ≡ false
-get_or-replicate_same zero i = refl
-get_or-replicate_same (suc n) zero = refl
-get_or-replicate_same (suc n) (suc i) = get_or-replicate_same n i
-
-pub slice_index-zeros : (n k : ℕ) → slice_index (replicate n 0) k ≡ 0
-slice_index-zeros zero k = refl
-slice_index-zeros (suc n) zero = refl
-slice_index-zeros (suc n) (suc k) = slice_index-zeros n k
-
--- words of zeros hold bits that are not set
-pub bits_in-zeros : (words : List ℕ) (len : ℕ) → ((k : ℕ) → slice_index words k ≡ 0) → bits_in words 0 len ≡ replicate len false
-bits_in-zeros words len each =
-    let seen = bits_in_is words (replicate len false) (λ i h. ap (λ word. bit_at word (i % 64) == 1) (each (i / 64)) ∙ (ap (λ x. x == 1) (bit_at-zero (i % 64)) ∙ sym (get_or-replicate_same len i))) in
-    subst (λ n. bits_in words 0 n ≡ replicate len false) (length-replicate len false) seen
+-- bits that are all equal
+pub run_is : (bits : List Bool) (n : ℕ) (bit : Bool) → length bits ≡ n → ((i : ℕ) → i < n → get_or bits i false ≡ bit) → bits ≡ replicate n bit
+run_is bits n bit long each =
+    ext_get_or false bits (replicate n bit) (long ∙ sym (length-replicate n bit)) (λ i within.
+    let below : i < n = omega arith in
+    each i below ∙ sym (get_or-replicate n i bit false below))
 
 -- words of equal bits hold such bits
 pub bits_in-constant : (words : List ℕ) (value : Bool) (n word len : ℕ) → words ≡ replicate n word → len ≤ 64 * n → word ≡ word_of (replicate 64 value) → bits_in words 0 len ≡ replicate len value
 bits_in-constant words value n word len all within is =
-    subst (λ m. bits_in words 0 m ≡ replicate len value) (length-replicate len value) (bits_in_is words (replicate len value) (λ i h.
-    let below : i < len = omega (arith, h, length-replicate len value) in
-    let in_word : i % 64 < 64 = omega arith in
-    let read : slice_index words (i / 64) ≡ word = ap (λ xs. slice_index xs (i / 64)) all ∙ get_or-replicate n (i / 64) word 0 (omega (arith, below, within)) in
-    ap (λ w. bit_at w (i % 64) == 1) (read ∙ is) ∙ (bit_of-word_of (replicate 64 value) (i % 64) ∙ (get_or-replicate 64 (i % 64) value false in_word ∙ sym (get_or-replicate len i value false below)))))
+    run_is (bits_in words 0 len) len value (length-bits_in words 0 len) (λ i below.
+    let read = ap (λ xs. slice_index xs (i / 64)) all ∙ get_or-replicate n (i / 64) word 0 (omega arith) in
+    let bit = ap (λ w. bit_at w (i % 64) == 1) (read ∙ is) ∙ (bit_of-word_of (replicate 64 value) (i % 64) ∙ get_or-replicate 64 (i % 64) value false (omega arith)) in
+    get_or-bits_in words 0 len i false below ∙ (ap (is_set words) (zero-add i) ∙ bit))
 
 -- ---- one word of the bits
 
@@ -152,8 +137,3 @@ word_clamped bits j len product start count word counted small product_is start_
     let from : start ≡ min (64 * j) (length bits) = omega (arith, counted, small, product_is, start_is) in
     let many : count ≡ min 64 (length bits - min (64 * j) (length bits)) = omega (arith, count_is, counted, from) in
     read ∙ ap word_of ((λ t. sliced bits (from t) (many t)) ∙ sliced-clamped bits (64 * j) 64)
-
--- one bit of them
-pub bit_of-word : (bits : List Bool) (place word k : ℕ) → k < 64 → word ≡ word_of (sliced bits place 64) → (bit_at word k == 1) ≡ get_or bits (place + k) false
-bit_of-word bits place word k within read =
-    ap (λ w. bit_at w k == 1) read ∙ (bit_of-word_of (sliced bits place 64) k ∙ (get_or-take 64 (drop place bits) k false within ∙ get_or-drop place bits k false))

@@ -1,8 +1,7 @@
 -- What four bits give, in words and in lists.
-use Rattle.arrow_memory.proofs.Common.{◌≡◌, ℕ, ◌+◌, ◌*◌, ◌/◌, ◌%◌, ◌<◌, zero, suc, Bool, false, List, [], ◌∷◌, length, get_or, refl, ap, sym, ◌∙◌, arith, slice_index, set, bit_at, by_fours, is_set, bits_in, word_of}
-use Rattle.std.specs.Prelude.{◌==◌}
-use Rattle.arrow_memory.proofs.BitmapLemmas.{bits_in_is}
-use Rattle.arrow_memory.proofs.LogicLemmas.{GivesUpTo, bit_from, gives_more}
+use Rattle.arrow_memory.proofs.Common.{◌≡◌, ℕ, ◌+◌, ◌*◌, ◌%◌, ◌<◌, ◌==◌, Bool, false, List, [], ◌∷◌, length, map, get_or, refl, ap, sym, ◌∙◌, arith, slice_index, set, bit_at, range_with_len, by_fours, is_set, bits_in, word_of}
+use Rattle.arrow_memory.proofs.BitmapLemmas.{bits_by_place, by_place}
+use Rattle.arrow_memory.proofs.LogicLemmas.{GivesUpTo, gives_more, read_at}
 use Rattle.arrow_memory.proofs.WordLemmas.{length-bits_in, get_or-bits_in}
 
 -- what each bit of words gives with those of three others, from a bit of each on
@@ -11,11 +10,6 @@ give_at bits ys y zs z ws w bit i = bits bit (is_set ys (y + i)) (is_set zs (z +
 
 abbrev pub GivesFoursUpTo : (Bool → Bool → Bool → Bool → Bool) → List ℕ → ℕ → List ℕ → ℕ → List ℕ → ℕ → List ℕ → List ℕ → ℕ → Type 0
 GivesFoursUpTo bits ys y zs z ws w = GivesUpTo (give_at bits ys y zs z ws w)
-
--- a bit of a word that is read of others
-read_at : (words : List ℕ) (from j value i : ℕ) → value ≡ word_of (bits_in words (from + 64 * j) 64) → i / 64 ≡ j → (bit_at value (i % 64) == 1) ≡ is_set words (from + i)
-read_at words from j value i is here =
-    ap (λ w. bit_at w (i % 64) == 1) (is ∙ ap (λ q. word_of (bits_in words (from + 64 * q) 64)) (sym here)) ∙ bit_from words from i
 
 -- one word more
 pub fours_more : (bits : Bool → Bool → Bool → Bool → Bool) (ys : List ℕ) (y : ℕ) (zs : List ℕ) (z : ℕ) (ws : List ℕ) (w : ℕ) (old words : List ℕ) (j b c d value : ℕ)
@@ -33,29 +27,16 @@ fours_more bits ys y zs z ws w old words j b c d value before within b_is c_is d
 
 -- ---- lists of bits
 
-pub length-by_fours : (give : Bool → Bool → Bool → Bool → Bool) (xs ys zs ws : List Bool) → length xs ≡ length ys → length xs ≡ length zs → length xs ≡ length ws → length (by_fours give xs ys zs ws) ≡ length xs
-length-by_fours give [] ys zs ws a b c = refl
-length-by_fours give (x ∷ xs) [] zs ws a b c = absurd (omega (arith, a))
-length-by_fours give (x ∷ xs) (y ∷ ys) [] ws a b c = absurd (omega (arith, b))
-length-by_fours give (x ∷ xs) (y ∷ ys) (z ∷ zs) [] a b c = absurd (omega (arith, c))
-length-by_fours give (x ∷ xs) (y ∷ ys) (z ∷ zs) (w ∷ ws) a b c =
-    omega (arith, length-by_fours give xs ys zs ws (omega (arith, a)) (omega (arith, b)) (omega (arith, c)))
-
-get_or-by_fours : (give : Bool → Bool → Bool → Bool → Bool) (xs ys zs ws : List Bool) (i : ℕ) → length xs ≡ length ys → length xs ≡ length zs → length xs ≡ length ws → i < length xs
-    → give (get_or xs i false) (get_or ys i false) (get_or zs i false) (get_or ws i false) ≡ get_or (by_fours give xs ys zs ws) i false
-get_or-by_fours give [] ys zs ws i a b c within = absurd (omega (arith, within))
-get_or-by_fours give (x ∷ xs) [] zs ws i a b c within = absurd (omega (arith, a))
-get_or-by_fours give (x ∷ xs) (y ∷ ys) [] ws i a b c within = absurd (omega (arith, b))
-get_or-by_fours give (x ∷ xs) (y ∷ ys) (z ∷ zs) [] i a b c within = absurd (omega (arith, c))
-get_or-by_fours give (x ∷ xs) (y ∷ ys) (z ∷ zs) (w ∷ ws) zero a b c within = refl
-get_or-by_fours give (x ∷ xs) (y ∷ ys) (z ∷ zs) (w ∷ ws) (suc i) a b c within =
-    get_or-by_fours give xs ys zs ws i (omega (arith, a)) (omega (arith, b)) (omega (arith, c)) (omega (arith, within))
+fours : (f g h k : ℕ → Bool) (give : Bool → Bool → Bool → Bool → Bool) (ns : List ℕ) → by_fours give (map f ns) (map g ns) (map h ns) (map k ns) ≡ map (λ n. give (f n) (g n) (h n) (k n)) ns
+fours f g h k give [] = refl
+fours f g h k give (n ∷ ns) = ap (λ bits. give (f n) (g n) (h n) (k n) ∷ bits) (fours f g h k give ns)
 
 pub bits_in-by_fours : (give : Bool → Bool → Bool → Bool → Bool) (words : List ℕ) (xs ys zs ws : List Bool) → length xs ≡ length ys → length xs ≡ length zs → length xs ≡ length ws
     → ((i : ℕ) → i < length xs → is_set words i ≡ give (get_or xs i false) (get_or ys i false) (get_or zs i false) (get_or ws i false)) → bits_in words 0 (length xs) ≡ by_fours give xs ys zs ws
 bits_in-by_fours give words xs ys zs ws a b c each =
-    let long = length-by_fours give xs ys zs ws a b c in
-    rw (← long) (bits_in_is words (by_fours give xs ys zs ws) (λ i h. each i (omega arith) ∙ get_or-by_fours give xs ys zs ws i a b c (omega arith)))
+    let n = length xs in
+    let places = fours (λ k. get_or xs k false) (λ k. get_or ys k false) (λ k. get_or zs k false) (λ k. get_or ws k false) give (range_with_len 0 n) in
+    bits_by_place words n (λ k. give (get_or xs k false) (get_or ys k false) (get_or zs k false) (get_or ws k false)) each ∙ sym ((λ t. by_fours give (by_place xs n refl t) (by_place ys n (sym a) t) (by_place zs n (sym b) t) (by_place ws n (sym c) t)) ∙ places)
 
 -- a bit of the words that hold another bitmap, of as many bits
 pub bit_behind : (read : List ℕ) (xs seen : List Bool) (words : List ℕ) (offset len : ℕ) → read ≡ words → bits_in words offset len ≡ seen → length xs ≡ length seen → (i : ℕ) → i < length xs → is_set read (offset + i) ≡ get_or seen i false

@@ -1,66 +1,48 @@
 -- What closures answer, gathered in words and in bits.
-use Rattle.arrow_memory.proofs.Common.{◌≡◌, ◌∙◌, ℕ, get_or, ◌+◌, ◌-◌, ◌*◌, ◌/◌, ◌%◌, ◌^◌, ◌<◌, min, Bool, List, [], ◌∷◌, ◌++◌, length, slice_index, arith, ap, sym, subst, refl, inl, inr, zero-add, bit_or, bit_at, from_bool, or_shifted_r, pow-le-pow_right, mask_l-lt, common_steps, cases_lt, get_or_append_left, get_or-append_right, get_or_push, length_push, AnswersBits, AnswersWords, GathersBits, is_set, word_of}
-use Rattle.std.specs.Prelude.{◌==◌, true, false}
-use Rattle.arrow_memory.proofs.BitLemmas.{word_more}
+use Rattle.arrow_memory.proofs.Common.{◌≡◌, ◌∙◌, ℕ, get_or, ◌+◌, ◌-◌, ◌*◌, ◌/◌, ◌%◌, ◌^◌, ◌<◌, ◌==◌, min, Bool, false, List, [], ◌∷◌, ◌++◌, length, slice_index, arith, ap, sym, subst, refl, inl, inr, zero-add, add-zero, bit_or, bit_at, from_bool, common_steps, cases_lt, get_or_append_left, get_or-append_right, length_push, AnswersBits, AnswersWords, GathersBits, is_set}
 use Rattle.arrow_memory.proofs.BitmapLemmas.{bit_of-word_of}
-use Rattle.arrow_memory.proofs.WordLemmas.{get_or-bits_in, length-bits_in, word_of-append}
+use Rattle.arrow_memory.proofs.WordLemmas.{get_or-bits_in, length-bits_in, one_bit, word_and_more}
+
+-- what is said of each member of two lists holds of one list behind the other
+each_behind : {A : Type 0} (P : ℕ → A → Type 0) (xs ys : List A) (d : A) (n m : ℕ) → length xs ≡ n → ((i : ℕ) → i < n → P i (get_or xs i d)) → ((i : ℕ) → i < m → P (n + i) (get_or ys i d)) → (i : ℕ) → i < n + m → P i (get_or (xs ++ ys) i d)
+each_behind P xs ys d n m long front back i within =
+    elim (cases_lt i n) as (λ _. P i (get_or (xs ++ ys) i d)) [
+      | inl before ↦ subst (P i) (sym (get_or_append_left xs ys d i (omega arith))) (front i before)
+      | inr from ↦
+          let at : n + (i - n) ≡ i = omega arith in
+          rw (get_or-append_right xs ys n i d long from) (subst (λ k. P k (get_or ys (i - n) d)) at (back (i - n) (omega arith)))
+    ]
+
+each_pushed : {A : Type 0} (P : ℕ → A → Type 0) (xs : List A) (y d : A) (n : ℕ) → length xs ≡ n → ((i : ℕ) → i < n → P i (get_or xs i d)) → P n y → (i : ℕ) → i < n + 1 → P i (get_or (xs ++ y ∷ []) i d)
+each_pushed P xs y d n long front last =
+    each_behind P xs (y ∷ []) d n 1 long front (λ i below.
+    let first : 0 ≡ i = omega arith in
+    subst (λ k. P (n + k) (get_or (y ∷ []) k d)) first (rw (add-zero n) last))
 
 -- ---- the bits of one word
 
 pub gathers_none : (answered : ℕ → Bool → Type 0) (start : ℕ) → GathersBits answered start 0 0
 gathers_none answered start = record { bits = []; long = refl; is = refl; each = λ k below. absurd (omega (arith, below)) }
 
--- one more
-last_bit : (bits : List Bool) (bit : Bool) (k : ℕ) → length bits ≡ k → get_or (bits ++ bit ∷ []) k false ≡ bit
-last_bit [] bit k long = rw (sym long) refl
-last_bit (b ∷ bits) bit k long = rw (sym long) (last_bit bits bit (length bits) refl)
-
-pub gathers_more : (answered : ℕ → Bool → Type 0) (start k word : ℕ) (bit : Bool) → k < 64 → GathersBits answered start k word → answered (start + k) bit → GathersBits answered start (k + 1) (bit_or word (from_bool bit * 2 ^ k % 18446744073709551616))
-gathers_more answered start k word bit below so_far one = record {
+-- one more, in a word of so many bits
+pub gathers_more : (answered : ℕ → Bool → Type 0) (start k word w : ℕ) (bit : Bool) → k < w → GathersBits answered start k word → answered (start + k) bit → GathersBits answered start (k + 1) (bit_or word (from_bool bit * 2 ^ k % 2 ^ w))
+gathers_more answered start k word w bit below so_far one = record {
   bits = so_far.bits ++ bit ∷ [];
   long = grind (arith, common_steps, so_far.long);
-  is = word_more so_far.bits bit word k so_far.long below so_far.is;
-  each = λ i within. elim (cases_lt i k) as (λ _. answered (start + i) (get_or (so_far.bits ++ bit ∷ []) i false)) [
-    | inl before ↦ subst (answered (start + i)) (sym (get_or_append_left so_far.bits (bit ∷ []) false i (omega (arith, before, so_far.long)))) (so_far.each i before)
-    | inr from ↦
-        let here : i ≡ k = omega (arith, within, from) in
-        rw here (subst (answered (start + k)) (sym (last_bit so_far.bits bit k so_far.long)) one)
-  ];
+  is = word_and_more so_far.bits (bit ∷ []) word (from_bool bit) k w so_far.is so_far.long (omega arith) (one_bit bit);
+  each = each_pushed (λ i. answered (start + i)) so_far.bits bit false k so_far.long so_far.each one;
 }
 
--- the same in 32 bits
-same_shift : (bit : Bool) (k : ℕ) → k < 32 → from_bool bit * 2 ^ k % 18446744073709551616 ≡ from_bool bit * 2 ^ k % 4294967296
-same_shift true k below =
-    let power = pow-le-pow_right {n = 2} (omega arith) {i = k} {j = 31} (omega (arith, below)) in omega (arith, power)
-same_shift false k below = omega arith
-
-pub gathers_half : (answered : ℕ → Bool → Type 0) (start k word : ℕ) (bit : Bool) → k < 32 → GathersBits answered start k word → answered (start + k) bit → GathersBits answered start (k + 1) (bit_or word (from_bool bit * 2 ^ k % 4294967296))
-gathers_half answered start k word bit below so_far one =
-    subst (λ shifted. GathersBits answered start (k + 1) (bit_or word shifted)) (same_shift bit k below) (gathers_more answered start k word bit (omega (arith, below)) so_far one)
-
 -- two words, one above the other
-small_word : (bits : List Bool) (n word : ℕ) → word ≡ word_of bits → length bits ≡ n → word < 2 ^ n
-small_word bits n word is long = rw (is, sym long) (mask_l-lt bits)
-
-joined_word : (xs ys : List Bool) (n low high : ℕ) → low ≡ word_of xs → length xs ≡ n → high ≡ word_of ys → bit_or low (high * 2 ^ n) ≡ word_of (xs ++ ys)
-joined_word xs ys n low high is long other =
-    rw (or_shifted_r high n low (small_word xs n low is long), word_of-append xs ys, long, is, other) (omega arith)
-
 pub gathers_both : (answered : ℕ → Bool → Type 0) (start low high : ℕ) → GathersBits answered start 32 low → GathersBits answered (start + 32) 32 high → GathersBits answered start 64 (bit_or low (high * 4294967296 % 18446744073709551616))
-gathers_both answered start low high first second =
-    let fits : high < 2 ^ 32 = small_word second.bits 32 high second.is second.long in
-    let room : high * 4294967296 % 18446744073709551616 ≡ high * 2 ^ 32 = omega (arith, fits) in
-    record {
-      bits = first.bits ++ second.bits;
-      long = grind (arith, common_steps, first.long, second.long);
-      is = ap (bit_or low) room ∙ joined_word first.bits second.bits 32 low high first.is first.long second.is;
-      each = λ i within. elim (cases_lt i 32) as (λ _. answered (start + i) (get_or (first.bits ++ second.bits) i false)) [
-        | inl before ↦ subst (answered (start + i)) (sym (get_or_append_left first.bits second.bits false i (omega (arith, before, first.long)))) (first.each i before)
-        | inr from ↦
-            let place : start + 32 + (i - 32) ≡ start + i = omega (arith, from) in
-            subst (λ row. answered row (get_or (first.bits ++ second.bits) i false)) place (subst (answered (start + 32 + (i - 32))) (sym (get_or-append_right first.bits second.bits 32 i false first.long from)) (second.each (i - 32) (omega (arith, from, within))))
-      ];
-    }
+gathers_both answered start low high first second = record {
+  bits = first.bits ++ second.bits;
+  long = grind (arith, common_steps, first.long, second.long);
+  is = word_and_more first.bits second.bits low high 32 64 first.is first.long (omega (arith, second.long)) second.is;
+  each = each_behind (λ i. answered (start + i)) first.bits second.bits false 32 32 first.long first.each (λ i below.
+      let place : start + 32 + i ≡ start + (32 + i) = omega arith in
+      subst (λ row. answered row (get_or second.bits i false)) place (second.each i below));
+}
 
 pub gathers_all : (answered : ℕ → Bool → Type 0) (start k count word : ℕ) → k ≡ count → GathersBits answered start k word → GathersBits answered start count word
 gathers_all answered start k count word all gathered = subst (λ n. GathersBits answered start n word) all gathered
@@ -75,13 +57,7 @@ pub record AnswersUpTo (answered : ℕ → ℕ → Type 0) (words : List ℕ) (j
 pub answers_more : (answered : ℕ → ℕ → Type 0) (words : List ℕ) (j word : ℕ) → AnswersUpTo answered words j → answered j word → AnswersUpTo answered (words ++ word ∷ []) (j + 1)
 answers_more answered words j word so_far one = record {
   long = omega (arith, length_push words word, so_far.long);
-  each = λ i below.
-      elim (cases_lt i j) as (λ _. answered i (slice_index (words ++ word ∷ []) i)) [
-        | inl before ↦ subst (answered i) (sym (get_or_append_left words (word ∷ []) 0 i (omega (arith, before, so_far.long)))) (so_far.each i before)
-        | inr from ↦
-            let here : i ≡ j = omega (arith, below, from) in
-            subst (answered i) (sym (get_or_push words word 0 i (so_far.long ∙ sym here))) (subst (λ n. answered n word) (sym here) one)
-      ];
+  each = each_pushed answered words word 0 j so_far.long so_far.each one;
 }
 
 -- bits that were answered a word at a time, each word a row at a time

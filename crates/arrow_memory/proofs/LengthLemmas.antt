@@ -1,15 +1,13 @@
 -- How long rows are by the bits of a word, and where rows of such lengths end.
-use Rattle.arrow_memory.proofs.Common.{◌≡◌, ℕ, zero, suc, ◌+◌, ◌-◌, ◌/◌, ◌%◌, ◌*◌, ◌^◌, ◌<◌, ◌≤◌, ◌==◌, ℤ, pos, ◌-ℤ◌, ◌≤ℤ◌, Bool, true, false, List, [], ◌∷◌, ◌++◌, length, map, drop, get_or, slice_index, unsigned_abs, if◌then◌else◌, bit_and, nat_eq, refl, ap, sym, ◌∙◌, append_assoc, arith, bit_at, range_with_len, sum, div-add-mod, ints, drop_more, length-map, map-append, map-range_with_len_more, sum_by-cons, bit_at_cat_low, shr_and_one, shr-shr, ends_from, word_length, word_lengths, valid_length, valid_items, valid_ends, is_set, bits_in}
+use Rattle.arrow_memory.proofs.Common.{◌≡◌, ℕ, zero, suc, ◌+◌, ◌-◌, ◌/◌, ◌%◌, ◌^◌, ◌<◌, ◌≤◌, ◌==◌, ℤ, pos, ◌-ℤ◌, ◌≤ℤ◌, Bool, true, false, List, [], ◌∷◌, ◌++◌, length, map, drop, get_or, slice_index, unsigned_abs, if◌then◌else◌, bit_and, nat_eq, refl, ap, sym, ◌∙◌, append_assoc, append-nil, arith, bit_at, range_with_len, sum, ints, drop_more, length-map, map-append, map-range_with_len_more, sum_by-cons, shr_and_one, shr-shr, ends_from, word_length, word_lengths, valid_items, valid_ends, bits_in}
 use Rattle.arrow_memory.proofs.OffsetLemmas.{number_at, same_at}
+use Rattle.arrow_memory.proofs.WordLemmas.{bit_at-low, low_bits_in}
 
 -- ---- rows by the bits of a word
 
 -- a bit of 32 bits of a word
 pub part_bit : (word first k : ℕ) → k < 32 → (bit_at (word / 2 ^ first % 4294967296) k == 1) ≡ (bit_at word (first + k) == 1)
-part_bit word first k below =
-    let behind = word / 2 ^ first in
-    let all : behind / 4294967296 * 2 ^ 32 + behind % 4294967296 ≡ behind = omega (arith, div-add-mod behind 4294967296) in
-    ap (λ b. b == 1) (sym (bit_at_cat_low (behind / 4294967296) 32 (behind % 4294967296) k below) ∙ (ap (λ n. bit_at n k) all ∙ ap (λ n. n % 2) (shr-shr word first k)))
+part_bit word first k below = ap (λ b. b == 1) (bit_at-low (word / 2 ^ first) 32 k below ∙ ap (λ n. n % 2) (shr-shr word first k))
 
 -- one row more, by a bit of a part of the word and the offsets on both sides of it
 pub length_next : {A : Type 0} (f : A → ℤ) (old new : List A) (x : A) (word part : ℕ) (os : List ℕ) (start done k : ℕ) (begin end : ℤ) → (bit_at part k == 1) ≡ (bit_at word (done + k) == 1) → new ≡ old ++ x ∷ [] → f x ≡ (if nat_eq (bit_and (part / 2 ^ k) 1) 1 then end -ℤ begin else pos 0) → begin ≡ pos (slice_index os (start + done + k)) → end ≡ pos (slice_index os (start + done + k + 1)) → begin ≤ℤ end → map f old ≡ map pos (word_lengths word os start (done + k)) → map f new ≡ map pos (word_lengths word os start (done + k + 1))
@@ -27,42 +25,31 @@ length_next f old new x word part os start done k begin end same is value here t
 
 -- ---- where they end
 
--- rows under some bits end where rows of their lengths do
-module _ (f g : ℕ → Bool) (os : List ℕ) (start : ℕ) where
-  pub ends_by_lengths : (place a n : ℕ) → ((k : ℕ) → k < a + n → f k ≡ g k) → valid_ends place (map f (range_with_len a n)) os (start + a) ≡ ends_from place (map (λ k. valid_length (g k) os (start + k)) (range_with_len a n))
-  ends_by_lengths place a zero same = refl
-  ends_by_lengths place a (suc n) same =
-      let here : valid_length (f a) os (start + a) ≡ valid_length (g a) os (start + a) = ap (λ b. valid_length b os (start + a)) (same a (omega arith)) in
+-- rows under some bits of a word end where rows of their lengths do
+module _ (word : ℕ) (os : List ℕ) (start : ℕ) where
+  ends_by_lengths : (place a n : ℕ) → valid_ends place (map (λ k. bit_at word k == 1) (range_with_len a n)) os (start + a) ≡ ends_from place (map (word_length word os start) (range_with_len a n))
+  ends_by_lengths place a zero = refl
+  ends_by_lengths place a (suc n) =
       let at : start + a + 1 ≡ start + (a + 1) = omega arith in
-      let rest = ends_by_lengths (place + valid_length (g a) os (start + a)) (a + 1) n (λ k below. same k (omega (arith, below))) in
-      (λ t. (place + here t) ∷ valid_ends (place + here t) (map f (range_with_len (a + 1) n)) os (at t)) ∙ ap (λ es. (place + valid_length (g a) os (start + a)) ∷ es) rest
+      let next = place + word_length word os start a in
+      ap (λ ends. next ∷ ends) (ap (valid_ends next (map (λ k. bit_at word k == 1) (range_with_len (a + 1) n)) os) at ∙ ends_by_lengths next (a + 1) n)
 
-  pub items_by_lengths : (a n : ℕ) → ((k : ℕ) → k < a + n → f k ≡ g k) → valid_items (map f (range_with_len a n)) os (start + a) ≡ sum (map (λ k. valid_length (g k) os (start + k)) (range_with_len a n))
-  items_by_lengths a zero same = refl
-  items_by_lengths a (suc n) same =
-      let here : valid_length (f a) os (start + a) ≡ valid_length (g a) os (start + a) = ap (λ b. valid_length b os (start + a)) (same a (omega arith)) in
+  items_by_lengths : (a n : ℕ) → valid_items (map (λ k. bit_at word k == 1) (range_with_len a n)) os (start + a) ≡ sum (map (word_length word os start) (range_with_len a n))
+  items_by_lengths a zero = refl
+  items_by_lengths a (suc n) =
       let at : start + a + 1 ≡ start + (a + 1) = omega arith in
-      let rest = items_by_lengths (a + 1) n (λ k below. same k (omega (arith, below))) in
-      (λ t. here t + valid_items (map f (range_with_len (a + 1) n)) os (at t)) ∙ (ap (λ m. valid_length (g a) os (start + a) + m) rest ∙ sym (sum_by-cons (λ m. m) (valid_length (g a) os (start + a)) (map (λ k. valid_length (g k) os (start + k)) (range_with_len (a + 1) n))))
+      let rest = ap (valid_items (map (λ k. bit_at word k == 1) (range_with_len (a + 1) n)) os) at ∙ items_by_lengths (a + 1) n in
+      ap (λ m. word_length word os start a + m) rest ∙ sym (sum_by-cons (λ m. m) (word_length word os start a) (map (word_length word os start) (range_with_len (a + 1) n)))
 
--- the same of the bits of a word
-pub bit_of : (word count k : ℕ) → count ≤ 64 → k < 0 + count → is_set (word ∷ []) k ≡ (bit_at word k == 1)
-bit_of word count k small below =
-    let first : k / 64 ≡ 0 = omega (arith, small, below) in
-    let same : k % 64 ≡ k = omega (arith, small, below) in
-    (λ t. bit_at (slice_index (word ∷ []) (first t)) (same t) == 1)
+  pub word_ends_by_lengths : (place count : ℕ) → count ≤ 64 → valid_ends place (bits_in (word ∷ []) 0 count) os start ≡ ends_from place (word_lengths word os start count)
+  word_ends_by_lengths place count small =
+      let at : start ≡ start + 0 = omega arith in
+      (λ t. valid_ends place (low_bits_in word count small t) os (at t)) ∙ ends_by_lengths place 0 count
 
-pub word_ends_by_lengths : (place word : ℕ) (os : List ℕ) (start count : ℕ) → count ≤ 64 → valid_ends place (bits_in (word ∷ []) 0 count) os start ≡ ends_from place (word_lengths word os start count)
-unfolding bits_in
-word_ends_by_lengths place word os start count small =
-    let at : start ≡ start + 0 = omega arith in
-    ap (valid_ends place (map (is_set (word ∷ [])) (range_with_len 0 count)) os) at ∙ ends_by_lengths (is_set (word ∷ [])) (λ k. bit_at word k == 1) os start place 0 count (λ k. bit_of word count k small)
-
-pub word_items_by_lengths : (word : ℕ) (os : List ℕ) (start count : ℕ) → count ≤ 64 → valid_items (bits_in (word ∷ []) 0 count) os start ≡ sum (word_lengths word os start count)
-unfolding bits_in
-word_items_by_lengths word os start count small =
-    let at : start ≡ start + 0 = omega arith in
-    ap (valid_items (map (is_set (word ∷ [])) (range_with_len 0 count)) os) at ∙ items_by_lengths (is_set (word ∷ [])) (λ k. bit_at word k == 1) os start 0 count (λ k. bit_of word count k small)
+  pub word_items_by_lengths : (count : ℕ) → count ≤ 64 → valid_items (bits_in (word ∷ []) 0 count) os start ≡ sum (word_lengths word os start count)
+  word_items_by_lengths count small =
+      let at : start ≡ start + 0 = omega arith in
+      (λ t. valid_items (low_bits_in word count small t) os (at t)) ∙ items_by_lengths 0 count
 
 -- ---- ends counted on, one row at a time
 
@@ -89,10 +76,6 @@ ends_next f xs new x place next n lengths rest all is value first counted same =
     let here : f x ≡ pos (place + n) = value ∙ ap pos counted in
     ap (λ zs. zs ++ behind) (ap (map f) is ∙ map-append f xs (x ∷ [])) ∙ (append_assoc (map f xs) (f x ∷ []) behind ∙ ((λ t. map f xs ++ (here t ∷ map pos (ends_from (counted t) rest))) ∙ (ap (λ ns. map f xs ++ map pos (ends_from place ns)) (sym first) ∙ same)))
 
-no_more : {A : Type 0} (xs : List A) → xs ++ [] ≡ xs
-no_more [] = refl
-no_more (x ∷ xs) = ap (λ ys. x ∷ ys) (no_more xs)
-
 pub ends_done : (xs all : List ℤ) (place : ℕ) (lengths : List ℕ) → lengths ≡ [] → xs ++ map pos (ends_from place lengths) ≡ all → xs ≡ all
 ends_done xs all place lengths none same =
-    sym (no_more xs) ∙ (ap (λ ns. xs ++ map pos (ends_from place ns)) (sym none) ∙ same)
+    sym (append-nil xs) ∙ (ap (λ ns. xs ++ map pos (ends_from place ns)) (sym none) ∙ same)

@@ -1,7 +1,6 @@
 -- Logic on bits and on the words that hold them.
-use Rattle.arrow_memory.proofs.Common.{◌≡◌, ℕ, ◌+◌, ◌-◌, ◌*◌, ◌/◌, ◌%◌, ◌^◌, ◌<◌, ◌≤◌, min, max, map, zero, suc, w64, ◌&&◌, ◌||◌, Bool, false, not, List, [], ◌∷◌, length, get_or, refl, ap, sym, ◌∙◌, arith, slice_index, inl, inr, bit_or, set, bit_at, bit_not, cases_eq, nat_tests, get_or-set_same, get_or-set_other, length-map, bit_at_and, bit_at_or, bit_at_not, bit_at-lt, paired, is_set, bits_in, word_of}
-use Rattle.std.specs.Prelude.{◌==◌, bit_and}
-use Rattle.arrow_memory.proofs.BitmapLemmas.{bit_of-word_of, bits_in_is}
+use Rattle.arrow_memory.proofs.Common.{◌≡◌, ℕ, ◌+◌, ◌-◌, ◌*◌, ◌/◌, ◌%◌, ◌^◌, ◌<◌, ◌≤◌, ◌==◌, min, max, map, w64, ◌&&◌, ◌||◌, Bool, false, not, List, [], ◌∷◌, length, get_or, refl, ap, sym, ◌∙◌, arith, slice_index, inl, inr, bit_and, bit_or, set, bit_at, bit_not, cases_eq, nat_tests, range_with_len, get_or-set_same, get_or-set_other, bit_at_and, bit_at_or, bit_at_not, bit_at-lt, paired, is_set, bits_in, word_of}
+use Rattle.arrow_memory.proofs.BitmapLemmas.{bit_of-word_of, bits_by_place, by_place}
 use Rattle.arrow_memory.proofs.WordLemmas.{get_or-bits_in}
 
 -- ---- of two bits, as numbers
@@ -49,21 +48,20 @@ gives_more give old words j value before within word =
       left = λ i from. other i (λ here. omega arith) ∙ before.left i (omega arith);
     }
 
--- a bit of the 64 from a place on
-pub bit_from : (words : List ℕ) (from i : ℕ) → (bit_at (word_of (bits_in words (from + 64 * (i / 64)) 64)) (i % 64) == 1) ≡ is_set words (from + i)
-bit_from words from i =
-    let below : i % 64 < 64 = omega arith in
-    let at : from + 64 * (i / 64) + i % 64 ≡ from + i = omega arith in
-    bit_of-word_of (bits_in words (from + 64 * (i / 64)) 64) (i % 64) ∙ (get_or-bits_in words (from + 64 * (i / 64)) 64 (i % 64) false below ∙ ap (is_set words) at)
+-- a bit of a word that is read of others
+pub read_at : (words : List ℕ) (from j value i : ℕ) → value ≡ word_of (bits_in words (from + 64 * j) 64) → i / 64 ≡ j → (bit_at value (i % 64) == 1) ≡ is_set words (from + i)
+read_at words from j value i is here =
+    let at : from + 64 * j + i % 64 ≡ from + i = omega arith in
+    ap (λ w. bit_at w (i % 64) == 1) is ∙ (bit_of-word_of (bits_in words (from + 64 * j) 64) (i % 64) ∙ (get_or-bits_in words (from + 64 * j) 64 (i % 64) false (omega arith) ∙ ap (is_set words) at))
 
 -- one word more, given with that of others
 pub combines_more : (bits : Bool → Bool → Bool) (old words others : List ℕ) (from j left right value : ℕ) → GivesUpTo (λ bit i. bits bit (is_set others (from + i))) old words j → j < length words → left ≡ slice_index words j → right ≡ word_of (bits_in others (from + 64 * j) 64)
     → ((k : ℕ) → k < 64 → (bit_at value k == 1) ≡ bits (bit_at left k == 1) (bit_at right k == 1)) → GivesUpTo (λ bit i. bits bit (is_set others (from + i))) old (set words j value) (j + 1)
 combines_more bits old words others from j left right value before within left_is right_is gives =
     gives_more (λ bit i. bits bit (is_set others (from + i))) old words j value before within (λ i here.
-    let here_left : (bit_at left (i % 64) == 1) ≡ is_set words i = ap (λ w. bit_at w (i % 64) == 1) (left_is ∙ ap (slice_index words) (sym here)) in
-    let here_right : (bit_at right (i % 64) == 1) ≡ is_set others (from + i) = ap (λ w. bit_at w (i % 64) == 1) (right_is ∙ ap (λ q. word_of (bits_in others (from + 64 * q) 64)) (sym here)) ∙ bit_from others from i in
-    gives (i % 64) (omega arith) ∙ (λ t. bits (here_left t) (here_right t)))
+    let own = ap (λ w. bit_at w (i % 64) == 1) (left_is ∙ ap (slice_index words) (sym here)) in
+    let other = read_at others from j right i right_is here in
+    gives (i % 64) (omega arith) ∙ (λ t. bits (own t) (other t)))
 
 -- ---- lists of bits
 
@@ -72,23 +70,19 @@ length-paired give [] ys h = refl
 length-paired give (x ∷ xs) [] h = absurd (omega (arith, h))
 length-paired give (x ∷ xs) (y ∷ ys) h = omega (arith, length-paired give xs ys (omega (arith, h)))
 
-get_or-paired : (give : Bool → Bool → Bool) (xs ys : List Bool) (i : ℕ) → length xs ≡ length ys → i < length xs → give (get_or xs i false) (get_or ys i false) ≡ get_or (paired give xs ys) i false
-get_or-paired give [] ys i h within = absurd (omega (arith, within))
-get_or-paired give (x ∷ xs) [] i h within = absurd (omega (arith, h))
-get_or-paired give (x ∷ xs) (y ∷ ys) zero h within = refl
-get_or-paired give (x ∷ xs) (y ∷ ys) (suc i) h within = get_or-paired give xs ys i (omega (arith, h)) (omega (arith, within))
+pub pairs : (f g : ℕ → Bool) (give : Bool → Bool → Bool) (ns : List ℕ) → paired give (map f ns) (map g ns) ≡ map (λ n. give (f n) (g n)) ns
+pairs f g give [] = refl
+pairs f g give (n ∷ ns) = ap (λ bits. give (f n) (g n) ∷ bits) (pairs f g give ns)
 
 pub bits_in-paired : (give : Bool → Bool → Bool) (words : List ℕ) (xs ys : List Bool) → length xs ≡ length ys → ((i : ℕ) → i < length xs → is_set words i ≡ give (get_or xs i false) (get_or ys i false)) → bits_in words 0 (length xs) ≡ paired give xs ys
 bits_in-paired give words xs ys same each =
-    let long = length-paired give xs ys same in
-    rw (← long) (bits_in_is words (paired give xs ys) (λ i h. each i (omega arith) ∙ get_or-paired give xs ys i same (omega arith)))
+    let places = pairs (λ k. get_or xs k false) (λ k. get_or ys k false) give (range_with_len 0 (length xs)) in
+    bits_by_place words (length xs) (λ k. give (get_or xs k false) (get_or ys k false)) each ∙ sym ((λ t. paired give (by_place xs (length xs) refl t) (by_place ys (length xs) (sym same) t)) ∙ places)
 
-get_or-turned : (xs : List Bool) (i : ℕ) → i < length xs → not (get_or xs i false) ≡ get_or (map not xs) i false
-get_or-turned [] i h = absurd (omega arith)
-get_or-turned (x ∷ xs) zero h = refl
-get_or-turned (x ∷ xs) (suc i) h = get_or-turned xs i (omega arith)
+turned_all : (f : ℕ → Bool) (ns : List ℕ) → map not (map f ns) ≡ map (λ n. not (f n)) ns
+turned_all f [] = refl
+turned_all f (n ∷ ns) = ap (λ bits. not (f n) ∷ bits) (turned_all f ns)
 
 pub bits_in-turned : (words : List ℕ) (xs : List Bool) → ((i : ℕ) → i < length xs → is_set words i ≡ not (get_or xs i false)) → bits_in words 0 (length xs) ≡ map not xs
 bits_in-turned words xs each =
-    let long = length-map xs not in
-    rw (← long) (bits_in_is words (map not xs) (λ i h. each i (omega arith) ∙ get_or-turned xs i (omega arith)))
+    bits_by_place words (length xs) (λ k. not (get_or xs k false)) each ∙ sym (ap (map not) (by_place xs (length xs) refl) ∙ turned_all (λ k. get_or xs k false) (range_with_len 0 (length xs)))

@@ -1,39 +1,25 @@
 -- Bitmaps under construction.
-use Rattle.arrow_memory.proofs.Common.{◌≡◌, ℕ, zero, suc, ◌+◌, ◌-◌, ◌^◌, Bool, true, false, List, [], ◌∷◌, ◌++◌, length, get_or, replicate, refl, ap, sym, ◌∙◌, arith, inl, inr, zero-add, length-append, bool_byte, div_ceil, pow-suc, cases_lt, get_or_past, pow_pos, is_set, bits_in, word_of, Reads, IsPadded, AppendsBits}
+use Rattle.arrow_memory.proofs.Common.{◌≡◌, ℕ, zero, suc, ◌+◌, ◌-◌, ◌^◌, Bool, true, false, List, ◌++◌, length, replicate, ap, sym, ◌∙◌, subst, refl, arith, length-append, div_ceil, pow-suc, get_or_past, pow_pos, bits_in, word_of, Reads, IsPadded, AppendsBits}
+use Rattle.arrow_memory.proofs.AppendLemmas.{reads_padded}
 use Rattle.arrow_memory.proofs.BitmapLemmas.{bits_in_is}
-use Rattle.arrow_memory.proofs.WordLemmas.{length-bits_in, get_or-bits_in}
+use Rattle.arrow_memory.proofs.WordLemmas.{length-bits_in}
 
-pub bits_in-none : (words : List ℕ) (offset : ℕ) → bits_in words offset 0 ≡ []
-unfolding bits_in
-bits_in-none words offset = refl
+-- words of so many bits, which contracts see
+pub record PaddedAs (words : List ℕ) (len : ℕ) (bits : List Bool) : Type 0 where
+  pub padded : IsPadded words len
+  pub seen : bits_in words 0 len ≡ bits
 
--- what is read of so many bits
-pub reads_padded : (words : List ℕ) (len : ℕ) → IsPadded words len → Reads words (bits_in words 0 len)
-reads_padded words len padded =
-    record {
-      each = λ i.
-          elim (cases_lt i len) as (λ _. is_set words i ≡ get_or (bits_in words 0 len) i false) [
-            | inl below ↦ sym (get_or-bits_in words 0 len i false below ∙ ap (is_set words) (zero-add i))
-            | inr from ↦ padded.zeros i from ∙ sym (get_or_past (bits_in words 0 len) i false (omega (arith, from, length-bits_in words 0 len)))
-          ];
-    }
-
--- bits that were put behind the others
-pub done : (words new : List ℕ) (len total : ℕ) (ys : List Bool) → IsPadded words len → length new ≡ div_ceil total 64 → total ≡ len + length ys → AppendsBits words new len ys
-    → IsPadded new total × (bits_in new 0 total ≡ bits_in words 0 len ++ ys)
-done words new len total ys padded full is appends =
+-- bits that were put behind the others, in words that may have been reserved before
+pub put_behind : {words kept new : List ℕ} {len total count : ℕ} {bits : List Bool} (ys : List Bool) → IsPadded words len → bits_in words 0 len ≡ bits → kept ≡ words → total ≡ len + count → length new ≡ div_ceil (len + count) 64 → length ys ≡ count → AppendsBits kept new len ys → PaddedAs new total (bits ++ ys)
+put_behind {words} {new = new} {len} {total} ys padded seen same sum full many appends =
     let long = length-bits_in words 0 len in
-    let bits = bits_in words 0 len ++ ys in
-    let reads = appends (bits_in words 0 len) (reads_padded words len padded) long in
-    let whole : total ≡ length bits = omega (arith, is, long, length-append (bits_in words 0 len) ys) in (
-      record { full = full; zeros = λ i from. reads.each i ∙ get_or_past bits i false (omega arith) },
-      rw whole (bits_in_is new bits (λ i h. reads.each i)),
-    )
-
--- a byte of a truth value is the word of one bit
-pub byte_is : (b : Bool) (x : ℕ) → x ≡ bool_byte b → x ≡ word_of (b ∷ [])
-byte_is true x e = e
-byte_is false x e = e
+    let all = bits_in words 0 len ++ ys in
+    let reads = appends (bits_in words 0 len) (subst (λ ws. Reads ws (bits_in words 0 len)) (sym same) (reads_padded words len padded.zeros)) long in
+    let whole : total ≡ length all = omega (arith, sum, many, long, length-append (bits_in words 0 len) ys) in
+    record {
+      padded = record { full = full ∙ ap (λ n. div_ceil n 64) (sym sum); zeros = λ i from. reads.each i ∙ get_or_past all i false (omega arith) };
+      seen = rw whole (bits_in_is new all (λ i h. reads.each i)) ∙ ap (λ front. front ++ ys) seen;
+    }
 
 pub word_of-ones : (count : ℕ) → word_of (replicate count true) ≡ 2 ^ count - 1
 word_of-ones zero = refl

@@ -1,6 +1,5 @@
 -- Offsets as they are stored, and as contracts see them.
-use Rattle.arrow_memory.proofs.Common.{◌≡◌, ℕ, zero, suc, ◌+◌, ◌-◌, ◌<◌, ◌≤◌, ℤ, pos, negsuc, ◌+ℤ◌, ◌-ℤ◌, ◌≤ℤ◌, List, [], ◌∷◌, ◌++◌, length, map, get_or, take, drop, replicate, slice_index, unsigned_abs, refl, ap, sym, subst, ◌∙◌, arith, rules, get_or-map, set, Decides, one_answer, unsigned_Decides, pointwise, pointwise_decides, All, ints, map-append, take-map, drop-map, length-map, length-take, take_all, take_more, take_more_set, drop-drop, drop-set-lt, get_or-take, get_or-drop, get_or_default, RisesFrom, AreOffsets, IsOffsets, last_of, with_row, with_rows, counted_on, sliced}
-use Rattle.std.specs.Prelude.{nat_eq, Bool}
+use Rattle.arrow_memory.proofs.Common.{◌≡◌, ℕ, zero, suc, ◌+◌, ◌-◌, ◌<◌, ◌≤◌, Bool, nat_eq, ℤ, pos, negsuc, ◌+ℤ◌, ◌-ℤ◌, ◌≤ℤ◌, List, [], ◌∷◌, ◌++◌, length, map, get_or, take, drop, replicate, slice_index, unsigned_abs, refl, ap, sym, subst, ◌∙◌, arith, rules, get_or-map, set, Decides, one_answer, unsigned_Decides, pointwise, pointwise_decides, same_lists, All, ints, map-append, map-replicate, take-map, drop-map, length-map, length-take, take_all, take_more, take_more_set, drop-drop, drop-set-lt, get_or-take, get_or-drop, get_or_default, RisesFrom, AreOffsets, IsOffsets, last_of, with_row, with_rows, counted_on, sliced}
 use Rattle.arrow_memory.proofs.SlicedLemmas.{length-sliced}
 
 -- stored numbers and natural numbers
@@ -37,23 +36,20 @@ number_at f xs os i x stored within read = ap f read ∙ number_of f xs os i x s
 
 -- where rows lie
 
-rises_to : (n : ℕ) (os : List ℕ) (k : ℕ) → RisesFrom (pos n) (map pos os) → k < length os → n ≤ slice_index os k
-rises_to n [] k rises within = absurd (omega arith)
-rises_to n (m ∷ os) zero rises within = omega (arith, ints, rises.0)
-rises_to n (m ∷ os) (suc k) rises within =
-    let next = rises_to m os k rises.1 (omega arith) in
-    omega (arith, ints, rises.0)
-
-rises_between : (low : ℤ) (os : List ℕ) (i k : ℕ) → RisesFrom low (map pos os) → i ≤ k → k < length os → slice_index os i ≤ slice_index os k
-rises_between low [] i k rises order within = absurd (omega arith)
-rises_between low (m ∷ os) zero zero rises order within = omega arith
-rises_between low (m ∷ os) zero (suc k) rises order within = rises_to m os k rises.1 (omega arith)
-rises_between low (m ∷ os) (suc i) zero rises order within = absurd (omega arith)
-rises_between low (m ∷ os) (suc i) (suc k) rises order within = rises_between (pos m) os i k rises.1 (omega arith) (omega arith)
+rises_between : (n : ℕ) (os : List ℕ) (i k : ℕ) → RisesFrom (pos n) (map pos os) → i ≤ k → k < length os → (n ≤ slice_index os k) × (slice_index os i ≤ slice_index os k)
+rises_between n [] i k rises order within = absurd (omega arith)
+rises_between n (m ∷ os) zero zero rises order within = (omega (arith, ints, rises.0), omega arith)
+rises_between n (m ∷ os) (suc i) zero rises order within = absurd (omega arith)
+rises_between n (m ∷ os) zero (suc k) rises order within =
+    let next = rises_between m os k k rises.1 (omega arith) (omega arith) in
+    (omega (arith, ints, rises.0, next.0), next.0)
+rises_between n (m ∷ os) (suc i) (suc k) rises order within =
+    let next = rises_between m os i k rises.1 (omega arith) (omega arith) in
+    (omega (arith, ints, rises.0, next.0), next.1)
 
 -- an offset is at most a later one
 pub offsets_rise : (os : List ℕ) (i k : ℕ) → IsOffsets os → i ≤ k → k < length os → slice_index os i ≤ slice_index os k
-offsets_rise os i k held order within = rises_between (pos 0) os i k held.rises order within
+offsets_rise os i k held order within = (rises_between 0 os i k held.rises order within).1
 
 -- and at most the last one
 pub at_most_last : (os : List ℕ) (i : ℕ) → IsOffsets os → i < length os → slice_index os i ≤ last_of os
@@ -124,17 +120,13 @@ rises_constant : (n k : ℕ) → RisesFrom (pos n) (map pos (replicate k n))
 rises_constant n zero = tt
 rises_constant n (suc k) = (search rules, rises_constant n k)
 
-map_replicate : {A B : Type 0} (f : A → B) (k : ℕ) (x : A) → map f (replicate k x) ≡ replicate k (f x)
-map_replicate f zero x = refl
-map_replicate f (suc k) x = ap (λ ys. f x ∷ ys) (map_replicate f k x)
-
 -- rows of no item, by a growth from m values to n
 pub stored_constant : {A : Type 0} (f : A → ℤ) (xs new : List A) (os : List ℕ) (x : A) (m n k : ℕ) → AreOffsets (map f xs) → map unsigned_abs (map f xs) ≡ os → new ≡ take n xs ++ replicate (n - m) x → length xs ≡ m → n ≡ m + k → f x ≡ pos (last_of os) → StoredAs f new (os ++ replicate k (last_of os))
 stored_constant f xs new os x m n k held seen is long grown value =
     let last = last_of os in
     let whole : take n xs ≡ xs = take_all n xs (omega arith) in
     let count : n - m ≡ k = omega arith in
-    let constant : map f (replicate k x) ≡ map pos (replicate k last) = map_replicate f k x ∙ (ap (replicate k) value ∙ sym (map_replicate pos k last)) in
+    let constant : map f (replicate k x) ≡ map pos (replicate k last) = map-replicate f k x ∙ (ap (replicate k) value ∙ sym (map-replicate pos k last)) in
     stored_more f xs new os (replicate k last) held seen (ap (map f) (is ∙ (λ i. whole i ++ replicate (count i) x)) ∙ (map-append f xs (replicate k x) ∙ ap (λ zs. map f xs ++ zs) constant)) (rises_constant last k)
 
 -- rows of others
@@ -231,13 +223,8 @@ pos_one : (xs ys : List ℕ) → map pos xs ≡ map pos ys → xs ≡ ys
 pos_one xs ys same = sym (abs_naturals xs) ∙ (ap (map unsigned_abs) same ∙ abs_naturals ys)
 
 map_one : {A : Type 0} (f : A → ℤ) → ((x y : A) → f x ≡ f y → x ≡ y) → (xs ys : List A) → map f xs ≡ map f ys → xs ≡ ys
-map_one f one [] [] same = refl
-map_one f one [] (y ∷ ys) same = cc
-map_one f one (x ∷ xs) [] same = cc
-map_one f one (x ∷ xs) (y ∷ ys) same =
-    let head : x ≡ y = one x y (cc) in
-    let tail : xs ≡ ys = map_one f one xs ys (cc) in
-    λ i. head i ∷ tail i
+map_one f one xs ys same =
+    same_lists xs ys (sym (length-map xs f) ∙ (ap length same ∙ length-map ys f)) (λ k d within. one _ _ (sym (get_or-map f xs k d) ∙ (ap (λ zs. get_or zs k (f d)) same ∙ get_or-map f ys k d)))
 
 -- `==` of stored offsets holds where their numbers are the same
 pub same_offsets : {A : Type 0} (f : A → ℤ) (E : A → A → Bool) → ((x y : A) → Decides (E x y) (x ≡ y)) → ((x y : A) → f x ≡ f y → x ≡ y) → (xs ys : List A) (os ps : List ℕ) → map f xs ≡ map pos os → map f ys ≡ map pos ps → Decides (pointwise E xs ys) (os ≡ ps)

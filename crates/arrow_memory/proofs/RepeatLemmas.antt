@@ -1,9 +1,7 @@
 -- Bits that are repeated, in a word.
-use Rattle.arrow_memory.proofs.Common.{◌≡◌, ℕ, suc, ◌+◌, ◌*◌, ◌/◌, ◌%◌, ◌^◌, ◌<◌, ◌≤◌, Bool, true, false, cond, List, [], ◌∷◌, ◌++◌, length, get_or, take, replicate, refl, ap, sym, ◌∙◌, arith, shr_and_one, add-mul, append-nil, bit_and, bit_at, bit_or, flat_map, flat_map-append, flat_map-cons, length-append, length-replicate, length-take, mask_l-lt, mod-eq_of_lt, or_shifted_r, pow-add, pow-le-pow_right, mul-le-mul_right, word_of}
-use Rattle.std.proofs.Math.Seq.{take-suc}
-use Rattle.std.proofs.lemmas.Simd.{bit_mask_l}
+use Rattle.arrow_memory.proofs.Common.{◌≡◌, ℕ, ◌+◌, ◌*◌, ◌/◌, ◌%◌, ◌^◌, ◌<◌, ◌≤◌, Bool, true, false, cond, List, [], ◌∷◌, length, get_or, take, replicate, ap, sym, ◌∙◌, arith, shr_and_one, add-mul, bit_and, bit_at, bit_or, bit_mask_l, flat_map, flat_map_more, flat_map-cons, length-append, length-replicate, length-take, nil_from_length, take_more, word_of}
 use Rattle.arrow_memory.proofs.MutableLemmas.{word_of-zeros}
-use Rattle.arrow_memory.proofs.WordLemmas.{word_of-append}
+use Rattle.arrow_memory.proofs.WordLemmas.{word_and_more}
 
 -- how many they are
 pub repeated_long : (t : ℕ) (xs : List Bool) → length (flat_map (replicate t) xs) ≡ length xs * t
@@ -12,22 +10,8 @@ repeated_long t (x ∷ xs) =
     ap length (flat_map-cons (replicate t) x xs) ∙ (length-append (replicate t x) (flat_map (replicate t) xs) ∙ omega (arith, length-replicate t x, repeated_long t xs, add-mul 1 (length xs) t))
 
 -- none where they are no times, or none is repeated
-none_at_all : (xs : List Bool) → length xs ≡ 0 → 0 ≡ word_of xs
-none_at_all [] none = refl
-none_at_all (x ∷ xs) none = absurd (omega (arith, none))
-
 pub repeated_none : (t : ℕ) (xs : List Bool) → length xs * t ≡ 0 → 0 ≡ word_of (flat_map (replicate t) xs)
-repeated_none t xs none = none_at_all (flat_map (replicate t) xs) (repeated_long t xs ∙ none)
-
--- more bits behind those of a word
-word_and_more : (xs ys : List Bool) (word run n : ℕ) → word ≡ word_of xs → length xs ≡ n → n + length ys ≤ 64 → run ≡ word_of ys → bit_or word (run * 2 ^ n % 2 ^ 64) ≡ word_of (xs ++ ys)
-word_and_more xs ys word run n is long few same =
-    let small : word < 2 ^ n = rw (is, sym long) (mask_l-lt xs) in
-    let below : run < 2 ^ length ys = rw same (mask_l-lt ys) in
-    let power = pow-le-pow_right {n = 2} (omega arith) {i = length ys + n} {j = 64} (omega (arith, few)) in
-    let most : (run + 1) * 2 ^ n ≤ 2 ^ length ys * 2 ^ n = mul-le-mul_right (2 ^ n) (omega (arith, below)) in
-    let room : run * 2 ^ n % 2 ^ 64 ≡ run * 2 ^ n = mod-eq_of_lt (omega (arith, most, power, small, add-mul run 1 (2 ^ n), pow-add 2 (length ys) n)) in
-    rw (room, or_shifted_r run n word small, word_of-append xs ys, long, is, same) (omega arith)
+repeated_none t xs none = ap word_of (sym (nil_from_length (flat_map (replicate t) xs) (repeated_long t xs ∙ none)))
 
 -- the bits of one row more
 pub repeated_more : (xs : List Bool) (t row word run : ℕ) → row < length xs → (row + 1) * t ≤ 64 → word ≡ word_of (flat_map (replicate t) (take row xs)) → run ≡ word_of (replicate t (get_or xs row false)) → bit_or word (run * 2 ^ (row * t) % 2 ^ 64) ≡ word_of (flat_map (replicate t) (take (row + 1) xs))
@@ -36,11 +20,8 @@ repeated_more xs t row word run here few is same =
     let bit = get_or xs row false in
     let done : length before ≡ row * t = repeated_long t (take row xs) ∙ ap (λ n. n * t) (omega (arith, here, length-take row xs)) in
     let room : row * t + length (replicate t bit) ≤ 64 = omega (arith, few, add-mul row 1 t, length-replicate t bit) in
-    let next : row + 1 ≡ suc row = omega arith in
-    let split = flat_map-append (replicate t) (take row xs) (bit ∷ []) in
-    let one = flat_map-cons (replicate t) bit [] ∙ append-nil (replicate t bit) in
-    let all : flat_map (replicate t) (take (row + 1) xs) ≡ before ++ replicate t bit = ap (λ n. flat_map (replicate t) (take n xs)) next ∙ (ap (flat_map (replicate t)) (take-suc xs row false here) ∙ (split ∙ ap (λ ys. before ++ ys) one)) in
-    word_and_more before (replicate t bit) word run (row * t) is done room same ∙ ap word_of (sym all)
+    let all = flat_map_more (replicate t) [] (take row xs) bit ∙ ap (flat_map (replicate t)) (sym (take_more xs row false here)) in
+    word_and_more before (replicate t bit) word run (row * t) 64 is done room same ∙ ap word_of all
 
 one_row : (b : Bool) (x t set run : ℕ) → x ≡ cond b 1 0 → set ≡ word_of (replicate t true) → (x ≡ 1 → run ≡ set) → ((x ≡ 1 → ⊥) → run ≡ 0) → run ≡ word_of (replicate t b)
 one_row true x t set run is ones valid null = valid is ∙ ones

@@ -1,10 +1,9 @@
 -- Rows of others, of which those are empty whose bit is not set.
-use Rattle.arrow_memory.proofs.Common.{◌≡◌, ℕ, zero, suc, ◌+◌, ◌-◌, ◌/◌, ◌%◌, ◌<◌, ◌≤◌, ℤ, pos, Bool, true, false, List, [], ◌∷◌, ◌++◌, length, map, take, drop, get_or, slice_index, unsigned_abs, refl, ap, sym, ◌∙◌, arith, slice_get, bit_at, take-add, ints, drop-drop, map-append, RisesFrom, AreOffsets, IsOffsets, last_of, valid_length, valid_items, valid_ends, with_valid_rows, sliced, is_set, bits_in, word_of}
-use Rattle.std.specs.Prelude.{◌==◌, Some}
-use Rattle.std.proofs.lemmas.List.{append_assoc}
-use Rattle.arrow_memory.proofs.BitmapLemmas.{bit_of-word_of, bits_in_is}
+use Rattle.arrow_memory.proofs.Common.{◌≡◌, ℕ, suc, ◌+◌, ◌-◌, ◌<◌, ◌≤◌, ℤ, pos, Bool, true, false, Some, List, [], ◌∷◌, ◌++◌, length, map, take, slice_index, unsigned_abs, refl, ap, sym, ◌∙◌, arith, slice_get, slice_get_within, get_or_from_slice_get, ints, append_assoc, drop_more, map-append, RisesFrom, AreOffsets, IsOffsets, last_of, valid_length, valid_items, valid_ends, with_valid_rows, sliced, bits_in, word_of}
+use Rattle.arrow_memory.proofs.BitLemmas.{bits_of_word}
 use Rattle.arrow_memory.proofs.OffsetLemmas.{StoredAs, offsets_more, offsets_rise, stored_more}
-use Rattle.arrow_memory.proofs.SlicedLemmas.{length-sliced}
+use Rattle.arrow_memory.proofs.SlicedLemmas.{length-sliced, sliced-cut}
+use Rattle.arrow_memory.proofs.WordLemmas.{low_bits_in}
 
 -- ---- the rows of some bits, and those of others behind them
 
@@ -28,20 +27,18 @@ valid_ends-append place (b ∷ xs) ys os i =
     ap (λ es. (place + n) ∷ es) (valid_ends-append (place + n) xs ys os (i + 1) ∙ (λ t. valid_ends (place + n) xs os (i + 1) ++ valid_ends (counted t) ys os (at t)))
 
 -- no more items than all these rows have
+valid_length-within : (bit : Bool) (os : List ℕ) (i : ℕ) → valid_length bit os i ≤ slice_index os (i + 1) - slice_index os i
+valid_length-within true os i = omega arith
+valid_length-within false os i = omega arith
+
 pub valid_items-within : (bits : List Bool) (os : List ℕ) (i : ℕ) → IsOffsets os → i + length bits < length os → valid_items bits os i ≤ slice_index os (i + length bits) - slice_index os i
 valid_items-within [] os i held within = omega arith
-valid_items-within (true ∷ bits) os i held within =
+valid_items-within (bit ∷ bits) os i held within =
     let at : i + 1 + length bits ≡ i + suc (length bits) = omega arith in
     let rest = valid_items-within bits os (i + 1) held (omega (arith, within)) in
     let first = offsets_rise os i (i + 1) held (omega arith) (omega (arith, within)) in
     let second = offsets_rise os (i + 1) (i + 1 + length bits) held (omega arith) (omega (arith, within)) in
-    omega (arith, ap (slice_index os) at, rest, first, second)
-valid_items-within (false ∷ bits) os i held within =
-    let at : i + 1 + length bits ≡ i + suc (length bits) = omega arith in
-    let rest = valid_items-within bits os (i + 1) held (omega (arith, within)) in
-    let first = offsets_rise os i (i + 1) held (omega arith) (omega (arith, within)) in
-    let second = offsets_rise os (i + 1) (i + 1 + length bits) held (omega arith) (omega (arith, within)) in
-    omega (arith, ap (slice_index os) at, rest, first, second)
+    omega (arith, valid_length-within bit os i, ap (slice_index os) at, rest, first, second)
 
 valid_rise : (place : ℕ) (bits : List Bool) (os : List ℕ) (i : ℕ) → RisesFrom (pos place) (map pos (valid_ends place bits os i))
 valid_rise place [] os i = tt
@@ -57,49 +54,29 @@ pub stored_valid_rows : {A : Type 0} (f : A → ℤ) (xs kept new : List A) (os 
 stored_valid_rows f xs kept new os bits others place start held seen same is at =
     stored_more f xs new os (valid_ends (last_of os) bits others start) held seen (is ∙ (λ t. map f (same t) ++ map pos (valid_ends (at t) bits others start))) (valid_rise (last_of os) bits others start)
 
--- ---- the bits of a word
+-- ---- bits that are left, cut behind the first of them
 
--- a word that was made of bits holds these
-pub word_bits : (bits : List Bool) (word count : ℕ) → word ≡ word_of bits → length bits ≡ count → count ≤ 64 → bits_in (word ∷ []) 0 count ≡ bits
-word_bits bits word count is long small =
-    let each : (i : ℕ) → i < length bits → is_set (word ∷ []) i ≡ get_or bits i false =
-    λ i h.
-    let first : i / 64 ≡ 0 = omega (arith, h, long, small) in
-    let same : i % 64 ≡ i = omega (arith, h, long, small) in
-    (λ t. bit_at (slice_index (is t ∷ []) (first t)) (same t) == 1) ∙ bit_of-word_of bits i in
-    ap (bits_in (word ∷ []) 0) (sym long) ∙ bits_in_is (word ∷ []) bits each
-
-pub sliced-cut : (bits : List Bool) (place count end : ℕ) → place + count ≤ end → sliced bits place (end - place) ≡ sliced bits place count ++ sliced bits (place + count) (end - (place + count))
-sliced-cut bits place count end within =
+cut_behind : (bits : List Bool) (place count end : ℕ) → place + count ≤ end → sliced bits place (end - place) ≡ sliced bits place count ++ sliced bits (place + count) (end - (place + count))
+cut_behind bits place count end within =
     let all : end - place ≡ count + (end - (place + count)) = omega arith in
-    ap (λ n. take n (drop place bits)) all ∙ (take-add count (end - (place + count)) (drop place bits) ∙ ap (λ rest. take count (drop place bits) ++ take (end - (place + count)) rest) (drop-drop count place bits))
-
-first_there : (bits : List Bool) (bit : Bool) → slice_get bits 0 ≡ Some bit → take 1 bits ≡ bit ∷ []
-first_there [] bit read = cc
-first_there (b ∷ bits) bit read =
-    let is : b ≡ bit = cc in
-    ap (λ x. x ∷ []) is
-
-get_dropped : (bits : List Bool) (place : ℕ) → slice_get (drop place bits) 0 ≡ slice_get bits place
-get_dropped bits zero = refl
-get_dropped [] (suc place) = refl
-get_dropped (b ∷ bits) (suc place) = get_dropped bits place
+    ap (sliced bits place) all ∙ sliced-cut bits place count (end - (place + count))
 
 pub sliced-next : (bits : List Bool) (place end : ℕ) (bit : Bool) → place < end → slice_get bits place ≡ Some bit → sliced bits place (end - place) ≡ bit ∷ sliced bits (place + 1) (end - (place + 1))
 sliced-next bits place end bit below read =
-    sliced-cut bits place 1 end (omega arith) ∙ ap (λ first. first ++ sliced bits (place + 1) (end - (place + 1))) (first_there (drop place bits) bit (get_dropped bits place ∙ read))
+    let count : end - place ≡ suc (end - (place + 1)) = omega arith in
+    let rest = drop_more bits place bit (slice_get_within bits place bit read) in
+    (λ t. take (count t) (rest t)) ∙ ap (λ b. b ∷ sliced bits (place + 1) (end - (place + 1))) (get_or_from_slice_get bits place bit bit read)
 
 -- ---- a word more
 
 -- a part of some bits that are left, and the word of its first ones
 module _ (bits : List Bool) (place count end word : ℕ) (is : word ≡ word_of (sliced bits place count)) (within : place + count ≤ end) (inside : end ≤ length bits) (small : count ≤ 64) where
   word_is : bits_in (word ∷ []) 0 count ≡ sliced bits place count
-  word_is =
-      word_bits (sliced bits place count) word count is (length-sliced bits place count (omega arith)) small
+  word_is = low_bits_in word count small ∙ bits_of_word (sliced bits place count) word count is (length-sliced bits place count (omega arith))
 
   cut : sliced bits place (end - place) ≡ bits_in (word ∷ []) 0 count ++ sliced bits (place + count) (end - (place + count))
   cut =
-      sliced-cut bits place count end within ∙ ap (λ first. first ++ sliced bits (place + count) (end - (place + count))) (sym word_is)
+      cut_behind bits place count end within ∙ ap (λ first. first ++ sliced bits (place + count) (end - (place + count))) (sym word_is)
 
   long : length (bits_in (word ∷ []) 0 count) ≡ count
   long = ap length word_is ∙ length-sliced bits place count (omega arith)

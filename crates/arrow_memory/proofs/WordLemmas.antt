@@ -1,8 +1,16 @@
 -- Bits as they lie in words.
-use Rattle.arrow_memory.proofs.Common.{◌≡◌, ℕ, zero, suc, ◌+◌, ◌-◌, ◌*◌, ◌/◌, ◌%◌, ◌^◌, ◌<◌, ◌≤◌, Bool, true, false, cond, List, [], ◌∷◌, ◌++◌, length, map, get_or, take, drop, refl, ap, sym, ◌∙◌, arith, lit<, slice_index, Fits, w64, zero-add, add-zero, dite, dec_le, count_ones, bit_or, bit_at, from_bool, range_with_len, nat_tests, same_lists, length-take, length-drop, get_or-take, get_or-drop, map-id, map-append, count_by-le-length, sum_by-append, length-map-range_with_len, get_or-map-range_with_len, shr-shr, shr_le, shl-shr, mod-pow-add, mod_below, field_of, pow_pos, or_shifted, or_comm, mul-mod_first, pow-add, pow-le-pow_right, pow-suc, mul-mod_left, mod-eq_of_lt, add-mul-mod_self_left, mul_assoc, mul_comm, bit_at-lt, ones-mask_l, mask_l-lt, sliced, is_set, bits_in, low_bits, word_of, set_count}
-use Rattle.std.specs.Prelude.{◌==◌}
+use Rattle.arrow_memory.proofs.Common.{◌≡◌, ℕ, zero, suc, ◌+◌, ◌-◌, ◌*◌, ◌/◌, ◌%◌, ◌^◌, ◌<◌, ◌≤◌, ◌==◌, Bool, true, false, cond, List, [], ◌∷◌, ◌++◌, length, map, get_or, take, drop, refl, ap, sym, ◌∙◌, arith, inl, inr, slice_index, Fits, w64, zero-add, add-zero, count_ones, bit_or, bit_at, from_bool, range_with_len, nat_tests, cases_lt, same_lists, length-take, get_or-take, get_or-drop, take_at, drop_at, map-id, map-append, count_by-le-length, sum_by-append, length-map-range_with_len, get_or-map-range_with_len, shr-shr, shr_le, shr_split, shl_whole, mod_below, pow_pos, or_lt, or_comm, or_shifted_r, mul-mod_first, pow-suc, mod-eq_of_lt, mul_assoc, mul_comm, bit_at-lt, bit_at-zero, bit_at_above, bit_at_cat_high, bit_at_cat_low, bit_at_or, bit_mask_l, same_from_bits_below, ones-mask_l, mask_l-lt, sliced, is_set, bits_in, low_bits, word_of, set_count, IsWordAt}
 
 -- ---- lists of bits
+
+-- lists over numbers are the same where their members are, one by one
+pub map_alike : (f g : ℕ → Bool) (a b n : ℕ) → ((k : ℕ) → k < n → f (a + k) ≡ g (b + k)) → map f (range_with_len a n) ≡ map g (range_with_len b n)
+map_alike f g a b n same =
+    let long = length-map-range_with_len f a n in
+    same_lists _ _ (long ∙ sym (length-map-range_with_len g b n))
+    (λ k d within.
+    let below : k < n = omega arith in
+    get_or-map-range_with_len f a n k (a + k) d below refl ∙ (same k below ∙ sym (get_or-map-range_with_len g b n k (b + k) d below refl)))
 
 pub length-bits_in : (words : List ℕ) (offset len : ℕ) → length (bits_in words offset len) ≡ len
 unfolding bits_in
@@ -12,18 +20,9 @@ pub get_or-bits_in : (words : List ℕ) (offset len i : ℕ) (d : Bool) → i < 
 unfolding bits_in
 get_or-bits_in words offset len i d h = get_or-map-range_with_len (is_set words) offset len i (offset + i) d h refl
 
-pub sliced-bits_in : (words : List ℕ) (offset len o n : ℕ) → o + n ≤ len → sliced (bits_in words offset len) o n ≡ bits_in words (offset + o) n
-sliced-bits_in words offset len o n h =
-    let all = length-bits_in words offset len in
-    let part = length-bits_in words (offset + o) n in
-    let cut = length-take n (drop o (bits_in words offset len)) in
-    let rest = length-drop o (bits_in words offset len) in
-    same_lists _ _ (omega arith)
-    (λ k d k_in.
-    let k_below : k < n = omega arith in
-    let within : o + k < len = omega arith in
-    let place : offset + (o + k) ≡ offset + o + k = omega arith in
-    get_or-take n _ k d k_below ∙ (get_or-drop o _ k d ∙ (get_or-bits_in words offset len (o + k) d within ∙ (ap (is_set words) place ∙ sym (get_or-bits_in words (offset + o) n k d k_below)))))
+pub bits_in-none : (words : List ℕ) (offset : ℕ) → bits_in words offset 0 ≡ []
+unfolding bits_in
+bits_in-none words offset = refl
 
 pub range-add : (a m n : ℕ) → range_with_len a (m + n) ≡ range_with_len a m ++ range_with_len (a + m) n
 range-add a zero n = simp (zero-add, add-zero)
@@ -37,34 +36,33 @@ pub bits_in-add : (words : List ℕ) (offset m n : ℕ) → bits_in words offset
 unfolding bits_in
 bits_in-add words offset m n = ap (map (is_set words)) (range-add offset m n) ∙ map-append (is_set words) (range_with_len offset m) (range_with_len (offset + m) n)
 
-set_count-append : (xs ys : List Bool) → set_count (xs ++ ys) ≡ set_count xs + set_count ys
-set_count-append = sum_by-append (λ (bit : Bool). cond bit 1 0)
+sliced-bits_in : (words : List ℕ) (offset len o n : ℕ) → o + n ≤ len → sliced (bits_in words offset len) o n ≡ bits_in words (offset + o) n
+sliced-bits_in words offset len o n h =
+    let m = len - (o + n) in
+    let all : len ≡ o + (n + m) = omega arith in
+    let front = drop_at (bits_in words offset o) (bits_in words (offset + o) (n + m)) o (length-bits_in words offset o) in
+    let part = take_at (bits_in words (offset + o) n) (bits_in words (offset + o + n) m) n (length-bits_in words (offset + o) n) in
+    rw (all, bits_in-add words offset o (n + m), front, bits_in-add words (offset + o) n m) part
+
+-- a part of the bits that words hold
+pub part_seen : (read words : List ℕ) (offset len o n : ℕ) (seen : List Bool) → read ≡ words → bits_in words offset len ≡ seen → o + n ≤ length seen → bits_in read (offset + o) n ≡ sliced seen o n
+part_seen read words offset len o n seen same is within =
+    let inside : o + n ≤ len = omega (arith, ap length is, length-bits_in words offset len) in
+    ap (λ ws. bits_in ws (offset + o) n) same ∙ (sym (sliced-bits_in words offset len o n inside) ∙ ap (λ bits. sliced bits o n) is)
 
 pub set_count-add : (words : List ℕ) (offset m n : ℕ) → set_count (bits_in words offset (m + n)) ≡ set_count (bits_in words offset m) + set_count (bits_in words (offset + m) n)
-set_count-add words offset m n = ap set_count (bits_in-add words offset m n) ∙ set_count-append (bits_in words offset m) (bits_in words (offset + m) n)
+set_count-add words offset m n = ap set_count (bits_in-add words offset m n) ∙ sum_by-append (λ (bit : Bool). cond bit 1 0) (bits_in words offset m) (bits_in words (offset + m) n)
 
 pub set_count-le : (words : List ℕ) (offset len : ℕ) → set_count (bits_in words offset len) ≤ len
 set_count-le words offset len = omega (arith, count_by-le-length (λ (bit : Bool). bit) (bits_in words offset len), length-bits_in words offset len)
 
--- ---- runs within one word
-
-mod_one : (x : ℕ) → x % 1 ≡ 0
-mod_one x = omega arith
+-- ---- the bits of a word
 
 bit_number : (x : ℕ) → x < 2 → cond (x == 1) 1 0 ≡ x
 bit_number x h = grind (arith, nat_tests)
 
--- the number that some bits of a word make
-word_of-bits : (word first n : ℕ) → word_of (map (λ k. bit_at word k == 1) (range_with_len first n)) ≡ word / 2 ^ first % 2 ^ n
-word_of-bits word first zero = sym (mod_one (word / 2 ^ first))
-word_of-bits word first (suc n) =
-    let x = word / 2 ^ first in
-    let half : x / 2 ≡ word / 2 ^ (first + 1) = shr-shr word first 1 in
-    let cut : x % 2 ^ (n + 1) ≡ (x / 2 % 2 ^ n) * 2 + x % 2 = mod-pow-add x n 1 in
-    let rest = word_of-bits word (first + 1) n in
-    let lowest : cond (x % 2 == 1) 1 0 ≡ x % 2 = bit_number (x % 2) (bit_at-lt word first) in
-    let more : suc n ≡ n + 1 = omega arith in
-    rw (more, cut, half, rest, lowest) (omega arith)
+pub bit_at-low : (n w k : ℕ) → k < w → bit_at (n % 2 ^ w) k ≡ bit_at n k
+bit_at-low n w k below = sym (bit_at_cat_low (n / 2 ^ w) w (n % 2 ^ w) k below) ∙ ap (λ m. bit_at m k) (shr_split n w)
 
 -- its lowest bits, and as a number
 pub length-low_bits : (word n : ℕ) → length (low_bits word n) ≡ n
@@ -72,61 +70,73 @@ length-low_bits word n = length-map-range_with_len (λ k. bit_at word k == 1) 0 
 
 pub word_of-low_bits : (word n : ℕ) → word_of (low_bits word n) ≡ word % 2 ^ n
 word_of-low_bits word n =
-    let whole : word / 1 ≡ word = omega arith in
-    word_of-bits word 0 n ∙ ap (λ x. x % 2 ^ n) whole
+    let bits = low_bits word n in
+    let small : word_of bits < 2 ^ n = rw (length-low_bits word n) at (mask_l-lt bits) in
+    same_from_bits_below n (word_of bits) (word % 2 ^ n) small (mod_below word (2 ^ n) (pow_pos n))
+    (λ i below.
+    let one = get_or-map-range_with_len (λ k. bit_at word k == 1) 0 n i i false below (zero-add i) in
+    bit_mask_l bits i ∙ (ap (λ b. cond b 1 0) one ∙ (bit_number (bit_at word i) (bit_at-lt word i) ∙ sym (bit_at-low word n i below))))
 
-in_one_word : (place n k : ℕ) → place % 64 + n ≤ 64 → k < n → ((place + k) / 64 ≡ place / 64) × ((place + k) % 64 ≡ place % 64 + k)
-in_one_word place n k h b = (omega arith, omega arith)
-
-pub bits_in-word : (words : List ℕ) (place n : ℕ) → place % 64 + n ≤ 64 → bits_in words place n ≡ map (λ k. bit_at (slice_index words (place / 64)) k == 1) (range_with_len (place % 64) n)
+-- those that words have from a place on
+pub low_bits_at : (words : List ℕ) (place count word : ℕ) → IsWordAt words place count word → low_bits word count ≡ bits_in words place count
 unfolding bits_in
-bits_in-word words place n h =
-    let one = λ (k : ℕ). bit_at (slice_index words (place / 64)) k == 1 in
-    same_lists _ _ (length-map-range_with_len (is_set words) place n ∙ sym (length-map-range_with_len one (place % 64) n))
-    (λ k d k_in.
-    let k_below : k < n = omega (arith, k_in, length-map-range_with_len (is_set words) place n) in
-    let here = in_one_word place n k h k_below in
-    get_or-map-range_with_len (is_set words) place n k (place + k) d k_below refl ∙ ((λ i. bit_at (slice_index words (here.0 i)) (here.1 i) == 1) ∙ sym (get_or-map-range_with_len one (place % 64) n k (place % 64 + k) d k_below refl)))
+low_bits_at words place count word at =
+    map_alike (λ k. bit_at word k == 1) (is_set words) 0 place count (λ k below. ap (λ i. bit_at word i == 1) (zero-add k) ∙ at k below)
 
--- a run of bits within one word, as a number
-pub word_of-bits_in : (words : List ℕ) (place n : ℕ) → place % 64 + n ≤ 64 → word_of (bits_in words place n) ≡ slice_index words (place / 64) / 2 ^ (place % 64) % 2 ^ n
-word_of-bits_in words place n h =
-    ap word_of (bits_in-word words place n h) ∙ word_of-bits (slice_index words (place / 64)) (place % 64) n
+pub word_of-at : (words : List ℕ) (place count word : ℕ) → IsWordAt words place count word → word % 2 ^ count ≡ word_of (bits_in words place count)
+word_of-at words place count word at = sym (word_of-low_bits word count) ∙ ap word_of (low_bits_at words place count word at)
+
+-- so many of them, and those behind
+pub low_bits_add : (word m n : ℕ) → low_bits word (m + n) ≡ low_bits word m ++ low_bits (word / 2 ^ m) n
+low_bits_add word m n =
+    let one = λ (k : ℕ). bit_at word k == 1 in
+    let rest = map_alike one (λ k. bit_at (word / 2 ^ m) k == 1) (0 + m) 0 n (λ k below.
+    let at : 0 + m + k ≡ m + (0 + k) = omega arith in
+    ap one at ∙ sym (ap (λ x. x % 2 == 1) (shr-shr word m (0 + k)))) in
+    ap (map one) (range-add 0 m n) ∙ (map-append one (range_with_len 0 m) (range_with_len (0 + m) n) ∙ ap (λ bits. low_bits word m ++ bits) rest)
+
+-- the words from their first bit on, and from a place in them on
+at_start : (words : List ℕ) (i n : ℕ) → n ≤ 64 → IsWordAt words (64 * i) n (slice_index words i)
+at_start words i n few k below =
+    let index : i ≡ (64 * i + k) / 64 = omega (arith, few, below) in
+    let bit : k ≡ (64 * i + k) % 64 = omega (arith, few, below) in
+    λ t. bit_at (slice_index words (index t)) (bit t) == 1
+
+pub at_place : (words : List ℕ) (place n : ℕ) → place % 64 + n ≤ 64 → IsWordAt words place n (slice_index words (place / 64) / 2 ^ (place % 64))
+at_place words place n within k below =
+    let index : place / 64 ≡ (place + k) / 64 = omega (arith, within, below) in
+    let bit : place % 64 + k ≡ (place + k) % 64 = omega (arith, within, below) in
+    ap (λ x. x % 2 == 1) (shr-shr (slice_index words (place / 64)) (place % 64) k) ∙ (λ t. bit_at (slice_index words (index t)) (bit t) == 1)
+
+-- a word alone
+pub bit_alone : (word k : ℕ) → k < 64 → (bit_at word k == 1) ≡ is_set (word ∷ []) k
+bit_alone word k below = at_start (word ∷ []) 0 64 (omega arith) k below ∙ ap (is_set (word ∷ [])) (zero-add k)
+
+pub low_bits_in : (word len : ℕ) → len ≤ 64 → bits_in (word ∷ []) 0 len ≡ low_bits word len
+low_bits_in word len few = sym (low_bits_at (word ∷ []) 0 len word (at_start (word ∷ []) 0 len few))
 
 -- a count of bits is the count of ones of the number that they make
 pub count_ones-word_of : (bits : List Bool) → count_ones (word_of bits) ≡ set_count bits
 count_ones-word_of bits = ap (λ xs. count_ones (word_of xs)) (sym (map-id bits)) ∙ ones-mask_l (λ bit. bit) bits
 
-pub set_count-bits_in : (words : List ℕ) (place n : ℕ) → place % 64 + n ≤ 64 → set_count (bits_in words place n) ≡ count_ones (slice_index words (place / 64) / 2 ^ (place % 64) % 2 ^ n)
-set_count-bits_in words place n h = sym (count_ones-word_of (bits_in words place n)) ∙ ap count_ones (word_of-bits_in words place n h)
+-- of the first bits of a word
+set_count-start : (words : List ℕ) (i n : ℕ) → n ≤ 64 → set_count (bits_in words (64 * i) n) ≡ count_ones (slice_index words i % 2 ^ n)
+set_count-start words i n few =
+    sym (count_ones-word_of (bits_in words (64 * i) n)) ∙ ap count_ones (sym (word_of-at words (64 * i) n (slice_index words i) (at_start words i n few)))
 
 -- the bits of a word below a place in it
 pub set_count-below : (words : List ℕ) (place : ℕ) → set_count (bits_in words (place - place % 64) (place % 64)) ≡ count_ones (slice_index words (place / 64) % 2 ^ (place % 64))
 set_count-below words place =
-    let first : (place - place % 64) / 64 ≡ place / 64 = omega arith in
-    let start : (place - place % 64) % 64 ≡ 0 = omega arith in
-    let whole : slice_index words (place / 64) / 1 ≡ slice_index words (place / 64) = omega arith in
-    let within : (place - place % 64) % 64 + place % 64 ≤ 64 = omega arith in
-    let run = set_count-bits_in words (place - place % 64) (place % 64) within in
-    run ∙ rw (first, start, whole)
-
--- a whole word
-pub set_count-word : (words : List ℕ) (i : ℕ) → slice_index words i < 2 ^ 64 → set_count (bits_in words (64 * i) 64) ≡ count_ones (slice_index words i)
-set_count-word words i h =
-    let here : 64 * i / 64 ≡ i = omega arith in
-    let start : 64 * i % 64 ≡ 0 = omega arith in
-    let whole : slice_index words i / 1 % 2 ^ 64 ≡ slice_index words i = omega arith in
-    let within : 64 * i % 64 + 64 ≤ 64 = omega arith in
-    set_count-bits_in words (64 * i) 64 within ∙ rw (here, start, whole)
+    let whole : place - place % 64 ≡ 64 * (place / 64) = omega arith in
+    rw whole (set_count-start words (place / 64) (place % 64) (omega arith))
 
 -- one more word of a run of whole words
 pub set_count-more : (words : List ℕ) (first n i : ℕ) → ((k : ℕ) → Fits w64 (get_or words k 0)) → i < length (take n (drop first words)) → set_count (bits_in words (64 * first) (64 * (i + 1))) ≡ set_count (bits_in words (64 * first) (64 * i)) + count_ones (get_or (take n (drop first words)) i 0)
 set_count-more words first n i fits h =
     let below : i < n = omega (arith, length-take n (drop first words)) in
-    let small : slice_index words (first + i) < 2 ^ 64 = (fits (first + i)).fits in
     let next : 64 * (i + 1) ≡ 64 * i + 64 = omega arith in
     let place : 64 * first + 64 * i ≡ 64 * (first + i) = omega arith in
-    let word = set_count-word words (first + i) small in
+    let word = set_count-start words (first + i) 64 (omega arith) ∙ ap count_ones (mod-eq_of_lt (fits (first + i)).fits) in
     let all = set_count-add words (64 * first) (64 * i) 64 in
     rw (next, all, place, word, get_or-take n (drop first words) i 0 below, get_or-drop first words i 0)
 
@@ -141,64 +151,53 @@ set_count-between words start end n h e =
     let from_start = rw front at (set_count-add words (64 * (start / 64)) (start % 64) (end - start)) in
     rw whole (omega (arith, upto_end, from_start))
 
--- ---- 64 bits across two words
+-- ---- a word that is shifted, and 64 bits across two words
 
-pub word_of-append : (xs ys : List Bool) → word_of (xs ++ ys) ≡ word_of xs + 2 ^ length xs * word_of ys
-word_of-append [] ys = omega arith
-word_of-append (x ∷ xs) ys =
-    let rest = word_of-append xs ys in
-    let power = pow-suc 2 (length xs) in
-    rw (rest, power) (omega arith)
+pub bit_at-shl_low : (word shift k : ℕ) → k < 64 → k < shift → bit_at (word * 2 ^ shift % 2 ^ 64) k ≡ 0
+bit_at-shl_low word shift k below before =
+    bit_at-low (word * 2 ^ shift) 64 k below ∙ (ap (λ n. bit_at n k) (sym (add-zero (word * 2 ^ shift))) ∙ (bit_at_cat_low word shift 0 k before ∙ bit_at-zero k))
 
--- a word of j + k bits, shifted up by k, keeps its low j bits
-shifted_up : (word j k : ℕ) → word * 2 ^ k % 2 ^ (j + k) ≡ word % 2 ^ j * 2 ^ k
-shifted_up word j k =
-    let cut = mod-pow-add (word * 2 ^ k) j k in
-    let high : word * 2 ^ k / 2 ^ k ≡ word = shl-shr word k in
-    let low : word * 2 ^ k % 2 ^ k ≡ 0 = mul-mod_left word (2 ^ k) in
-    rw (cut, high, low) (add-zero (word % 2 ^ j * 2 ^ k))
+pub bit_at-shl_high : (word shift k : ℕ) → k < 64 → shift ≤ k → bit_at (word * 2 ^ shift % 2 ^ 64) k ≡ bit_at word (k - shift)
+bit_at-shl_high word shift k below from =
+    bit_at-low (word * 2 ^ shift) 64 k below ∙ (ap (λ n. bit_at n k) (sym (add-zero (word * 2 ^ shift))) ∙ bit_at_cat_high word shift 0 k (pow_pos shift) from)
 
--- shifted down by j, it has k bits
-shifted_down : (word j k : ℕ) → word < 2 ^ (j + k) → word / 2 ^ j ≡ word / 2 ^ j % 2 ^ k
-shifted_down word j k h =
-    let e : k + j ≡ j + k = omega arith in
-    let small : word % 2 ^ (k + j) ≡ word = rw e (mod-eq_of_lt h) in
-    ap (λ x. x / 2 ^ j) (sym small) ∙ field_of word k j
+-- the bits from a place on, of the word in which they begin and that in which they end
+across_at : (words : List ℕ) (place count high : ℕ) → slice_index words (place / 64) < 2 ^ 64 → count ≤ 64 → (64 < place % 64 + count → high ≡ slice_index words (place / 64 + 1))
+    → IsWordAt words place count (bit_or (slice_index words (place / 64) / 2 ^ (place % 64)) (high * 2 ^ (64 - place % 64) % 2 ^ 64))
+across_at words place count high small few next k below =
+    let low = slice_index words (place / 64) in
+    let shift = place % 64 in
+    let up = high * 2 ^ (64 - shift) % 2 ^ 64 in
+    let both = bit_at_or (low / 2 ^ shift) up k in
+    elim (cases_lt (shift + k) 64) as (λ _. (bit_at (bit_or (low / 2 ^ shift) up) k == 1) ≡ is_set words (place + k)) [
+      | inl within ↦
+          let none = bit_at-shl_low high (64 - shift) k (omega arith) (omega arith) in
+          let one : bit_at (bit_or (low / 2 ^ shift) up) k ≡ bit_at (low / 2 ^ shift) k = omega arith in
+          ap (λ x. x == 1) one ∙ at_place words place (k + 1) (omega arith) k (omega arith)
+      | inr from ↦
+          let none = ap (λ x. x % 2) (shr-shr low shift k) ∙ bit_at_above low 64 (shift + k) small from in
+          let one : bit_at (bit_or (low / 2 ^ shift) up) k ≡ bit_at high (k - (64 - shift)) = omega (arith, bit_at-shl_high high (64 - shift) k (omega arith) (omega arith)) in
+          let word : high ≡ slice_index words ((place + k) / 64) = next (omega arith) ∙ ap (slice_index words) (omega arith) in
+          let bit : k - (64 - shift) ≡ (place + k) % 64 = omega arith in
+          ap (λ x. x == 1) (one ∙ (λ t. bit_at (word t) (bit t)))
+    ]
 
--- the high k bits of a word below the low j bits of the next
-across_words : (low high n j k : ℕ) → j + k ≡ n → low < 2 ^ n → bit_or (low / 2 ^ j) (high * 2 ^ k % 2 ^ n) ≡ low / 2 ^ j % 2 ^ k + 2 ^ k * (high % 2 ^ j)
-across_words low high n j k e h =
-    let small : low < 2 ^ (j + k) = rw e h in
-    let down = shifted_down low j k small in
-    let below : low / 2 ^ j < 2 ^ k = rw down (mod_below (low / 2 ^ j) (2 ^ k) (pow_pos k)) in
-    let up = shifted_up high j k in
-    let whole : high * 2 ^ k % 2 ^ n ≡ high % 2 ^ j * 2 ^ k = rw (← e) up in
-    rw (whole, or_comm, or_shifted (high % 2 ^ j) k (low / 2 ^ j) below) (omega (arith, down))
-
-pub word_of-aligned : (words : List ℕ) (place : ℕ) → slice_index words (place / 64) < 2 ^ 64 → place % 64 ≡ 0 → slice_index words (place / 64) / 2 ^ (place % 64) ≡ word_of (bits_in words place 64)
-word_of-aligned words place small aligned =
-    let within : place % 64 + 64 ≤ 64 = omega arith in
-    let less = shr_le (slice_index words (place / 64)) (place % 64) in
-    let whole : slice_index words (place / 64) / 2 ^ (place % 64) % 2 ^ 64 ≡ slice_index words (place / 64) / 2 ^ (place % 64) = omega arith in
-    sym (word_of-bits_in words place 64 within ∙ whole)
+pub word_of-ends : (words : List ℕ) (place count high : ℕ) → slice_index words (place / 64) < 2 ^ 64 → count ≤ 64 → (64 < place % 64 + count → high ≡ slice_index words (place / 64 + 1)) → bit_or (slice_index words (place / 64) / 2 ^ (place % 64)) (high * 2 ^ (64 - place % 64) % 2 ^ 64) % 2 ^ count ≡ word_of (bits_in words place count)
+word_of-ends words place count high small few next =
+    word_of-at words place count (bit_or (slice_index words (place / 64) / 2 ^ (place % 64)) (high * 2 ^ (64 - place % 64) % 2 ^ 64)) (across_at words place count high small few next)
 
 pub word_of-across : (words : List ℕ) (place : ℕ) → slice_index words (place / 64) < 2 ^ 64 → bit_or (slice_index words (place / 64) / 2 ^ (place % 64)) (slice_index words (place / 64 + 1) * 2 ^ (64 - place % 64) % 2 ^ 64) ≡ word_of (bits_in words place 64)
 word_of-across words place small =
-    let j = place % 64 in
-    let k = 64 - place % 64 in
-    let width : j + k ≡ 64 = omega arith in
-    let parts : k + j ≡ 64 = omega arith in
-    let within : place % 64 + k ≤ 64 = omega arith in
-    let next : (place + k) / 64 ≡ place / 64 + 1 = omega arith in
-    let start : (place + k) % 64 ≡ 0 = omega arith in
-    let behind : (place + k) % 64 + j ≤ 64 = omega arith in
-    let front = word_of-bits_in words place k within in
-    let back = word_of-bits_in words (place + k) j behind in
-    let long = length-bits_in words place k in
-    let both = rw parts at (ap word_of (bits_in-add words place k j) ∙ word_of-append (bits_in words place k) (bits_in words (place + k) j)) in
-    let whole : slice_index words (place / 64 + 1) / 1 ≡ slice_index words (place / 64 + 1) = omega arith in
-    let high : word_of (bits_in words (place + k) j) ≡ slice_index words (place / 64 + 1) % 2 ^ j = back ∙ rw (next, start, whole) in
-    across_words (slice_index words (place / 64)) (slice_index words (place / 64 + 1)) 64 j k width small ∙ sym (both ∙ rw (long, front, high))
+    let low = slice_index words (place / 64) / 2 ^ (place % 64) in
+    let up = slice_index words (place / 64 + 1) * 2 ^ (64 - place % 64) % 2 ^ 64 in
+    let whole = or_lt 64 low up (omega (arith, shr_le (slice_index words (place / 64)) (place % 64))) (omega arith) in
+    sym (mod-eq_of_lt whole) ∙ word_of-ends words place 64 (slice_index words (place / 64 + 1)) small (omega arith) (λ _. refl)
+
+pub word_of-aligned : (words : List ℕ) (place : ℕ) → slice_index words (place / 64) < 2 ^ 64 → place % 64 ≡ 0 → slice_index words (place / 64) / 2 ^ (place % 64) ≡ word_of (bits_in words place 64)
+word_of-aligned words place small aligned =
+    let word = slice_index words (place / 64) / 2 ^ (place % 64) in
+    let whole : word < 2 ^ 64 = omega (arith, shr_le (slice_index words (place / 64)) (place % 64)) in
+    sym (mod-eq_of_lt whole) ∙ word_of-at words place 64 word (at_place words place 64 (omega arith))
 
 -- shifted up by one and then by the others: nothing is left of it where both are a whole word
 pub shifted_twice : (high shift : ℕ) → shift < 64 → high * 2 % 2 ^ 64 * 2 ^ (63 - shift) % 2 ^ 64 ≡ high * 2 ^ (64 - shift) % 2 ^ 64
@@ -208,53 +207,28 @@ shifted_twice high shift below =
 
 -- ---- packing
 
-bool_number : (b : Bool) → from_bool b ≡ cond b 1 0
-bool_number true = refl
-bool_number false = refl
+pub word_of-append : (xs ys : List Bool) → word_of (xs ++ ys) ≡ word_of xs + 2 ^ length xs * word_of ys
+word_of-append [] ys = omega arith
+word_of-append (x ∷ xs) ys =
+    let rest = word_of-append xs ys in
+    let power = pow-suc 2 (length xs) in
+    rw (rest, power) (omega arith)
 
-bool_small : (b : Bool) → cond b 1 0 < 2
-bool_small true = lit< tt
-bool_small false = lit< tt
+-- more bits above those of a word
+pub word_and_more : (xs ys : List Bool) (word run n w : ℕ) → word ≡ word_of xs → length xs ≡ n → n + length ys ≤ w → run ≡ word_of ys → bit_or word (run * 2 ^ n % 2 ^ w) ≡ word_of (xs ++ ys)
+word_and_more xs ys word run n w is long few same =
+    let small : word < 2 ^ n = rw (is, sym long) (mask_l-lt xs) in
+    let below : run < 2 ^ length ys = rw same (mask_l-lt ys) in
+    rw (shl_whole run (length ys) n w below (omega arith), or_shifted_r run n word small, word_of-append xs ys, long, is, same) (omega arith)
+
+pub one_bit : (b : Bool) → from_bool b ≡ word_of (b ∷ [])
+one_bit true = refl
+one_bit false = refl
 
 -- one more bit below the word
 pub pushed_below : (packed : List Bool) (b : Bool) (word : ℕ) → length packed < 64 → word ≡ word_of packed → bit_or (word * 2 % 18446744073709551616) (from_bool b) ≡ word_of (b ∷ packed)
 pushed_below packed b word h e =
-    let below = mask_l-lt packed in
-    let power = pow-le-pow_right {n = 2} (omega arith) {i = length packed} {j = 63} (omega arith) in
-    let room : word * 2 % 18446744073709551616 ≡ word * 2 ^ 1 = omega arith in
-    let digit = bool_small b in
-    rw (room, bool_number b, or_shifted word 1 (cond b 1 0) digit, e) (omega arith)
-
--- the low n bits of a word
-pub word_of-low : (words : List ℕ) (place n : ℕ) → n ≤ 64 → word_of (bits_in words place 64) % 2 ^ n ≡ word_of (bits_in words place n)
-word_of-low words place n h =
-    let parts : n + (64 - n) ≡ 64 = omega arith in
-    let low = bits_in words place n in
-    let high = bits_in words (place + n) (64 - n) in
-    let long = length-bits_in words place n in
-    let both = rw parts at (ap word_of (bits_in-add words place n (64 - n)) ∙ word_of-append low high) in
-    let small : word_of low < 2 ^ n = rw long at (mask_l-lt low) in
-    rw (both, long, add-mul-mod_self_left (word_of low) (2 ^ n) (word_of high)) (mod-eq_of_lt small)
-
--- the bits from a place on, of the word in which they begin and that in which they end
-pub word_of-ends : (words : List ℕ) (place count high : ℕ) → slice_index words (place / 64) < 2 ^ 64 → count ≤ 64 → (64 < place % 64 + count → high ≡ slice_index words (place / 64 + 1)) → bit_or (slice_index words (place / 64) / 2 ^ (place % 64)) (high * 2 ^ (64 - place % 64) % 2 ^ 64) % 2 ^ count ≡ word_of (bits_in words place count)
-word_of-ends words place count high small in_word next =
-    let j = place % 64 in
-    let low = slice_index words (place / 64) in
-    dite (dec_le (j + count) 64)
-    (λ within.
-    let k = 64 - j in
-    let width : j + k ≡ 64 = omega arith in
-    let rest : count + (k - count) ≡ k = omega (arith, within) in
-    let power : 2 ^ k ≡ 2 ^ count * 2 ^ (k - count) = ap (λ n. 2 ^ n) (sym rest) ∙ pow-add 2 count (k - count) in
-    let below : low < 2 ^ (j + k) = rw width small in
-    let down = shifted_down low j k below in
-    let both = across_words low high 64 j k width small in
-    let sum : low / 2 ^ j % 2 ^ k + 2 ^ k * (high % 2 ^ j) ≡ low / 2 ^ j + 2 ^ count * (2 ^ (k - count) * (high % 2 ^ j)) = (λ i. sym down i + power i * (high % 2 ^ j)) ∙ ap (λ n. low / 2 ^ j + n) (mul_assoc (2 ^ count) (2 ^ (k - count)) (high % 2 ^ j)) in
-    ap (λ n. n % 2 ^ count) (both ∙ sum) ∙ (add-mul-mod_self_left (low / 2 ^ j) (2 ^ count) (2 ^ (k - count) * (high % 2 ^ j)) ∙ sym (word_of-bits_in words place count within)))
-    (λ more.
-    let over : 64 < j + count = omega (arith, more) in
-    ap (λ h. bit_or (low / 2 ^ j) (h * 2 ^ (64 - j) % 2 ^ 64) % 2 ^ count) (next over) ∙ (ap (λ n. n % 2 ^ count) (word_of-across words place small) ∙ word_of-low words place count in_word))
+    or_comm (word * 2 % 18446744073709551616) (from_bool b) ∙ word_and_more (b ∷ []) packed (from_bool b) word 1 64 (one_bit b) refl (omega arith) e
 
 -- for the tactics of the methods of `Bitmap`
-pub ruleset bit_lengths = (length-bits_in)
+pub ruleset bit_lengths = (length-bits_in, bits_in-none)

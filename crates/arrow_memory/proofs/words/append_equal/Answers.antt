@@ -1,4 +1,4 @@
-use Rattle.arrow_memory.proofs.Common.{◌≡◌, ◌+◌, ◌-◌, ◌*◌, ◌/◌, ◌%◌, length, replicate, ap, sym, ◌∙◌, subst, arith, length-replicate, replicate-append-replicate, AppendsBits}
+use Rattle.arrow_memory.proofs.Common.{◌+◌, ◌-◌, ◌*◌, ◌/◌, ◌%◌, length, replicate, sym, arith, length-replicate, replicate-append-replicate}
 use Rattle.arrow_memory.proofs.AppendLemmas.{appends_both, word_appends}
 use Rattle.arrow_memory.proofs.words.append_equal.Goals as goal
 
@@ -14,13 +14,8 @@ returns-clause-appended c =
     let head = 64 - place % 64 in
     let whole = (c.args.count - head) / 64 in
     let tail = (c.args.count - head) % 64 in
-    let done : c.args.count - tail ≡ head + 64 * whole = omega arith in
+    let behind = appends_both (λ a n. replicate n bit) (λ a n. length-replicate n bit) (λ a m n. sym (replicate-append-replicate m n bit)) in
     let front = word_appends old begun place c.equal_bits.result head (replicate head bit) c.append_word.ensures.appended c.equal_bits.ensures (length-replicate head bit) in
-    let full : 64 * length begun ≡ place + length (replicate head bit) = omega (arith, c.append_word.ensures.full, length-replicate head bit) in
-    let both = appends_both old begun filled place (64 * length begun) (replicate head bit) (replicate (64 * whole) bit) front c.append_equal_words.ensures.appended full in
-    let joined = subst (AppendsBits old filled place) (replicate-append-replicate head (64 * whole) bit ∙ ap (λ n. replicate n bit) (sym done)) both in
+    let both = behind old begun filled place (64 * length begun) 0 head (64 * whole) (c.args.count - tail) front c.append_equal_words.ensures.appended (omega (arith, c.append_word.ensures.full)) (omega arith) in
     let rest = word_appends filled new (place + (c.args.count - tail)) c.equal_bits-2.result tail (replicate tail bit) c.append_word-2.ensures.appended c.equal_bits-2.ensures (length-replicate tail bit) in
-    let behind : place + (c.args.count - tail) ≡ place + length (replicate (c.args.count - tail) bit) = omega (arith, length-replicate (c.args.count - tail) bit) in
-    let all = appends_both old filled new place (place + (c.args.count - tail)) (replicate (c.args.count - tail) bit) (replicate tail bit) joined rest behind in
-    let parts : c.args.count - tail + tail ≡ c.args.count = omega arith in
-    subst (AppendsBits old new place) (replicate-append-replicate (c.args.count - tail) tail bit ∙ ap (λ n. replicate n bit) parts) all
+    behind old filled new place (place + (c.args.count - tail)) 0 (c.args.count - tail) tail c.args.count both rest (omega arith) (omega arith)

@@ -1,5 +1,5 @@
-use Rattle.arrow_memory.proofs.Common.{◌≡◌, ◌+◌, ◌-◌, ◌*◌, ◌/◌, ◌≤◌, ◌++◌, ◌∙◌, drop, take, length, replicate, arith, rules, post_of, bits_in}
-use Rattle.arrow_memory.proofs.AppendLemmas.{reads_bits, reads_join, reads_part, part_written, written}
+use Rattle.arrow_memory.proofs.Common.{◌≡◌, ◌+◌, ◌-◌, ◌*◌, ◌/◌, ◌≤◌, ◌++◌, sym, ◌∙◌, drop, take, length, replicate, arith, rules, take_at, post_of, bits_in}
+use Rattle.arrow_memory.proofs.AppendLemmas.{reads_bits, reads_join, reads_part, part_written}
 use Rattle.arrow_memory.proofs.words.append_words.Goals as goal
 
 pub returns-in-Ok-clause-appended : goal.returns-in-Ok-clause-appended
@@ -25,6 +25,7 @@ returns-in-Ok-resize-clause-appended c =
     let done = c.len-done.result in
     let zeros : seen ≡ take (done + count) old ++ replicate (done + count - length old) 0 = search rules in
     let place : done ≡ length old = search rules in
-    let put = written c.resize.new.self.len (take done seen ++ (new ++ post_of done (length seen - done) seen)) c.resize.new.self.items (search rules) ∙ part_written done (done + count) old new seen place (omega (arith, place)) zeros in
+    let part = take done seen ++ (new ++ post_of done (length seen - done) seen) in
+    let put = take_at part (drop (length part) c.resize.new.self.items) c.resize.new.self.len (sym (search rules)) ∙ part_written done (done + count) old new seen place (omega (arith, place)) zeros in
     let joined = reads_join c.args.words.now.items new xs (bits_in others from (64 * count)) reads (reads_bits new others from count long (λ i below. c.combine_within.ensures.each i (search rules))) at in
     rw put joined

@@ -1,4 +1,4 @@
-use Rattle.arrow_memory.proofs.Common.{◌≡◌, ◌+◌, ◌-◌, ◌*◌, ◌/◌, ◌%◌, drop, arith, length-take, length-drop}
+use Rattle.arrow_memory.proofs.Common.{◌≡◌, ◌+◌, ◌-◌, ◌*◌, ◌/◌, ◌%◌, drop, arith, bits_in, set_count, length-take, length-drop}
 use Rattle.arrow_memory.proofs.WordLemmas.{set_count-le, set_count-more, set_count-between}
 use Rattle.arrow_memory.proofs.words.count_ones.Goals as goal
 
@@ -20,28 +20,20 @@ overflow_add-ones c =
 pub loop-word-preserved : goal.loop-word-preserved
 loop-word-preserved c =
     let first = c.args.start / 64 in
-    let n = c.args.end / 64 - first in
-    let more = set_count-more c.args.words.now first n c.loop-word.word-index c.type_inv.words c.loop-word-test.true in
+    let more = set_count-more c.args.words.now first (c.args.end / 64 - first) c.loop-word.word-index c.type_inv.words c.loop-word-test.true in
     omega (arith, c.loop-word.invariant)
 
-pub overflow_sub-result : goal.overflow_sub-result
-overflow_sub-result c =
-    let words = c.args.words.now in
+-- the ones of all words are those before the bits, and the bits' own
+counted : (c : goal.After-count_ones_below) → c.loop-word.ones ≡ c.count_ones_below.result + set_count (bits_in c.args.words.now c.args.start (c.args.end - c.args.start))
+counted c =
     let first = c.args.start / 64 in
     let n = c.args.end / 64 - first in
-    let taken = length-take n (drop first words) in
-    let left = length-drop first words in
-    let whole : c.loop-word.word-index ≡ n = omega arith in
-    let between = set_count-between words c.args.start c.args.end c.loop-word.word-index c.requires.ordered whole in
+    let whole : c.loop-word.word-index ≡ n = omega (arith, length-take n (drop first c.args.words.now), length-drop first c.args.words.now) in
+    let between = set_count-between c.args.words.now c.args.start c.args.end c.loop-word.word-index c.requires.ordered whole in
     omega (arith, c.loop-word.invariant, c.count_ones_below-ones.ensures, c.count_ones_below.ensures)
 
+pub overflow_sub-result : goal.overflow_sub-result
+overflow_sub-result c = omega (arith, counted c)
+
 pub returns : goal.returns
-returns c =
-    let words = c.args.words.now in
-    let first = c.args.start / 64 in
-    let n = c.args.end / 64 - first in
-    let taken = length-take n (drop first words) in
-    let left = length-drop first words in
-    let whole : c.loop-word.word-index ≡ n = omega arith in
-    let between = set_count-between words c.args.start c.args.end c.loop-word.word-index c.requires.ordered whole in
-    omega (arith, c.loop-word.invariant, c.count_ones_below-ones.ensures, c.count_ones_below.ensures)
+returns c = omega (arith, counted c)

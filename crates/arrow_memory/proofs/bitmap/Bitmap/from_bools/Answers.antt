@@ -1,5 +1,5 @@
 use Rattle.arrow_memory.proofs.Common.{◌≡◌, ◌+◌, ◌*◌, length, ap, ◌∙◌, min, arith, length_push, length-drop, chunks_rest}
-use Rattle.arrow_memory.proofs.BitmapLemmas.{Packs-more, drop-more, bits_in-packed}
+use Rattle.arrow_memory.proofs.BitmapLemmas.{Packs-more, drop-more, bits_in_is}
 use Rattle.arrow_memory.proofs.bitmap.Bitmap.from_bools.Goals as goal
 
 pub loop-chunk-preserved : goal.loop-chunk-preserved
@@ -21,4 +21,4 @@ returns-clause-ok c =
     let bits = c.args.bits.now in
     let none = rw c.loop-chunk.invariant.1 at c.in-None.ensures.steps.1.0 in
     let left = length-drop (64 * length words) bits in
-    rw (bits_in-packed words bits c.loop-chunk.invariant.0 (omega arith)) at c.from_words.ensures.ok
+    rw (bits_in_is words bits (λ i below. c.loop-chunk.invariant.0.each i (omega arith))) at c.from_words.ensures.ok

@@ -1,5 +1,5 @@
-use Rattle.arrow_memory.proofs.Common.{◌+◌, ◌≤◌, ap, sym, length, ◌∙◌, arith, sliced, bits_in}
-use Rattle.arrow_memory.proofs.WordLemmas.{length-bits_in, sliced-bits_in}
+use Rattle.arrow_memory.proofs.Common.{◌+◌, ◌≤◌, ap, length, ◌∙◌, arith}
+use Rattle.arrow_memory.proofs.WordLemmas.{length-bits_in, part_seen}
 use Rattle.arrow_memory.proofs.bitmap.Bitmap.runs.Goals as goal
 
 inside : (c : goal.After-deref-words) → c.args.start + c.args.len ≤ c.self.inside.len
@@ -35,6 +35,5 @@ invariant_of-result c =
 pub returns : goal.returns
 returns c =
     let map = c.self.inside in
-    let words = map.words.value.items in
     let read = c.deref-words.ensures.value ∙ ap (λ v. v.items) c.deref.ensures in
-    ap (λ ws. bits_in ws (map.offset + c.args.start) c.args.len) read ∙ (sym (sliced-bits_in words map.offset map.len c.args.start c.args.len (inside c.before)) ∙ ap (λ bits. sliced bits c.args.start c.args.len) c.self.view_is)
+    part_seen c.deref-words.result.now map.words.value.items map.offset map.len c.args.start c.args.len c.args.self.now read c.self.view_is c.requires

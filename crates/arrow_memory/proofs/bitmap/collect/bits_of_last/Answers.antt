@@ -7,7 +7,7 @@ loop-k-init g c = gathers_none _ c.args.start
 
 pub loop-k-preserved : goal.loop-k-preserved
 loop-k-preserved g c =
-    rw c.from.ensures (gathers_more _ c.args.start c.loop-k.k c.loop-k.word c.test.result (omega (arith, c.loop-k-test.true, c.requires.in_word)) c.loop-k.invariant c.test.ensures)
+    rw c.from.ensures (gathers_more _ c.args.start c.loop-k.k c.loop-k.word 64 c.test.result (omega (arith, c.loop-k-test.true, c.requires.in_word)) c.loop-k.invariant c.test.ensures)
 
 pub returns : goal.returns
 returns g c =

@@ -1,5 +1,5 @@
 use Rattle.arrow_memory.proofs.Common.{arith}
-use Rattle.arrow_memory.proofs.GatherLemmas.{gathers_all, gathers_none, gathers_half}
+use Rattle.arrow_memory.proofs.GatherLemmas.{gathers_all, gathers_none, gathers_more}
 use Rattle.arrow_memory.proofs.bitmap.collect.half_of_rows.Goals as goal
 
 pub loop-k-init : goal.loop-k-init
@@ -7,7 +7,7 @@ loop-k-init g c = gathers_none _ c.args.start
 
 pub loop-k-preserved : goal.loop-k-preserved
 loop-k-preserved g c =
-    rw c.from.ensures (gathers_half _ c.args.start c.loop-k.k c.loop-k.half c.test.result (omega (arith, c.loop-k-test.true)) c.loop-k.invariant c.test.ensures)
+    rw c.from.ensures (gathers_more _ c.args.start c.loop-k.k c.loop-k.half 32 c.test.result (omega (arith, c.loop-k-test.true)) c.loop-k.invariant c.test.ensures)
 
 pub returns : goal.returns
 returns g c =

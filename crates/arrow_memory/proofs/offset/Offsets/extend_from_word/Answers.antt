@@ -1,8 +1,7 @@
 use Rattle.arrow_memory.proofs.Common.{◌≡◌, pos, ◌+◌, ◌++◌, [], ◌∷◌, length, map, unsigned_abs, slice_index, ap, ◌∙◌, arith, valid_ends, with_valid_rows, bits_in, low_bits}
-use Rattle.arrow_memory.proofs.MaskLemmas.{low_bits_in}
 use Rattle.arrow_memory.proofs.OffsetLemmas.{StoredAs}
 use Rattle.arrow_memory.proofs.ValidLemmas.{stored_valid_rows, valid_items-within}
-use Rattle.arrow_memory.proofs.WordLemmas.{length-bits_in}
+use Rattle.arrow_memory.proofs.WordLemmas.{length-bits_in, low_bits_in}
 use Rattle.arrow_memory.proofs.offset.Offsets.extend_from_word.Given.{Over}
 use Rattle.arrow_memory.proofs.offset.Offsets.extend_from_word.Goals as goal
 

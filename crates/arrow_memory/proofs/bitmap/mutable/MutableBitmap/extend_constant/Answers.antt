@@ -1,21 +1,17 @@
-use Rattle.arrow_memory.proofs.Common.{◌≡◌, ◌+◌, ◌++◌, length, replicate, ap, sym, ◌∙◌, subst, arith, div_ceil, OnOk, length-replicate, bits_in, IsPadded, AppendsBits}
+use Rattle.arrow_memory.proofs.Common.{◌≡◌, ◌++◌, subst, OnOk, replicate, length-replicate}
 use Rattle.arrow_memory.proofs.BitLemmas.{bits_of_word, own_bits}
-use Rattle.arrow_memory.proofs.MutableLemmas.{done}
+use Rattle.arrow_memory.proofs.MutableLemmas.{PaddedAs, put_behind}
 use Rattle.arrow_memory.proofs.bitmap.mutable.MutableBitmap.extend_constant.Goals as goal
 
-stored : (c : goal.After-self-1) → IsPadded c.append_equal.new.words.items c.in_ok-total.total × (bits_in c.append_equal.new.words.items 0 c.in_ok-total.total ≡ bits_in c.self.inside.words.items 0 c.self.inside.len ++ (replicate c.args.additional c.args.bit))
+stored : (c : goal.After-self-1) → PaddedAs c.append_equal.new.words.items c.in_ok-total.total (c.args.self.now ++ replicate c.args.additional c.args.bit)
 stored c =
-    let total = c.in_ok-total.ensures.ok in
-    let same = c.in_ok-total.ensures.unchanged in
-    let whole : c.in_ok-total.total ≡ c.self.inside.len + length (replicate c.args.additional c.args.bit) = omega (arith, total.0, length-replicate c.args.additional c.args.bit) in
-    let full : length c.append_equal.new.words.items ≡ div_ceil c.in_ok-total.total 64 = c.append_equal.ensures.full ∙ ap (λ n. div_ceil n 64) (sym total.0) in
-    done c.self.inside.words.items c.append_equal.new.words.items c.self.inside.len c.in_ok-total.total (replicate c.args.additional c.args.bit) c.self.invariant full whole (subst (λ words. AppendsBits words c.append_equal.new.words.items c.self.inside.len (replicate c.args.additional c.args.bit)) same c.append_equal.ensures.appended)
+    put_behind (replicate c.args.additional c.args.bit) c.self.invariant c.self.view_is c.in_ok-total.ensures.unchanged c.in_ok-total.ensures.ok.0 c.append_equal.ensures.full (length-replicate c.args.additional c.args.bit) c.append_equal.ensures.appended
 
 pub invariant_of-self-2 : goal.invariant_of-self-2
-invariant_of-self-2 c = (stored c).0
+invariant_of-self-2 c = (stored c).padded
 
 pub returns-clause-ok : goal.returns-clause-ok
-returns-clause-ok c = (stored c).1 ∙ ap (λ bits. bits ++ (replicate c.args.additional c.args.bit)) c.self.view_is
+returns-clause-ok c = (stored c).seen
 
 pub returns-then-additional-le-WORD_BITS-clause-ok : goal.returns-then-additional-le-WORD_BITS-clause-ok
 returns-then-additional-le-WORD_BITS-clause-ok c =

@@ -1,5 +1,5 @@
 use Rattle.arrow_memory.proofs.Common.{◌≡◌, ◌++◌, ◌+◌, ◌-◌, ◌/◌, ◌^◌, true, false, replicate, ap, sym, ◌∙◌, arith, append-nil, low_bits}
-use Rattle.arrow_memory.proofs.MaskLemmas.{low_bits_run, low_bits_runs}
+use Rattle.arrow_memory.proofs.RunLemmas.{low_bits_run, low_bits_runs}
 use Rattle.arrow_memory.proofs.bitmap.runs.WordRuns.next_set.Goals.{then-self-gt0, else-self-gt0}
 use Rattle.arrow_memory.proofs.bitmap.runs.WordRuns.next_set.Goals as goal
 
