@@ -1,9 +1,7 @@
 -- A child that grows by rows that are named, one call behind the other.
-use Rattle.arrow_growable.proofs.Common.{arith, ◌≡◌, ◌+◌, ◌*◌, ◌-◌, ◌<◌, ◌≤◌, ◌⊎◌, inl, inr, ℕ, zero, suc, Bool, true, false, List, [], ◌∷◌, ◌++◌, Option, Some, None, length, replicate, refl, ap, sym, subst, ◌∙◌, OnOk, IsOkUnless, ◌↔◌, append-nil, Error, OutOfMemory, Failed, Fits, ArrowType, Slot, null_slot, Fits-beginning, sliced, Layout, Grown, AreThere, CannotHold, FitsItself, FitsWith, IsFailedOrMemory, NamesRows, RefusedBy, appended, named_rows, null_rows_of, rows_among, BindsRows, CannotGrow, CrowdsIn, GrownBy, IsWell, LiesIn, NoneBeneath, Rises, SameBound, bound_rows, source_rows, spread}
-use Rattle.std.specs.Prelude.{Result, Ok, Err}
-use Rattle.std.specs.Result.{IsErrAnd}
-use Rattle.std.proofs.lemmas.List.{append_assoc, length-append}
+use Rattle.arrow_growable.proofs.Common.{arith, ◌≡◌, ◌+◌, ◌*◌, ◌-◌, ◌<◌, ◌≤◌, inl, inr, ℕ, zero, suc, Bool, true, false, List, [], ◌∷◌, ◌++◌, Option, Some, None, length, replicate, refl, ap, sym, subst, ◌∙◌, OnOk, IsOkUnless, ◌↔◌, append-nil, Error, OutOfMemory, Failed, Fits, ArrowType, Slot, null_slot, Fits-beginning, sliced, Layout, Grown, AreThere, CannotHold, FitsItself, FitsWith, IsFailedOrMemory, NamesRows, RefusedBy, appended, named_rows, null_rows_of, rows_among, BindsRows, CannotGrow, CrowdsIn, GrownBy, IsWell, LiesIn, NoneBeneath, Rises, SameBound, bound_rows, source_rows, spread, Result, Ok, Err, IsErrAnd, append_assoc, length-append}
 use Rattle.arrow_growable.proofs.SpreadLemmas.{spread_run}
+use Rattle.std.proofs.lemmas.Bool.{cases_lt}
 
 -- rows behind rows
 
@@ -12,7 +10,7 @@ appended_none g well =
     let count : g.count + length {A = Slot} [] ≡ g.count = omega arith in
     λ i. record { arrow_type = g.arrow_type; sources = g.sources; rows = append-nil g.rows i; count = count i; failed = sym well i }
 
-appended_twice : (g : Grown) (xs ys : List Slot) → appended (appended g xs) ys ≡ appended g (xs ++ ys)
+pub appended_twice : (g : Grown) (xs ys : List Slot) → appended (appended g xs) ys ≡ appended g (xs ++ ys)
 appended_twice g xs ys =
     let count : g.count + length xs + length ys ≡ g.count + length (xs ++ ys) = omega (arith, length-append xs ys) in
     λ i. record { arrow_type = g.arrow_type; sources = g.sources; rows = append_assoc g.rows xs ys i; count = count i; failed = false }
@@ -44,7 +42,7 @@ module _ (g : Grown) (i n : ℕ) (binds : BindsRows g i n) where
   names_there first end rise high =
       subst (λ s. AreThere s i first (end - first)) (sym binds.sources) (binds.bound, omega (arith, rise, high, binds.within))
 
-  named : (first len : ℕ) → named_rows g i first len ≡ sliced (bound_rows g i) first len
+  pub named : (first len : ℕ) → named_rows g i first len ≡ sliced (bound_rows g i) first len
   named first len =
       ap (λ s. rows_among s i first len) binds.sources ∙ ap (λ s. sliced (source_rows s i) first len) (sym binds.sources)
 
@@ -70,19 +68,13 @@ module _ (g : Grown) (i n : ℕ) (binds : BindsRows g i n) where
 
 -- rows of a child that lie in rows of the array
 
-pub before_or : (j k : ℕ) → (j < k) ⊎ (k ≤ j)
-before_or zero zero = inr (omega arith)
-before_or zero (suc k) = inl (omega arith)
-before_or (suc j) zero = inr (omega arith)
-before_or (suc j) (suc k) = elim (before_or j k) [ inl less ↦ inl (omega (arith, less)) | inr more ↦ inr (omega (arith, more)) ]
-
 lies_set : (n : ℕ) (bits : List Bool) (place : ℕ → ℕ) (i j : ℕ) → place i ≤ j → j < place (i + n) → LiesIn (replicate n true ++ bits) place i j
 lies_set zero bits place i j low high =
     let same : i + 0 ≡ i = omega arith in
     absurd (omega (arith, low, high, ap place same))
 lies_set (suc n) bits place i j low high =
     let next : i + 1 + n ≡ i + suc n = omega arith in
-    elim (before_or j (place (i + 1))) [
+    elim (cases_lt j (place (i + 1))) [
       | inl less ↦ inl (refl, low, less)
       | inr more ↦ inr (lies_set n bits place (i + 1) j more (omega (arith, high, ap place next)))
     ]
@@ -107,7 +99,7 @@ lies_bare [] place i j bare within =
     absurd (omega (arith, within.0, within.1, ap place same))
 lies_bare (true ∷ bits) place i j bare within =
     let next : i + 1 + length bits ≡ i + suc (length bits) = omega arith in
-    elim (before_or j (place (i + 1))) [
+    elim (cases_lt j (place (i + 1))) [
       | inl less ↦ inl (refl, within.0, less)
       | inr more ↦ inr (lies_bare bits place (i + 1) j bare.1 (more, omega (arith, within.1, ap place next)))
     ]

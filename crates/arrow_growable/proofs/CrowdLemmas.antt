@@ -1,6 +1,5 @@
 -- A row of a child that is crowded makes its row so.
-use Rattle.arrow_growable.proofs.Common.{arith, ◌≡◌, ◌+◌, ◌<◌, ◌≤◌, inl, inr, ℕ, zero, suc, Bool, true, List, [], ◌∷◌, Option, Some, None, length, map, take, drop, refl, ap, sym, subst, ◌∙◌, slice_index_or, take-map, get_or-map, get_or-take, get_or-drop, All-take, valid_at, bits_of_slice, CrowdedPart, CrowdedRow, child_at, child_of, nth_layout, Layout, Layouts, listed, fixed, fielded, no_layouts, more_layouts, from_layouts, AreCrowded, source_at, CrowdsIn, LiesIn, Form, by_offsets, by_size, by_fields, IsOfForm, children_in, no_child, nth_child, place_in, validity_in}
-use Rattle.std.specs.List.{All}
+use Rattle.arrow_growable.proofs.Common.{arith, ◌≡◌, ◌+◌, ◌<◌, ◌≤◌, inl, inr, ℕ, zero, suc, Bool, true, List, [], ◌∷◌, Option, Some, None, length, map, take, drop, refl, ap, sym, subst, ◌∙◌, slice_index_or, take-map, get_or-map, get_or-take, get_or-drop, All-take, valid_at, bits_of_slice, CrowdedPart, CrowdedRow, child_at, child_of, nth_layout, Layout, Layouts, listed, fixed, fielded, no_layouts, more_layouts, from_layouts, AreCrowded, source_at, CrowdsIn, LiesIn, Form, by_offsets, by_size, by_fields, IsOfForm, children_in, no_child, nth_child, place_in, validity_in, All}
 
 -- a row of the child that lies in rows of an array lies in one that is valid
 
@@ -27,10 +26,9 @@ same_map g h [] same = refl
 same_map g h (l ∷ ls) same =
     λ t. same 0 l (omega arith) t ∷ same_map g h ls (λ k d within. same (suc k) d (omega (arith, within))) t
 
-nth_from : (ls : Layouts) (f : ℕ) → slice_index_or (from_layouts ls) f no_child ≡ nth_layout ls f
-nth_from no_layouts f = refl
-nth_from (more_layouts l ls) zero = refl
+pub nth_from : (ls : Layouts) (f : ℕ) → slice_index_or (from_layouts ls) f no_child ≡ nth_layout ls f
 nth_from (more_layouts l ls) (suc f) = nth_from ls f
+nth_from ls f = refl
 
 pub listed_child : (os : List ℕ) (l : Layout) → IsOfForm (by_offsets os) l → nth_child 0 l ≡ child_of l
 listed_child os (listed t v offsets c) is = refl

@@ -1,9 +1,6 @@
 -- Rows of dictionaries behind others: keys that grow by the values before their own name the same values.
-use Rattle.arrow_growable.proofs.Common.{arith, Bor, ◌≡◌, ◌+◌, ◌-◌, ◌<◌, ◌≤◌, ◌^◌, ◌⊎◌, inl, inr, ℕ, zero, suc, pos, negsuc, Bool, true, false, not, List, [], ◌∷◌, ◌++◌, Option, Some, None, length, map, take, drop, get_or, replicate, refl, ap, sym, subst, ◌∙◌, length-append, IfSome, option_copied, slice_get, eq-or-lt_of_le, lt_of_not-le, get_or-append_seam, take-suc, drop-replicate, get_or_append_left, get_or-append-add, get_or-drop, get_or-take, length-map, length-replicate, map-append, take-replicate, get_or_default_zero, All-append, All-drop, All-take, sum_by-append, sum_by-cons, IntegerType, ArrowType, plain, list, struct, union, dictionary, extension, null, Fits, greatest_number, physical_type_of, is_null, mask, Slot, Null, Boolean, Number, DayTime, MonthDayNano, Bytes, Text, Items, Dict, Variant, length-mask, sliced, map_sliced, length-sliced, IsValue, MarksNulls, bits_of_slice, CrowdedRow, child_of, greatest_key, values_before, AreKeys, IsKey, KeyedParts, key_in, keyed_layout, keyed_rows, keys_in, key_read, dictionary_shape, list_shaped, plain_shape, shape_in, Layout, flat, keyed_item, rows, type_of_layout, AreCrowded, source_at, KeyFits, SomePasses, grown_key, zero_key, appended_rows, source_is, AreUncrowded, HoldsKeys, IsGrownDictionary, dictionary_rows, joined_values}
-use Rattle.std.specs.Prelude.{if◌then◌else◌}
-use Rattle.std.specs.List.{All}
+use Rattle.arrow_growable.proofs.Common.{arith, Bor, ◌≡◌, ◌+◌, ◌-◌, ◌<◌, ◌≤◌, ◌^◌, ◌⊎◌, inl, inr, ℕ, zero, suc, pos, Bool, true, false, not, List, [], ◌∷◌, ◌++◌, Option, Some, None, length, map, take, drop, get_or, replicate, refl, ap, sym, subst, ◌∙◌, length-append, IfSome, option_copied, slice_get, eq-or-lt_of_le, lt_of_not-le, get_or-append_seam, take-suc, drop-replicate, get_or_append_left, get_or-append-add, get_or-drop, get_or-take, length-map, length-replicate, map-append, take-replicate, get_or_default_zero, All-append, All-drop, All-take, sum_by-append, sum_by-cons, IntegerType, ArrowType, plain, list, dictionary, extension, null, Fits, greatest_number, physical_type_of, is_null, mask, Slot, Null, Number, Dict, length-mask, sliced, map_sliced, length-sliced, IsValue, MarksNulls, bits_of_slice, CrowdedRow, child_of, greatest_key, values_before, AreKeys, IsKey, KeyedParts, key_in, keyed_layout, keyed_rows, keys_in, key_read, dictionary_shape, list_shaped, plain_shape, shape_in, Layout, flat, keyed_item, rows, type_of_layout, AreCrowded, source_at, KeyFits, SomePasses, grown_key, zero_key, appended_rows, source_is, AreUncrowded, HoldsKeys, IsGrownDictionary, dictionary_rows, joined_values, if◌then◌else◌, All, All-head, All-tail, All-cons}
 use Rattle.arrow_types.specs.declared.datatypes.physical_type.PhysicalType.TheVariants as physical
-use Rattle.arrow_types.specs.Slot.{Parts as fields}
 use Rattle.arrow_flat_growable.specs.Keys.{PassesGreatest}
 
 abbrev is_valid : Slot → Bool
@@ -15,83 +12,46 @@ is_valid s = not (is_null s)
 item_named : (values xs : List Slot) (by : ℕ) (s : Slot) → ((k : ℕ) → k < length xs → get_or values (k + by) Null ≡ get_or xs k Null) → IsKey (length xs) s → keyed_item values (key_in (if is_valid s then grown_key by s else Null)) ≡ keyed_item xs (key_in s)
 item_named values xs by Null same key = refl
 item_named values xs by (Number (pos n)) same key = ap Dict (same n key)
-item_named values xs by (Number (negsuc n)) same key = absurd key
-item_named values xs by (Boolean b) same key = absurd key
-item_named values xs by (DayTime days ms) same key = absurd key
-item_named values xs by (MonthDayNano months days ns) same key = absurd key
-item_named values xs by (Bytes bytes) same key = absurd key
-item_named values xs by (Text bytes) same key = absurd key
-item_named values xs by (Items slots) same key = absurd key
-item_named values xs by (fields slots) same key = absurd key
-item_named values xs by (Dict slot) same key = absurd key
-item_named values xs by (Variant id slot) same key = absurd key
+item_named values xs by s same key = absurd key
 
 -- and is one of all
 item_within : (count here by : ℕ) (s : Slot) → here + by ≤ count → IsKey here s → IsKey count (if is_valid s then grown_key by s else Null)
 item_within count here by Null room key = tt
 item_within count here by (Number (pos n)) room key = omega (arith, room, key)
-item_within count here by (Number (negsuc n)) room key = absurd key
-item_within count here by (Boolean b) room key = absurd key
-item_within count here by (DayTime days ms) room key = absurd key
-item_within count here by (MonthDayNano months days ns) room key = absurd key
-item_within count here by (Bytes bytes) room key = absurd key
-item_within count here by (Text bytes) room key = absurd key
-item_within count here by (Items slots) room key = absurd key
-item_within count here by (fields slots) room key = absurd key
-item_within count here by (Dict slot) room key = absurd key
-item_within count here by (Variant id slot) room key = absurd key
+item_within count here by s room key = absurd key
 
 -- its row is null where it is
 item_valid : (count : ℕ) (xs : List Slot) (s : Slot) → IsKey count s → is_valid (keyed_item xs (key_in s)) ≡ is_valid s
 item_valid count xs Null key = refl
 item_valid count xs (Number (pos n)) key = refl
-item_valid count xs (Number (negsuc n)) key = absurd key
-item_valid count xs (Boolean b) key = absurd key
-item_valid count xs (DayTime days ms) key = absurd key
-item_valid count xs (MonthDayNano months days ns) key = absurd key
-item_valid count xs (Bytes bytes) key = absurd key
-item_valid count xs (Text bytes) key = absurd key
-item_valid count xs (Items slots) key = absurd key
-item_valid count xs (fields slots) key = absurd key
-item_valid count xs (Dict slot) key = absurd key
-item_valid count xs (Variant id slot) key = absurd key
+item_valid count xs s key = absurd key
 
 -- all keys
-
-next : (P : Slot → Type 0) (s : Slot) (ks : List Slot) → All P (s ∷ ks) → All P ks
-next P s ks held = λ k d within. held (suc k) d (omega (arith, within))
-
-first : (P : Slot → Type 0) (s : Slot) (ks : List Slot) → All P (s ∷ ks) → P s
-first P s ks held = held 0 s (omega arith)
-
-cons : (P : Slot → Type 0) (s : Slot) (ks : List Slot) → P s → All P ks → All P (s ∷ ks)
-cons P s ks here rest zero d within = here
-cons P s ks here rest (suc k) d within = rest k d (omega (arith, within))
 
 named : (values xs ks : List Slot) (by : ℕ) → ((k : ℕ) → k < length xs → get_or values (k + by) Null ≡ get_or xs k Null) → AreKeys (length xs) ks → dictionary_rows values (map is_valid ks) (map (grown_key by) ks) ≡ map (keyed_item xs) (keys_in ks)
 named values xs [] by same held = refl
 named values xs (s ∷ ks) by same held =
-    let here = item_named values xs by s same (first (IsKey (length xs)) s ks held) in
-    let rest = named values xs ks by same (next (IsKey (length xs)) s ks held) in
+    let here = item_named values xs by s same (All-head (IsKey (length xs)) s ks held) in
+    let rest = named values xs ks by same (All-tail (IsKey (length xs)) s ks held) in
     λ i. here i ∷ rest i
 
 within : (count here by : ℕ) (ks : List Slot) → here + by ≤ count → AreKeys here ks → AreKeys count (mask (map is_valid ks) (map (grown_key by) ks))
 within count here by [] room held = λ k d below. absurd (omega (arith, below))
 within count here by (s ∷ ks) room held =
-    cons (IsKey count) _ _ (item_within count here by s room (first (IsKey here) s ks held)) (within count here by ks room (next (IsKey here) s ks held))
+    All-cons (IsKey count) _ _ (item_within count here by s room (All-head (IsKey here) s ks held)) (within count here by ks room (All-tail (IsKey here) s ks held))
 
 valid-keyed : (count : ℕ) (xs ks : List Slot) → AreKeys count ks → map is_valid (map (keyed_item xs) (keys_in ks)) ≡ map is_valid ks
 valid-keyed count xs [] held = refl
 valid-keyed count xs (s ∷ ks) held =
-    let here = item_valid count xs s (first (IsKey count) s ks held) in
-    let rest = valid-keyed count xs ks (next (IsKey count) s ks held) in
+    let here = item_valid count xs s (All-head (IsKey count) s ks held) in
+    let rest = valid-keyed count xs ks (All-tail (IsKey count) s ks held) in
     λ i. here i ∷ rest i
 
 all_valid : (xs : List Slot) → All IsValue xs → map is_valid xs ≡ replicate (length xs) true
 all_valid [] held = refl
 all_valid (s ∷ xs) held =
-    let rest = all_valid xs (next IsValue s xs held) in
-    λ i. not (first IsValue s xs held i) ∷ rest i
+    let rest = all_valid xs (All-tail IsValue s xs held) in
+    λ i. not (All-head IsValue s xs held i) ∷ rest i
 
 -- the bits of a slice, by its keys
 pub bits_marked : (v : Option (List Bool)) (xs ks : List Slot) (start len : ℕ) → AreKeys (length xs) ks → MarksNulls v (map (keyed_item xs) (keys_in ks)) → start + len ≤ length ks → bits_of_slice v start len ≡ map is_valid (sliced ks start len)
@@ -213,9 +173,6 @@ module _ (layouts : List Layout) (values : List Slot) (index by : ℕ) (p : Keye
 some_same : {A : Type 0} {x y : A} → Some x ≡ Some y → x ≡ y
 some_same same = cc
 
-le_zero : {i : ℕ} → i ≤ 0 → i ≡ 0
-le_zero small = omega (arith, small)
-
 passing_key : (greatest by : ℕ) (s : Slot) → PassesGreatest greatest by s → (k : ℕ) × (key_in s ≡ Some k) × (0 < by) × (greatest < k + by)
 passing_key greatest by (Number (pos k)) passes = (k, refl, passes.0, passes.1)
 passing_key greatest by _ passes = absurd passes
@@ -233,15 +190,14 @@ key_at ks j within = key_read ks j (key_in (get_or ks j Null)) within refl
 pub greatest_of : (t : ArrowType) (key_type : IntegerType) → physical_type_of t ≡ physical.Dictionary key_type → greatest_key t ≡ greatest_number key_type
 greatest_of (plain p) key_type kind = cc (plain_shape p)
 greatest_of (list form f) key_type kind = cc (list_shaped form)
-greatest_of (struct fs) key_type kind = cc
-greatest_of (union mode ids fs) key_type kind = cc
 greatest_of (dictionary keys ordered t) key_type kind = ap greatest_number (cc)
 greatest_of (extension name metadata t) key_type kind = greatest_of t key_type kind
+greatest_of t key_type kind = cc
 
 module _ (layouts : List Layout) (values : List Slot) (index by : ℕ) (p : KeyedParts) (ks : List Slot) (names : Names layouts values index by p ks) (greatest : ℕ) (is : greatest_key p.arrow_type ≡ greatest) where
   behind_first : 0 < by → 0 < index
   behind_first grew =
-      lt_of_not-le (λ first. absurd (omega (arith, grew, names.begins, ap (λ i. values_before (take i layouts)) (le_zero first))))
+      lt_of_not-le (λ (first : index ≤ 0). (let none : index ≡ 0 = omega (arith, first) in absurd (omega (arith, grew, names.begins, ap (λ i. values_before (take i layouts)) none))))
 
   pub passes_crowded : (start len : ℕ) → start + len ≤ length ks → SomePasses greatest by ks start len → AreCrowded (Some layouts) index start len
   passes_crowded start len part some =
@@ -307,10 +263,9 @@ rows_counted values bits slots len count held =
 pub counted_fit : (t : ArrowType) (xs : List Slot) → shape_in t ≡ dictionary_shape → length xs < 2 ^ 64 → Fits t xs
 counted_fit (plain p) xs shape small = cc (plain_shape p)
 counted_fit (list form f) xs shape small = cc (list_shaped form)
-counted_fit (struct fs) xs shape small = cc
-counted_fit (union mode ids fs) xs shape small = cc
 counted_fit (dictionary keys ordered t) xs shape small = small
 counted_fit (extension name metadata t) xs shape small = counted_fit t xs shape small
+counted_fit t xs shape _ = cc
 
 -- null rows behind others
 
@@ -320,7 +275,7 @@ nulls_named values (suc n) = λ i. Null ∷ nulls_named values n i
 
 no_keys : (count n : ℕ) → AreKeys count (mask (replicate n false) (replicate n zero_key))
 no_keys count zero = λ k d inside. absurd (omega (arith, inside))
-no_keys count (suc n) = cons (IsKey count) Null _ tt (no_keys count n)
+no_keys count (suc n) = All-cons (IsKey count) Null _ tt (no_keys count n)
 
 pub nulls_behind : (values : List Slot) (bits : List Bool) (slots : List Slot) (n : ℕ) → length bits ≡ length slots → dictionary_rows values (bits ++ replicate n false) (slots ++ replicate n zero_key) ≡ dictionary_rows values bits slots ++ replicate n Null
 nulls_behind values bits slots n same =

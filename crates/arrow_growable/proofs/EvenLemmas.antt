@@ -1,11 +1,9 @@
 -- Fixed-size lists and structs that are bound to a growable: what their rows name of each child, and their rows behind others.
-use Rattle.arrow_growable.proofs.Common.{arith, ◌≡◌, ◌+◌, ◌*◌, ◌/◌, ◌<◌, ◌≤◌, ℕ, Bool, List, [], ◌∷◌, ◌++◌, Option, None, length, drop, get_or, map, flat_map, refl, ap, sym, subst, ◌∙◌, le-div_iff_mul-le, ext_get_or, get_or-map, length-map, All-map, ArrowType, plain, null, fixed_items_in, physical_type_of, mask, masked, Slot, Parts, null_slot, sliced, bits_of_slice, chunks, Layout, Layouts, no_layouts, more_layouts, fixed, fielded, across, columns_of, fixed_items, from_layouts, items_row, rows, struct_items, length-fixed_items, length-masked_le, Grown, empty_over, bound_rows, grown_by, spread, by_fields, by_size, child_type, column_in, nested_rows, rows_of_all, IsWhole, no_child, nth_child}
-use Rattle.std.specs.List.{All}
+use Rattle.arrow_growable.proofs.Common.{arith, ◌≡◌, ◌+◌, ◌*◌, ◌/◌, ◌<◌, ◌≤◌, ℕ, Bool, List, [], ◌∷◌, ◌++◌, Option, None, length, drop, get_or, map, flat_map, refl, ap, sym, subst, ◌∙◌, le-div_iff_mul-le, ext_get_or, get_or-map, length-map, All-map, ArrowType, plain, null, fixed_items_in, physical_type_of, mask, masked, Slot, Parts, null_slot, sliced, bits_of_slice, chunks, Layout, Layouts, no_layouts, more_layouts, fixed, fielded, across, columns_of, fixed_items, from_layouts, items_row, rows, struct_items, length-fixed_items, length-masked_le, Grown, empty_over, bound_rows, grown_by, spread, by_fields, by_size, child_type, column_in, nested_rows, rows_of_all, IsWhole, no_child, nth_child, All, map-map}
 use Rattle.arrow_types.specs.declared.datatypes.physical_type.PhysicalType.TheVariants as physical
 use Rattle.arrow_growable.proofs.ColumnLemmas.{field_column, sized_column}
 use Rattle.arrow_growable.proofs.FieldLemmas.{Column, field_named, fields_appended, fields_part, grown_column}
 use Rattle.arrow_growable.proofs.FixedSizeLemmas.{fixed_appended, fixed_named, fixed_part}
-use Rattle.arrow_growable.proofs.MakeLemmas.{map_twice}
 use Rattle.arrow_growable.proofs.NestedLemmas.{bits_long}
 
 -- a fixed-size list
@@ -91,13 +89,13 @@ module _ (t : ArrowType) (v : Option (List Bool)) (cs : Layouts) (start n : ℕ)
   fields_behind children index bits len counted full width mates =
       let own = map (column_of index) children in
       let more = field_bits in
-      let grown = map_twice (λ (g : Grown). g.rows) (grown_by 1 more (λ k. k) index start) children ∙ sym (map_twice (grown_column more start) (column_of index) children) in
-      let owned = sym (map_twice (λ (c : Column). c.own) (column_of index) children) in
+      let grown = map-map (λ (g : Grown). g.rows) (grown_by 1 more (λ k. k) index start) children ∙ sym (map-map (grown_column more start) (column_of index) children) in
+      let owned = sym (map-map (λ (c : Column). c.own) (column_of index) children) in
       let mated : map (λ g. bound_rows g index) children ≡ columns =
       ext_get_or [] (map (λ g. bound_rows g index) children) columns (omega (arith, length-map children (λ g. bound_rows g index), length-map (from_layouts cs) rows, width)) (λ f among.
       let there : f < length children = omega (arith, among, length-map children (λ g. bound_rows g index)) in
       get_or-map (λ (g : Grown). bound_rows g index) children f no_grown [] there ∙ (mates f no_grown there ∙ sym (get_or-map rows (from_layouts cs) f no_child [] (omega (arith, there, width))))) in
-      let others = map_twice (λ (c : Column). sliced c.other start (length more)) (column_of index) children ∙ (sym (map_twice (λ (xs : List Slot). sliced xs start (length more)) (λ (g : Grown). bound_rows g index) children) ∙ ap (map (λ xs. sliced xs start (length more))) mated) in
+      let others = map-map (λ (c : Column). sliced c.other start (length more)) (column_of index) children ∙ (sym (map-map (λ (xs : List Slot). sliced xs start (length more)) (λ (g : Grown). bound_rows g index) children) ∙ ap (map (λ xs. sliced xs start (length more))) mated) in
       let deep : All (λ c. start + length more ≤ length c.other) own =
       All-map (λ c. start + length more ≤ length c.other) (column_of index) children (λ f d within.
       let there : f < length (from_layouts cs) = omega (arith, within, width) in

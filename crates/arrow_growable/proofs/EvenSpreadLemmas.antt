@@ -1,19 +1,17 @@
 -- What fixed-size lists name of a child, as rows of it under their own validity, each bit for as many items.
-use Rattle.arrow_growable.proofs.Common.{arith, ◌≡◌, ◌+◌, ◌-◌, ◌*◌, ◌≤◌, ℕ, zero, suc, Bool, true, false, List, [], ◌∷◌, ◌++◌, length, replicate, if◌then◌else◌, refl, ap, sym, ◌∙◌, flat_map-cons, add-mul, length-replicate, mask, Slot, Null, null_slot, sliced, length-sliced, sliced-cut, Grown, BindsRows, bound_rows, spread, AreEven, AreSpans, span_count, span_nulls, span_place, Spans, Small, Large, Map}
-use Rattle.std.specs.List.{flat_map}
-use Rattle.std.proofs.lemmas.List.{length-append}
-use Rattle.arrow_growable.specs.declared.growable.spans.Spans.TheVariants.{FixedSize, Fields}
+use Rattle.arrow_growable.proofs.Common.{arith, ◌≡◌, ◌+◌, ◌-◌, ◌*◌, ◌≤◌, ℕ, zero, suc, Bool, true, false, List, [], ◌∷◌, ◌++◌, length, replicate, if◌then◌else◌, refl, ap, sym, ◌∙◌, flat_map-cons, add-mul, length-replicate, mask, Slot, Null, null_slot, sliced, length-sliced, sliced-cut, Grown, BindsRows, bound_rows, spread, AreEven, AreSpans, span_count, span_nulls, span_place, Spans, flat_map, length-append}
+use Rattle.arrow_growable.specs.declared.growable.spans.Spans.TheVariants.{FixedSize}
 use Rattle.arrow_growable.proofs.StepLemmas.{rises_in}
 
 -- rows under equal bits, before others
 mask_run : (bit : Bool) (w : ℕ) (bits : List Bool) (xs ys : List Slot) → length xs ≡ w → mask (replicate w bit ++ bits) (xs ++ ys) ≡ (if bit then xs else replicate w Null) ++ mask bits ys
-mask_run true zero bits [] ys same = refl
-mask_run false zero bits [] ys same = refl
 mask_run bit zero bits (x ∷ xs) ys same = absurd (omega (arith, same))
 mask_run bit (suc w) bits [] ys same = absurd (omega (arith, same))
 mask_run true (suc w) bits (x ∷ xs) ys same = ap (λ rest. x ∷ rest) (mask_run true w bits xs ys (omega (arith, same)))
 mask_run false (suc w) bits (x ∷ xs) ys same =
     ap (λ rest. Null ∷ rest) (mask_run false w bits xs ys (omega (arith, same)))
+mask_run true zero bits [] ys same = refl
+mask_run false zero bits [] ys same = refl
 
 spread_even : (w : ℕ) (bits : List Bool) (xs : List Slot) (i : ℕ) → i * w + length bits * w ≤ length xs → spread w Null bits (λ k. k * w) xs i ≡ mask (flat_map (replicate w) bits) (sliced xs (i * w) (length bits * w))
 spread_even w [] xs i inside = refl
@@ -30,19 +28,13 @@ spread_even w (bit ∷ bits) xs i inside =
 
 -- what they name
 pub even_named : (spans : Spans) (bits : List Bool) (xs : List Slot) (start : ℕ) → AreEven spans → span_place spans start + length bits * span_nulls spans ≤ length xs → spread (span_nulls spans) Null bits (span_place spans) xs start ≡ mask (flat_map (replicate (span_nulls spans)) bits) (sliced xs (span_place spans start) (length bits * span_nulls spans))
-even_named (Small offsets) bits xs start even inside = absurd even
-even_named (Large offsets) bits xs start even inside = absurd even
-even_named (Map offsets) bits xs start even inside = absurd even
 even_named (FixedSize size items) bits xs start even inside = spread_even size bits xs start inside
-even_named (Fields rows) bits xs start even inside = absurd even
+even_named spans bits xs start even inside = absurd even
 
 -- where they lie
 pub even_place : (spans : Spans) (i n : ℕ) → AreEven spans → span_place spans (i + n) ≡ span_place spans i + n * span_nulls spans
-even_place (Small offsets) i n even = absurd even
-even_place (Large offsets) i n even = absurd even
-even_place (Map offsets) i n even = absurd even
 even_place (FixedSize size items) i n even = add-mul i n size
-even_place (Fields rows) i n even = absurd even
+even_place spans i n even = absurd even
 
 repeated_long : (w : ℕ) (bits : List Bool) → length (flat_map (replicate w) bits) ≡ length bits * w
 repeated_long w [] = omega arith

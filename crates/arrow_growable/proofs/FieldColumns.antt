@@ -1,24 +1,13 @@
 -- The columns of a struct: their types and lengths, and rows of it by what each has of them.
-use Rattle.arrow_growable.proofs.Common.{arith, ◌≡◌, ◌+◌, ◌<◌, ◌^◌, ℕ, zero, suc, List, [], ◌∷◌, ◌++◌, length, map, take, get_or, refl, ap, sym, subst, ◌∙◌, slice_index_or, get_or-map, length-map, map-append, slice_get_read, map-map, take_at_read, null, plain, Fits, part_in, slot_or, Slot, Null, to_slots, any_array_rows, any_array_type, layout_of, column_length, rows, type_of_layout, IsStruct, StructParts, row_count, AnyArray, shape_of, child_type, child_types}
-use Rattle.std.specs.List.{All}
+use Rattle.arrow_growable.proofs.Common.{arith, ◌≡◌, ◌+◌, ◌<◌, ◌^◌, ℕ, List, [], ◌∷◌, ◌++◌, length, map, take, get_or, ap, sym, subst, ◌∙◌, slice_index_or, get_or-map, length-map, map-map, null, plain, Fits, part_in, Slot, any_array_rows, any_array_type, layout_of, rows, type_of_layout, IsStruct, StructParts, row_count, AnyArray, shape_of, child_type, child_types}
+pub use Rattle.arrow_growable.proofs.FieldLemmas.{first_long, part_at}
 use Rattle.arrow_growable.proofs.ColumnLemmas.{column_fits, field_column, fits_fields, struct_child_types}
-
--- what a row of a struct has in a column
-pub part_at : (ss : List Slot) (f : ℕ) → slot_or Null (to_slots ss) f ≡ get_or ss f Null
-part_at [] f = refl
-part_at (s ∷ ss) zero = refl
-part_at (s ∷ ss) (suc f) = part_at ss f
+use Rattle.arrow_growable.proofs.MakeLemmas.{taken_more}
 
 -- arrays that are made one by one of others
 pub makes_next : {A : Type 0} (f h : AnyArray → A) (done whole : List AnyArray) (x item : AnyArray) (i : ℕ) → i < length whole → item ≡ get_or whole i item → f x ≡ h item → map f done ≡ map h (take i whole) → map f (done ++ x ∷ []) ≡ map h (take (i + 1) whole)
 makes_next f h done whole x item i within is same so_far =
-    let next = take_at_read whole i item (slice_get_read whole (length whole) i item refl within is) in
-    map-append f done (x ∷ []) ∙ ((λ j. so_far j ++ same j ∷ []) ∙ (sym (map-append h (take i whole) (item ∷ [])) ∙ ap (map h) (sym next)))
-
--- they are as long as the first
-pub first_long : (columns : List (List Slot)) (n : ℕ) → 0 < length columns → All (λ c. length c ≡ n) columns → column_length columns ≡ n
-first_long [] n some all = absurd (omega (arith, some))
-first_long (c ∷ columns) n some all = all 0 c (omega arith)
+    taken_more f h done whole x item i within is same so_far
 
 -- one of them
 some_member : (columns : List AnyArray) → 0 < length columns → AnyArray

@@ -1,7 +1,5 @@
 -- Rows of structs: behind one's own, and what they name of each child.
-use Rattle.arrow_growable.proofs.Common.{arith, ◌≡◌, ◌+◌, ◌-◌, ◌*◌, ◌<◌, ◌≤◌, ℕ, zero, suc, Bool, true, false, List, [], ◌∷◌, ◌++◌, Option, length, map, replicate, take, get_or, if◌then◌else◌, refl, ap, sym, ◌∙◌, slice_index_or, length-map, length-replicate, map-append, drop_more, get_or-map, replicate-append-replicate, All-map, ArrowType, part_in, slot_or, mask, masked, Slot, Slots, Null, Parts, no_slots, more_slots, to_slots, null_slot, sliced, map_sliced, bits_of_slice, across, column_length, stacked, struct_items, map_constant, across-sliced, length-stacked, mask-append, mask-part, mask-unset, spread}
-use Rattle.std.specs.List.{All}
-use Rattle.std.proofs.lemmas.List.{length-append}
+use Rattle.arrow_growable.proofs.Common.{arith, ◌≡◌, ◌+◌, ◌-◌, ◌*◌, ◌<◌, ◌≤◌, ℕ, suc, Bool, true, false, List, [], ◌∷◌, ◌++◌, Option, length, map, replicate, take, get_or, if◌then◌else◌, refl, ap, sym, ◌∙◌, slice_index_or, length-map, length-replicate, map-append, drop_more, get_or-map, replicate-append-replicate, All-map, ArrowType, part_in, slot_or, mask, masked, Slot, Slots, Null, Parts, no_slots, more_slots, to_slots, null_slot, sliced, map_sliced, bits_of_slice, across, column_length, stacked, struct_items, map_constant, across-sliced, length-stacked, mask-append, mask-part, mask-unset, spread, All, length-append}
 
 -- a child: the null slot of its type, its own rows, and those of the child of a source
 pub record Column : Type 0 where
@@ -55,10 +53,9 @@ spread_rows (b ∷ bits) cs i all =
 -- rows behind rows
 stacked-append : (xs ys : List Slot) (rs qs : List Slots) → length xs ≡ length rs → stacked (xs ++ ys) (rs ++ qs) ≡ stacked xs rs ++ stacked ys qs
 stacked-append [] ys [] qs same = refl
-stacked-append [] ys (r ∷ rs) qs same = absurd (omega (arith, same))
-stacked-append (x ∷ xs) ys [] qs same = absurd (omega (arith, same))
 stacked-append (x ∷ xs) ys (r ∷ rs) qs same =
     ap (λ rows. more_slots x r ∷ rows) (stacked-append xs ys rs qs (omega (arith, same)))
+stacked-append xs ys rs qs same = absurd (omega (arith, same))
 
 module _ (behind : Column → List Slot) where
   across-append : (n m : ℕ) (cs : List Column) → All (λ c. length c.own ≡ n) cs → across (n + m) (map (λ c. c.own ++ behind c) cs) ≡ across n (map (λ c. c.own) cs) ++ across m (map behind cs)
@@ -91,14 +88,13 @@ fields_nulls bits cs n all =
     rows_behind (λ c. replicate (n * 1) c.none) bits unset cs all ∙ ap (λ rows. mask bits (map Parts (across (length bits) (map (λ c. c.own) cs))) ++ rows) (mask-unset n (map Parts (across (length unset) nulls)) (omega (arith, counts, length-map (across (length unset) nulls) Parts, long)))
 
 -- what a row of a struct names of child f
-slot_at : (ss : List Slot) (f : ℕ) → slot_or Null (to_slots ss) f ≡ get_or ss f Null
-slot_at [] f = refl
-slot_at (s ∷ ss) zero = refl
-slot_at (s ∷ ss) (suc f) = slot_at ss f
+pub part_at : (ss : List Slot) (f : ℕ) → slot_or Null (to_slots ss) f ≡ get_or ss f Null
+part_at (s ∷ ss) (suc f) = part_at ss f
+part_at ss f = refl
 
 part_named : (f : ℕ) (u : ArrowType) (b : Bool) (columns : List (List Slot)) (i : ℕ) → f < length columns → part_in f u (if b then Parts (to_slots (map (λ c. get_or c i Null) columns)) else Null) ≡ (if b then get_or (slice_index_or columns f []) i Null else null_slot u)
 part_named f u true columns i has =
-    slot_at (map (λ c. get_or c i Null) columns) f ∙ get_or-map (λ c. get_or c i Null) columns f [] Null has
+    part_at (map (λ c. get_or c i Null) columns) f ∙ get_or-map (λ c. get_or c i Null) columns f [] Null has
 part_named f u false columns i has = refl
 
 -- what rows of structs name of it
@@ -118,7 +114,7 @@ field_of_nulls f u n =
     map_constant (part_in f u) n Null ∙ ap (λ k. replicate k (null_slot u)) count
 
 -- as many rows as each column has
-first_long : (columns : List (List Slot)) (count : ℕ) → 0 < length columns → All (λ c. length c ≡ count) columns → column_length columns ≡ count
+pub first_long : (columns : List (List Slot)) (count : ℕ) → 0 < length columns → All (λ c. length c ≡ count) columns → column_length columns ≡ count
 first_long [] count some all = absurd (omega (arith, some))
 first_long (c ∷ cs) count some all = all 0 c (omega arith)
 

@@ -1,9 +1,9 @@
 -- The parts of an array with children that is made of what was under construction, and its rows.
-use Rattle.arrow_growable.proofs.Common.{arith, ◌≡◌, ◌*◌, ◌/◌, ◌%◌, ◌<◌, ℕ, Bool, List, [], ◌∷◌, Option, length, map, ap, subst, sym, ◌∙◌, get_or-map, length-map, ArrowType, mask, masked, Slot, Parts, IsCarriedAs, FitsRows, chunks, AnyArray, any_array_rows, any_array_type, layout_of, FitsItems, Layout, across, column_length, fixed_items, items_row, list_items, rows, struct_items, FitsColumns, HaveRows, row_count, item_type, list_size, some_items, whole_product, count_children, rows_of_arrays, length-fixed_items, list_shape, shape_in, shape_of, struct_columns, struct_shape, length-across, GrowableSpans, FixedSize, Fields, Form, by_offsets, child_types, nested_rows, IsFormOf, form_of, grown_arrays, AreWhole}
-use Rattle.std.specs.List.{All}
+use Rattle.arrow_growable.proofs.Common.{arith, ◌≡◌, ◌*◌, ◌/◌, ◌%◌, ℕ, Bool, List, [], ◌∷◌, Option, length, map, ap, subst, sym, ◌∙◌, get_or-map, length-map, ArrowType, mask, masked, Slot, Parts, IsCarriedAs, FitsRows, chunks, AnyArray, any_array_rows, any_array_type, layout_of, FitsItems, Layout, across, fixed_items, items_row, list_items, rows, struct_items, FitsColumns, HaveRows, row_count, item_type, list_size, some_items, whole_product, count_children, rows_of_arrays, length-fixed_items, list_shape, shape_in, shape_of, struct_columns, struct_shape, length-across, GrowableSpans, FixedSize, Fields, Form, by_offsets, child_types, nested_rows, IsFormOf, form_of, grown_arrays, AreWhole, All}
 use Rattle.arrow_types.specs.declared.datatypes.physical_type.PhysicalType.TheVariants as physical
 use Rattle.arrow_growable.proofs.ColumnLemmas.{list_child_types, struct_child_types}
 use Rattle.arrow_growable.proofs.ListLemmas.{rows_made}
+use Rattle.arrow_growable.proofs.FieldLemmas.{first_long}
 
 -- a validity that gives what bits give
 abbrev pub GivesAs : List Bool → Option (List Bool) → Type 0
@@ -66,10 +66,6 @@ have_rows : (n : ℕ) (ls : List Layout) → All (λ c. length c ≡ n * 1) (map
 have_rows n ls whole =
     λ k d within. omega (arith, whole k (rows d) (omega (arith, within, length-map ls rows)), ap length (get_or-map rows ls k d (rows d) within))
 
-first_long : (n : ℕ) (columns : List (List Slot)) → 0 < length columns → All (λ c. length c ≡ n * 1) columns → column_length columns ≡ n
-first_long n [] some whole = absurd (omega (arith, some))
-first_long n (c ∷ cs) some whole = omega (arith, whole 0 c (omega arith))
-
 module _ (t : ArrowType) (spans : GrowableSpans) (xs : List AnyArray) (bits : List Bool) (v : Option (List Bool)) (is : spans ≡ Fields) (kind : IsCarriedAs (grown_arrays spans) t) (types : map any_array_type xs ≡ child_types t) (whole : AreWhole (form_of spans) (length bits) (map any_array_rows xs)) where
   abbrev layouts : List Layout
   layouts = map layout_of xs
@@ -92,7 +88,7 @@ module _ (t : ArrowType) (spans : GrowableSpans) (xs : List AnyArray) (bits : Li
 
   many : row_count layouts ≡ length bits
   many =
-      first_long (length bits) columns (omega (arith, length-map layouts rows, count_children xs (child_types t) types, ap length (struct_child_types t shape), (struct_columns t fielded.0 shape).some)) columns_whole
+      first_long columns (length bits) (omega (arith, length-map layouts rows, count_children xs (child_types t) types, ap length (struct_child_types t shape), (struct_columns t fielded.0 shape).some)) (λ k d within. omega (arith, columns_whole k d within))
 
   pub fields_fit : FitsRows v (length bits) → FitsColumns layouts v
   fields_fit fits =

@@ -1,7 +1,5 @@
 -- Rows of so many items each: behind one's own, and what they name of the child.
-use Rattle.arrow_growable.proofs.Common.{arith, ◌≡◌, ◌+◌, ◌-◌, ◌*◌, ◌/◌, ◌≤◌, ℕ, zero, suc, Bool, true, false, List, [], ◌∷◌, ◌++◌, Option, length, map, replicate, take, drop, if◌then◌else◌, refl, ap, sym, ◌∙◌, length-map, length-replicate, map-append, take_all, take_at, drop-drop, drop_at, replicate-append-replicate, ArrowType, fixed_items_in, mask, masked, Slot, Null, null_slot, from_slots-to_slots, sliced, map_sliced, length-sliced, bits_of_slice, chunks-sliced, length-chunks, chunks, fixed_items, items_row, length-fixed_items, mask-append, mask-part, mask-unset, chunks-append, spread}
-use Rattle.std.specs.List.{flat_map}
-use Rattle.std.proofs.lemmas.List.{length-append}
+use Rattle.arrow_growable.proofs.Common.{arith, ◌≡◌, ◌+◌, ◌-◌, ◌*◌, ◌/◌, ◌≤◌, ℕ, zero, suc, Bool, true, false, List, [], ◌∷◌, ◌++◌, Option, length, map, replicate, take, drop, if◌then◌else◌, refl, ap, sym, ◌∙◌, length-map, length-replicate, map-append, take_all, take_at, drop-drop, drop_at, replicate-append-replicate, ArrowType, fixed_items_in, mask, masked, Slot, Null, null_slot, from_slots-to_slots, sliced, map_sliced, length-sliced, bits_of_slice, chunks-sliced, length-chunks, chunks, fixed_items, items_row, length-fixed_items, mask-append, mask-part, mask-unset, chunks-append, spread, flat_map, length-append}
 
 -- rows of s items each, in the rows of a child, and s null slots where a row is null
 module _ (s : ℕ) (none : Slot) (xs : List Slot) where

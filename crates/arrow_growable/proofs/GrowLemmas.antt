@@ -1,15 +1,11 @@
 -- A growable over arrays that are bound to it, call by call.
-use Rattle.arrow_growable.proofs.Common.{arith, ◌≡◌, ◌+◌, ℕ, ◌<◌, List, [], ◌++◌, length, map, replicate, false, Result, Ok, Err, Some, ap, sym, subst, ◌∙◌, length-append, inl, inr, OnOk, append-nil, take_all, Error, Fits, joined, Slot, null_slot, Fits-beginning, Fits-nil, sliced, Layout, rows, Grown, AreCrowded, CannotHold, FitsItself, FitsWith, appended, bound_to, first_type, named_rows, null_rows_of, source_at, HasAppended, CannotAppendAll}
+use Rattle.arrow_growable.proofs.Common.{arith, ◌≡◌, ◌+◌, ℕ, ◌<◌, List, [], ◌++◌, length, map, replicate, Result, Ok, Err, Some, ap, sym, subst, ◌∙◌, inl, inr, OnOk, append-nil, take_all, Error, Fits, joined, Slot, null_slot, Fits-beginning, Fits-nil, sliced, Layout, rows, Grown, AreCrowded, CannotHold, FitsItself, FitsWith, appended, bound_to, first_type, named_rows, null_rows_of, source_at, HasAppended, CannotAppendAll}
 use Rattle.arrow_growable.proofs.UnjoinedLemmas.{crowded_among}
+use Rattle.arrow_growable.proofs.ChildLemmas.{appended_twice}
 
 -- no rows at first
 pub holds_none : (layouts : List Layout) (g : Grown) → g ≡ bound_to layouts → HasAppended layouts g []
 holds_none layouts g is = (is, Fits-nil (first_type layouts))
-
-appended_twice : (layouts : List Layout) (xs more : List Slot) → appended (appended (bound_to layouts) xs) more ≡ appended (bound_to layouts) (xs ++ more)
-appended_twice layouts xs more =
-    let count : 0 + length xs + length more ≡ 0 + length (xs ++ more) = omega (arith, length-append xs more) in
-    λ i. record { arrow_type = first_type layouts; sources = Some layouts; rows = xs ++ more; count = count i; failed = false }
 
 module _ (layouts : List Layout) (g : Grown) (xs : List Slot) (held : HasAppended layouts g xs) where
   -- what a call appends
@@ -22,7 +18,7 @@ module _ (layouts : List Layout) (g : Grown) (xs : List Slot) (held : HasAppende
   -- more rows
   pub holds_more : (new : Grown) (added more : List Slot) → added ≡ more → new ≡ appended g added → FitsItself new → HasAppended layouts new (xs ++ more)
   holds_more new added more same is fits =
-      let next : new ≡ appended (bound_to layouts) (xs ++ more) = is ∙ (ap (appended g) same ∙ (ap (λ h. appended h more) held.0 ∙ appended_twice layouts xs more)) in
+      let next : new ≡ appended (bound_to layouts) (xs ++ more) = is ∙ (ap (appended g) same ∙ (ap (λ h. appended h more) held.0 ∙ appended_twice (bound_to layouts) xs more)) in
       (next, subst FitsItself next fits)
 
   -- the same of a call that may refuse

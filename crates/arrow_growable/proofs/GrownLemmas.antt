@@ -1,7 +1,5 @@
 -- Rows behind those of a growable of arrays with children, by how its rows lie in these.
-use Rattle.arrow_growable.proofs.Common.{arith, ◌≡◌, ◌+◌, ◌*◌, ◌<◌, ◌≤◌, ◌^◌, ℕ, zero, suc, Bool, false, List, [], ◌∷◌, ◌++◌, Option, length, map, flat_map, replicate, get_or, slice_index, refl, ap, sym, subst, ◌∙◌, mul-le-mul_left, mul-le-mul_right, All-map, append-nil, length-map, length-replicate, PhysicalType, ArrowType, plain, null, Fits, fixed_items_in, physical_type_of, mask, Slot, Null, Parts, null_slot, Fits-nil, length-mask, null_slot-no_union, last_of, with_valid_rows, sliced, bits_of_slice, length-chunks, chunks, Layout, Layouts, across, fielded, fixed, from_layouts, items_row, listed, rows, type_of_layout, ListParts, list_size, list_shape, shape_in, shape_of, fits_count, Grown, FitsItself, FitsWith, appended, empty_over, null_rows_of, valid_values, GrownBy, IsWell, bound_rows, grown_by, grown_by_nulls, spread, Form, by_fields, by_offsets, by_size, child_type, child_types, column_in, first_column, items_by, nested_rows, null_slots_by, IsFormOf, IsSoundForm, PassesGreatest, emptied, form_with, form_with_nulls, HoldsLists, IsListType, lists_rows, HoldsEven, HoldsNested, rows_of_all, IsOfForm, IsWhole, children_in, no_child, nth_child, nulls_in, place_in, validity_in}
-use Rattle.std.specs.List.{All}
-use Rattle.std.proofs.lemmas.List.{length-append}
+use Rattle.arrow_growable.proofs.Common.{arith, ◌≡◌, ◌+◌, ◌*◌, ◌<◌, ◌≤◌, ◌^◌, ℕ, zero, suc, Bool, false, List, [], ◌∷◌, ◌++◌, Option, length, map, flat_map, replicate, get_or, slice_index, refl, ap, sym, subst, ◌∙◌, mul-le-mul_left, mul-le-mul_right, All-map, append-nil, length-map, length-replicate, PhysicalType, ArrowType, plain, null, Fits, fixed_items_in, physical_type_of, mask, Slot, Null, Parts, null_slot, Fits-nil, length-mask, null_slot-no_union, last_of, with_valid_rows, sliced, bits_of_slice, length-chunks, chunks, Layout, Layouts, across, fielded, fixed, from_layouts, items_row, listed, rows, type_of_layout, ListParts, list_size, list_shape, shape_in, shape_of, fits_count, Grown, FitsItself, FitsWith, appended, empty_over, null_rows_of, valid_values, GrownBy, IsWell, bound_rows, grown_by, grown_by_nulls, spread, Form, by_fields, by_offsets, by_size, child_type, child_types, column_in, first_column, items_by, nested_rows, null_slots_by, IsFormOf, IsSoundForm, PassesGreatest, emptied, form_with, form_with_nulls, HoldsLists, IsListType, lists_rows, HoldsEven, HoldsNested, rows_of_all, IsOfForm, IsWhole, children_in, no_child, nth_child, nulls_in, place_in, validity_in, All, length-append, map-map}
 use Rattle.arrow_types.specs.declared.datatypes.physical_type.PhysicalType.TheVariants as physical
 use Rattle.arrow_growable.specs.Source.{offsets_in}
 use Rattle.arrow_growable.proofs.ChildLemmas.{appended_none}
@@ -10,7 +8,6 @@ use Rattle.arrow_growable.proofs.EvenLemmas.{column_of, fields_behind, fields_na
 use Rattle.arrow_growable.proofs.FieldLemmas.{Column, across_long, field_of_nulls, fields_nulls}
 use Rattle.arrow_growable.proofs.FixedSizeLemmas.{fixed_nulls, fixed_of_nulls}
 use Rattle.arrow_growable.proofs.ListLemmas.{holds_counts, holds_fits, holds_more, holds_none, holds_nulls, items_refuse, nulls_appended, offsets_refuse, rows_appended}
-use Rattle.arrow_growable.proofs.MakeLemmas.{map_twice}
 use Rattle.arrow_growable.proofs.NestedLemmas.{as_many, bits_long, even_grown, even_refused, type_of_child}
 use Rattle.arrow_growable.proofs.SpreadLemmas.{length-spread, row_places, size_places, spread-valid}
 
@@ -23,11 +20,11 @@ LiesSo physical.FixedSizeList (by_size s) = Unit {0}
 LiesSo physical.Struct by_fields = Unit {0}
 LiesSo _ _ = ⊥
 
-lists_lie : (arrays : PhysicalType) (os : List ℕ) → LiesSo arrays (by_offsets os) → IsListType arrays
-lists_lie physical.List os lies = tt
-lists_lie physical.LargeList os lies = tt
-lists_lie physical.Map os lies = tt
-lists_lie _ os lies = absurd lies
+lists_lie : (arrays : PhysicalType) → LiesSo arrays (by_offsets (0 ∷ [])) → IsListType arrays × (shape_of arrays ≡ list_shape)
+lists_lie physical.List lies = (tt, refl)
+lists_lie physical.LargeList lies = (tt, refl)
+lists_lie physical.Map lies = (tt, refl)
+lists_lie _ lies = absurd lies
 
 sized_lie : (arrays : PhysicalType) (s : ℕ) → LiesSo arrays (by_size s) → arrays ≡ physical.FixedSizeList
 sized_lie physical.FixedSizeList s lies = refl
@@ -38,15 +35,12 @@ fields_lie physical.Struct lies = refl
 fields_lie _ lies = absurd lies
 
 -- of the shape of lists
-shape_lists : (t : ArrowType) (arrays : PhysicalType) (os : List ℕ) → LiesSo arrays (by_offsets os) → physical_type_of t ≡ arrays → shape_in t ≡ list_shape
-shape_lists t physical.List os lies kind = ap shape_of kind
-shape_lists t physical.LargeList os lies kind = ap shape_of kind
-shape_lists t physical.Map os lies kind = ap shape_of kind
-shape_lists t _ os lies kind = absurd lies
+shape_lists : (t : ArrowType) (arrays : PhysicalType) → LiesSo arrays (by_offsets (0 ∷ [])) → physical_type_of t ≡ arrays → shape_in t ≡ list_shape
+shape_lists t arrays lies kind = ap shape_of kind ∙ (lists_lie arrays lies).1
 
 -- a growable that holds rows, and the type
 pub record Holds (arrays : PhysicalType) (form : Form) (children : List Grown) (bits : List Bool) (len : ℕ) (t : ArrowType) : Type 0 where
-  pub lies : LiesSo arrays form
+  pub lies : LiesSo arrays (emptied form)
   pub kind : physical_type_of t ≡ arrays
   pub size : IsFormOf t form
   pub sound : IsSoundForm arrays form
@@ -73,15 +67,12 @@ same_size : (arrays : PhysicalType) (s z : ℕ) (t u : ArrowType) → IsFormOf t
 same_size arrays s z t u size whole of_type = whole ∙ (ap list_size of_type ∙ sym size)
 
 -- the one child of a list of any form
-one_child : (g h : Grown) (rest : List Grown) (t : ArrowType) → shape_in t ≡ list_shape → map (λ c. c.arrow_type) (g ∷ h ∷ rest) ≡ child_types t → ⊥
-one_child g h rest t shape types =
-    let long = ap length types ∙ ap length (list_child_types t shape) in
-    omega (arith, long)
+one_child : (children : List Grown) (t : ArrowType) → shape_in t ≡ list_shape → map (λ c. c.arrow_type) children ≡ child_types t → length children ≡ 1
+one_child children t shape types = as_many children t types ∙ ap length (list_child_types t shape)
 
-no_child_left : (t : ArrowType) → shape_in t ≡ list_shape → map (λ (c : Grown). c.arrow_type) [] ≡ child_types t → ⊥
-no_child_left t shape types =
-    let long = ap length types ∙ ap length (list_child_types t shape) in
-    omega (arith, long)
+alone : {arrays : PhysicalType} {s : ℕ} {children : List Grown} {bits : List Bool} {len : ℕ} {t : ArrowType} → Holds arrays (by_size s) children bits len t → length children ≡ 1
+alone {arrays} {s} {children} {bits} {len} {t} holds =
+    one_child children t (ap shape_of (holds.kind ∙ sized_lie arrays s holds.lies)) holds.types
 
 -- a list, as its parts
 abbrev parts_of : ArrowType → Option (List Bool) → List ℕ → Layout → ListParts
@@ -192,19 +183,15 @@ pub grows : (arrays : PhysicalType) (form : Form) (children : List Grown) (bits 
 grows arrays (by_offsets os) [] bits len t l index start n names fits = absurd names.grown.holds
 grows arrays (by_offsets os) (child ∷ []) bits len t (listed u v offsets c) index start n names fits =
     grows_lists arrays os child bits len t u v offsets c index start n names (fits 0 child (omega arith))
-grows arrays (by_offsets os) (child ∷ []) bits len t _ index start n names fits = absurd names.of_form
 grows arrays (by_offsets os) (child ∷ other ∷ rest) bits len t l index start n names fits = absurd names.grown.holds
-grows arrays (by_size z) [] bits len t l index start n names fits =
-    absurd (no_child_left t (ap shape_of (names.grown.kind ∙ sized_lie arrays z names.grown.lies)) names.grown.types)
+grows arrays (by_size z) [] bits len t l index start n names fits = absurd (omega (arith, alone names.grown))
 grows arrays (by_size z) (g ∷ []) bits len t (fixed u v s c) index start n names fits =
     let one = same_size arrays z s t u names.grown.size names.whole.0 names.of_type in
     subst (λ y. Grows (by_size y) (by_size y) (g ∷ []) (map (grown_by s (bits_of_slice v start n) (λ k. k * s) index start) (g ∷ [])) bits (bits ++ bits_of_slice v start n) (len + n) t (sliced (rows (fixed u v s c)) start n)) one (grows_sized arrays s g bits len t v c index start n (sized_names arrays z (g ∷ []) bits len t u v s c index start n names) fits)
-grows arrays (by_size z) (g ∷ []) bits len t _ index start n names fits = absurd names.of_form
-grows arrays (by_size z) (g ∷ h ∷ rest) bits len t l index start n names fits =
-    absurd (one_child g h rest t (ap shape_of (names.grown.kind ∙ sized_lie arrays z names.grown.lies)) names.grown.types)
+grows arrays (by_size z) (g ∷ h ∷ rest) bits len t l index start n names fits = absurd (omega (arith, alone names.grown))
 grows arrays by_fields children bits len t (fielded u v cs) index start n names fits =
     grows_fields arrays children bits len t v cs index start n (field_names arrays children bits len t u v cs index start n names) fits
-grows arrays by_fields children bits len t _ index start n names fits = absurd names.of_form
+grows arrays form children bits len t l index start n names fits = absurd names.of_form
 
 -- where a child can't hold what they name of it, the rows do not fit
 pub child_refused : (arrays : PhysicalType) (form : Form) (children : List Grown) (bits : List Bool) (len : ℕ) (t : ArrowType) (l : Layout) (index start n : ℕ) → Names arrays form children bits len t l index start n → (f : ℕ) (d : Grown) → f < length children → (FitsWith (get_or children f d) (spread (nulls_in l) (null_slot (get_or children f d).arrow_type) (bits_of_slice (validity_in l) start n) (place_in l) (bound_rows (get_or children f d) index) start) → ⊥) → Fits t (nested_rows form bits (rows_of_all children) ++ sliced (rows l) start n) → ⊥
@@ -212,41 +199,35 @@ child_refused arrays (by_offsets os) [] bits len t l index start n names f d wit
 child_refused arrays (by_offsets os) (child ∷ []) bits len t (listed u v offsets c) index start n names zero d within over fits =
     let w = names.whole in
     let inside : start + n < length offsets = omega (arith, names.inside, w.3) in
-    let is_list = lists_lie arrays os names.grown.lies in
-    let of_items = type_of_child (child ∷ []) t names.grown.types 0 child (omega arith) ∙ ap (λ ts. get_or ts 0 (plain null)) (list_child_types t (shape_lists t arrays os names.grown.lies names.grown.kind)) in
+    let is_list = (lists_lie arrays names.grown.lies).0 in
+    let of_items = type_of_child (child ∷ []) t names.grown.types 0 child (omega arith) ∙ ap (λ ts. get_or ts 0 (plain null)) (list_child_types t (shape_lists t arrays names.grown.lies names.grown.kind)) in
     items_refuse os child bits len names.grown.sound.0 names.grown.holds (parts_of u v offsets c) start n w.0 w.1 w.2 inside arrays t is_list names.grown.kind of_items (λ fit. over (subst (FitsWith child) (sym (ap (λ ys. spread 0 (null_slot child.arrow_type) (bits_of_slice v start n) (slice_index offsets) ys start) (names.mates 0 d within) ∙ spread-valid (null_slot child.arrow_type) (bits_of_slice v start n) offsets (rows c) start)) fit)) fits
 child_refused arrays (by_offsets os) (child ∷ []) bits len t (listed u v offsets c) index start n names (suc f) d within over fits = absurd (omega (arith, within))
-child_refused arrays (by_offsets os) (child ∷ []) bits len t _ index start n names f d within over fits = names.of_form
 child_refused arrays (by_offsets os) (child ∷ other ∷ rest) bits len t l index start n names f d within over fits = names.grown.holds
 child_refused arrays (by_size z) [] bits len t l index start n names f d within over fits = absurd (omega (arith, within))
 child_refused arrays (by_size z) (g ∷ []) bits len t (fixed u v s c) index start n names f d within over fits =
     let one = same_size arrays z s t u names.grown.size names.whole.0 names.of_type in
     sized_refused arrays s g bits len t v c index start n (sized_names arrays z (g ∷ []) bits len t u v s c index start n names) f d within over (subst (λ y. Fits t (nested_rows (by_size y) bits (rows_of_all (g ∷ [])) ++ sliced (rows (fixed u v s c)) start n)) (sym one) fits)
-child_refused arrays (by_size z) (g ∷ []) bits len t _ index start n names f d within over fits = names.of_form
-child_refused arrays (by_size z) (g ∷ h ∷ rest) bits len t l index start n names f d within over fits =
-    one_child g h rest t (ap shape_of (names.grown.kind ∙ sized_lie arrays z names.grown.lies)) names.grown.types
+child_refused arrays (by_size z) (g ∷ h ∷ rest) bits len t l index start n names f d within over fits = omega (arith, alone names.grown)
 child_refused arrays by_fields children bits len t (fielded u v cs) index start n names f d within over fits =
     fields_refused arrays children bits len t v cs index start n (field_names arrays children bits len t u v cs index start n names) f d within over fits
-child_refused arrays by_fields children bits len t _ index start n names f d within over fits = names.of_form
+child_refused arrays form children bits len t l index start n names f d within over fits = names.of_form
 
 -- nor do they where the last offset would pass the greatest
 pub offsets_refused : (arrays : PhysicalType) (form : Form) (children : List Grown) (bits : List Bool) (len : ℕ) (t : ArrowType) (l : Layout) (index start n : ℕ) → Names arrays form children bits len t l index start n → PassesGreatest arrays form (bits_of_slice (validity_in l) start n) (offsets_in l) start → Fits t (nested_rows form bits (rows_of_all children) ++ sliced (rows l) start n) → ⊥
-offsets_refused arrays (by_offsets os) [] bits len t l index start n names passes fits = names.grown.holds
 offsets_refused arrays (by_offsets os) (child ∷ []) bits len t (listed u v offsets c) index start n names passes fits =
     let w = names.whole in
     let inside : start + n < length offsets = omega (arith, names.inside, w.3) in
-    let of_items = type_of_child (child ∷ []) t names.grown.types 0 child (omega arith) ∙ ap (λ ts. get_or ts 0 (plain null)) (list_child_types t (shape_lists t arrays os names.grown.lies names.grown.kind)) in
-    offsets_refuse os child bits len names.grown.sound.0 names.grown.holds (parts_of u v offsets c) start n w.0 w.1 w.2 inside arrays t (lists_lie arrays os names.grown.lies) names.grown.kind of_items passes fits
+    let of_items = type_of_child (child ∷ []) t names.grown.types 0 child (omega arith) ∙ ap (λ ts. get_or ts 0 (plain null)) (list_child_types t (shape_lists t arrays names.grown.lies names.grown.kind)) in
+    offsets_refuse os child bits len names.grown.sound.0 names.grown.holds (parts_of u v offsets c) start n w.0 w.1 w.2 inside arrays t (lists_lie arrays names.grown.lies).0 names.grown.kind of_items passes fits
 offsets_refused arrays (by_offsets os) (child ∷ []) bits len t _ index start n names passes fits = names.of_form
-offsets_refused arrays (by_offsets os) (child ∷ other ∷ rest) bits len t l index start n names passes fits = names.grown.holds
 offsets_refused arrays (by_size z) children bits len t l index start n names passes fits = passes
 offsets_refused arrays by_fields children bits len t l index start n names passes fits = passes
+offsets_refused arrays form children bits len t l index start n names passes fits = names.grown.holds
 
 -- a growable counts its rows
 pub counts : (form : Form) (children : List Grown) (bits : List Bool) (len : ℕ) (t : ArrowType) → HoldsNested form children bits len t → len ≡ length (nested_rows form bits (rows_of_all children))
-counts (by_offsets os) [] bits len t holds = absurd holds
 counts (by_offsets os) (child ∷ []) bits len t holds = holds_counts os child bits len holds
-counts (by_offsets os) (child ∷ other ∷ rest) bits len t holds = absurd holds
 counts (by_size s) children bits len t holds =
     let items = items_by (by_size s) (length bits) (rows_of_all children) in
     let long : length items ≡ length bits = length-map (chunks (length bits) s (first_column (rows_of_all children))) items_row ∙ length-chunks (length bits) s (first_column (rows_of_all children)) in
@@ -256,6 +237,7 @@ counts by_fields children bits len t holds =
     let full : All (λ c. length c ≡ length bits) (rows_of_all children) = All-map (λ c. length c ≡ length bits) (λ g. g.rows) children (λ f d within. omega (arith, holds.whole f d within, holds.counted)) in
     let long : length items ≡ length bits = length-map (across (length bits) (rows_of_all children)) Parts ∙ across_long (length bits) (rows_of_all children) full in
     omega (arith, length-mask bits items (sym long), long, holds.counted)
+counts form children bits len t holds = absurd holds
 
 -- what a child holds fits
 child_fits : (form : Form) (w : ℕ) (children : List Grown) (bits : List Bool) (len : ℕ) (t : ArrowType) → HoldsEven form w children bits len t → map (λ g. g.arrow_type) children ≡ child_types t → (f : ℕ) → f < length children → Fits (child_type t f) (column_in t f (nested_rows form bits (rows_of_all children)))
@@ -264,13 +246,10 @@ child_fits form w children bits len t holds types f within =
 
 -- its rows fit
 pub fits_rows : (arrays : PhysicalType) (form : Form) (children : List Grown) (bits : List Bool) (len : ℕ) (t : ArrowType) → Holds arrays form children bits len t → len < 2 ^ 64 → Fits t (nested_rows form bits (rows_of_all children))
-fits_rows arrays (by_offsets os) [] bits len t holds few = absurd holds.holds
 fits_rows arrays (by_offsets os) (child ∷ []) bits len t holds few =
-    let of_items = type_of_child (child ∷ []) t holds.types 0 child (omega arith) ∙ ap (λ ts. get_or ts 0 (plain null)) (list_child_types t (shape_lists t arrays os holds.lies holds.kind)) in
-    holds_fits os child bits len holds.sound.0 holds.holds arrays t (lists_lie arrays os holds.lies) holds.kind of_items holds.sound.1 few
-fits_rows arrays (by_offsets os) (child ∷ other ∷ rest) bits len t holds few = absurd holds.holds
-fits_rows arrays (by_size s) [] bits len t holds few =
-    absurd (no_child_left t (ap shape_of (holds.kind ∙ sized_lie arrays s holds.lies)) holds.types)
+    let of_items = type_of_child (child ∷ []) t holds.types 0 child (omega arith) ∙ ap (λ ts. get_or ts 0 (plain null)) (list_child_types t (shape_lists t arrays holds.lies holds.kind)) in
+    holds_fits os child bits len holds.sound.0 holds.holds arrays t (lists_lie arrays holds.lies).0 holds.kind of_items holds.sound.1 few
+fits_rows arrays (by_size s) [] bits len t holds few = absurd (omega (arith, alone holds))
 fits_rows arrays (by_size s) (g ∷ rest) bits len t holds few =
     let kind = holds.kind ∙ sized_lie arrays s holds.lies in
     let count = counts (by_size s) (g ∷ rest) bits len t holds.holds in
@@ -280,17 +259,14 @@ fits_rows arrays (by_size s) (g ∷ rest) bits len t holds few =
     fits_sized t (nested_rows (by_size s) bits (rows_of_all (g ∷ rest))) kind (omega (arith, few, count)) (subst {A = ℕ × ℕ} (λ q. q.0 * q.1 < 2 ^ 64) (λ j. (holds.size j, count j)) (omega (arith, full, items, turned))) (child_fits (by_size s) s (g ∷ rest) bits len t holds.holds holds.types 0 (omega arith))
 fits_rows arrays by_fields children bits len t holds few =
     fits_fields t (nested_rows by_fields bits (rows_of_all children)) (holds.kind ∙ fields_lie arrays holds.lies) (omega (arith, few, counts by_fields children bits len t holds.holds)) (λ f within. child_fits by_fields 1 children bits len t holds.holds holds.types f (omega (arith, within, as_many children t holds.types)))
+fits_rows arrays form children bits len t holds few = absurd holds.holds
 
 -- null rows behind
 
 -- no union has children that grow so far
 null_is : (arrays : PhysicalType) (form : Form) (t : ArrowType) → LiesSo arrays form → physical_type_of t ≡ arrays → null_slot t ≡ Null
-null_is physical.List form t lies kind = null_slot-no_union t (λ union. cc)
-null_is physical.LargeList form t lies kind = null_slot-no_union t (λ union. cc)
-null_is physical.Map form t lies kind = null_slot-no_union t (λ union. cc)
-null_is physical.FixedSizeList form t lies kind = null_slot-no_union t (λ union. cc)
-null_is physical.Struct form t lies kind = null_slot-no_union t (λ union. cc)
-null_is _ form t lies kind = absurd lies
+null_is arrays form t lies kind =
+    null_slot-no_union t (λ union. subst (λ a. LiesSo a form) (sym kind ∙ union) lies)
 
 -- what null rows name of a child
 sized_nulls : (arrays : PhysicalType) (s : ℕ) (g : Grown) (bits : List Bool) (len : ℕ) (t : ArrowType) (n : ℕ) → Holds arrays (by_size s) (g ∷ []) bits len t → (f : ℕ) (d : Grown) → f < 1 → column_in t f (replicate n Null) ≡ null_rows_of (get_or (g ∷ []) f d) (n * s)
@@ -310,23 +286,20 @@ many_nulls n children f d within = length-replicate n (null_slot (get_or childre
 fields_null_rows : (children : List Grown) (bits : List Bool) (len n : ℕ) → length bits ≡ len → All (λ g. length g.rows ≡ len * 1) children → nested_rows by_fields (bits ++ replicate n false) (rows_of_all (map (grown_by_nulls (n * 1)) children)) ≡ nested_rows by_fields bits (rows_of_all children) ++ replicate n Null
 fields_null_rows children bits len n counted full =
     let more = replicate n false in
-    let grown = map_twice (λ (g : Grown). g.rows) (grown_by_nulls (n * 1)) children ∙ sym (map_twice (λ (c : Column). c.own ++ replicate (n * 1) c.none) (column_of 0) children) in
-    let owned = map_twice (λ (c : Column). c.own) (column_of 0) children in
+    let grown = map-map (λ (g : Grown). g.rows) (grown_by_nulls (n * 1)) children ∙ sym (map-map (λ (c : Column). c.own ++ replicate (n * 1) c.none) (column_of 0) children) in
+    let owned = map-map (λ (c : Column). c.own) (column_of 0) children in
     ap (λ xs. mask (bits ++ more) (map Parts (across (length (bits ++ more)) xs))) grown ∙ (fields_nulls bits (map (column_of 0) children) n (owns_long 0 children bits len counted full) ∙ ap (λ xs. mask bits (map Parts (across (length bits) xs)) ++ replicate n Null) owned)
 
 -- with null slots behind each child
 pub grows_nulls : (arrays : PhysicalType) (form : Form) (children : List Grown) (bits : List Bool) (len : ℕ) (t : ArrowType) (n : ℕ) → Holds arrays form children bits len t → All FitsItself (map (grown_by_nulls (n * null_slots_by form)) children) → Grows form (form_with_nulls form n) children (map (grown_by_nulls (n * null_slots_by form)) children) bits (bits ++ replicate n false) (len + n) t (replicate n (null_slot t))
-grows_nulls arrays (by_offsets os) [] bits len t n holds fits = absurd holds.holds
 grows_nulls arrays (by_offsets os) (child ∷ []) bits len t n holds fits =
     let none : n * 0 ≡ 0 = omega arith in
     let same : grown_by_nulls (n * 0) child ≡ child = ap (λ k. grown_by_nulls k child) none ∙ appended_none child holds.holds.child.well in
     record {
       holds = subst (λ g. HoldsLists (os ++ replicate n (last_of os)) g (bits ++ replicate n false) (len + n)) (sym same) (holds_nulls os child bits len holds.sound.0 holds.holds n);
-      rows = ap (λ g. lists_rows (bits ++ replicate n false) (os ++ replicate n (last_of os)) g.rows) same ∙ (nulls_appended os child bits len holds.sound.0 holds.holds n ∙ ap (λ s. lists_rows bits os child.rows ++ replicate n s) (sym (null_is arrays (by_offsets os) t holds.lies holds.kind)));
+      rows = ap (λ g. lists_rows (bits ++ replicate n false) (os ++ replicate n (last_of os)) g.rows) same ∙ (nulls_appended os child bits len holds.sound.0 holds.holds n ∙ ap (λ s. lists_rows bits os child.rows ++ replicate n s) (sym (null_is arrays (by_offsets (0 ∷ [])) t holds.lies holds.kind)));
     }
-grows_nulls arrays (by_offsets os) (child ∷ other ∷ rest) bits len t n holds fits = absurd holds.holds
-grows_nulls arrays (by_size s) [] bits len t n holds fits =
-    absurd (no_child_left t (ap shape_of (holds.kind ∙ sized_lie arrays s holds.lies)) holds.types)
+grows_nulls arrays (by_size s) [] bits len t n holds fits = absurd (omega (arith, alone holds))
 grows_nulls arrays (by_size s) (g ∷ []) bits len t n holds fits =
     let full : length bits * s ≡ length g.rows = ap (λ k. k * s) holds.holds.counted ∙ sym (holds.holds.whole 0 g (omega arith)) in
     let behind = fixed_nulls s (null_slot g.arrow_type) bits g.rows n full in
@@ -334,30 +307,28 @@ grows_nulls arrays (by_size s) (g ∷ []) bits len t n holds fits =
       holds = even_grown (by_size s) s (g ∷ []) bits len t holds.holds holds.types (λ h. null_rows_of h (n * s)) (replicate n Null) (sized_nulls arrays s g bits len t n holds) (replicate n false) n (length-replicate n false) (many_nulls (n * s) (g ∷ [])) behind fits;
       rows = behind;
     })
-grows_nulls arrays (by_size s) (g ∷ h ∷ rest) bits len t n holds fits =
-    absurd (one_child g h rest t (ap shape_of (holds.kind ∙ sized_lie arrays s holds.lies)) holds.types)
+grows_nulls arrays (by_size s) (g ∷ h ∷ rest) bits len t n holds fits = absurd (omega (arith, alone holds))
 grows_nulls arrays by_fields children bits len t n holds fits =
     let behind = fields_null_rows children bits len n holds.holds.counted holds.holds.whole in
     subst (λ slot. Grows by_fields by_fields children (map (grown_by_nulls (n * 1)) children) bits (bits ++ replicate n false) (len + n) t (replicate n slot)) (sym (null_is arrays by_fields t holds.lies holds.kind)) (record {
       holds = even_grown by_fields 1 children bits len t holds.holds holds.types (λ h. null_rows_of h (n * 1)) (replicate n Null) (field_nulls arrays children bits len t n holds) (replicate n false) n (length-replicate n false) (many_nulls (n * 1) children) behind fits;
       rows = behind;
     })
+grows_nulls arrays form children bits len t n holds fits = absurd holds.holds
 
 -- where a child can't hold its null slots, the rows do not fit
 pub nulls_refused : (arrays : PhysicalType) (form : Form) (children : List Grown) (bits : List Bool) (len : ℕ) (t : ArrowType) (n : ℕ) → Holds arrays form children bits len t → (f : ℕ) (d : Grown) → f < length children → (FitsWith (get_or children f d) (null_rows_of (get_or children f d) (n * null_slots_by form)) → ⊥) → Fits t (nested_rows form bits (rows_of_all children) ++ replicate n (null_slot t)) → ⊥
-nulls_refused arrays (by_offsets os) [] bits len t n holds f d within over fits = holds.holds
 nulls_refused arrays (by_offsets os) (child ∷ []) bits len t n holds zero d within over fits =
     let none : n * 0 ≡ 0 = omega arith in
     over (subst (Fits child.arrow_type) (sym (ap (λ k. child.rows ++ replicate k (null_slot child.arrow_type)) none ∙ append-nil child.rows)) holds.holds.child.fits)
 nulls_refused arrays (by_offsets os) (child ∷ []) bits len t n holds (suc f) d within over fits = omega (arith, within)
-nulls_refused arrays (by_offsets os) (child ∷ other ∷ rest) bits len t n holds f d within over fits = holds.holds
 nulls_refused arrays (by_size s) [] bits len t n holds f d within over fits = omega (arith, within)
 nulls_refused arrays (by_size s) (g ∷ []) bits len t n holds f d within over fits =
     even_refused (by_size s) s (g ∷ []) bits len t holds.holds holds.types (λ h. null_rows_of h (n * s)) (replicate n Null) (sized_nulls arrays s g bits len t n holds) f d within over (subst (λ slot. Fits t (nested_rows (by_size s) bits (rows_of_all (g ∷ [])) ++ replicate n slot)) (null_is arrays (by_size s) t holds.lies holds.kind) fits)
-nulls_refused arrays (by_size s) (g ∷ h ∷ rest) bits len t n holds f d within over fits =
-    one_child g h rest t (ap shape_of (holds.kind ∙ sized_lie arrays s holds.lies)) holds.types
+nulls_refused arrays (by_size s) (g ∷ h ∷ rest) bits len t n holds f d within over fits = omega (arith, alone holds)
 nulls_refused arrays by_fields children bits len t n holds f d within over fits =
     even_refused by_fields 1 children bits len t holds.holds holds.types (λ h. null_rows_of h (n * 1)) (replicate n Null) (field_nulls arrays children bits len t n holds) f d within over (subst (λ slot. Fits t (nested_rows by_fields bits (rows_of_all children) ++ replicate n slot)) (null_is arrays by_fields t holds.lies holds.kind) fits)
+nulls_refused arrays form children bits len t n holds f d within over fits = holds.holds
 
 -- nor do they where the slots can't be counted
 pub slots_refused : (arrays : PhysicalType) (form : Form) (children : List Grown) (bits : List Bool) (len : ℕ) (t : ArrowType) (n : ℕ) → Holds arrays form children bits len t → n < 2 ^ 64 → 2 ^ 64 ≤ n * null_slots_by form → Fits t (nested_rows form bits (rows_of_all children) ++ replicate n (null_slot t)) → ⊥
@@ -382,8 +353,7 @@ AreEmpty children = All (λ g. g ≡ empty_over g.arrow_type g.sources) children
 
 pub no_rows : (form : Form) (columns : List (List Slot)) → nested_rows form [] columns ≡ []
 no_rows (by_offsets os) columns = refl
-no_rows (by_size s) columns = refl
-no_rows by_fields columns = refl
+no_rows form columns = refl
 
 empty_is_well : (g : Grown) → g ≡ empty_over g.arrow_type g.sources → IsWell g
 empty_is_well g empty =
@@ -393,24 +363,17 @@ no_column : (t : ArrowType) (form : Form) (children : List Grown) (f : ℕ) (d :
 no_column t form children f d empty within =
     ap (column_in t f) (no_rows form (rows_of_all children)) ∙ (column-nil t f ∙ sym (ap (λ g. g.rows) (empty f d within)))
 
-pub holds_nothing : (arrays : PhysicalType) (form : Form) (children : List Grown) (t : ArrowType) → LiesSo arrays form → physical_type_of t ≡ arrays → map (λ g. g.arrow_type) children ≡ child_types t → AreEmpty children → HoldsNested (emptied form) children [] 0 t
+pub holds_nothing : (arrays : PhysicalType) (form : Form) (children : List Grown) (t : ArrowType) → LiesSo arrays (emptied form) → physical_type_of t ≡ arrays → map (λ g. g.arrow_type) children ≡ child_types t → AreEmpty children → HoldsNested (emptied form) children [] 0 t
 holds_nothing arrays (by_offsets os) [] t lies kind types empty =
-    absurd (no_child_left t (shape_lists t arrays os lies kind) types)
+    absurd (omega (arith, one_child [] t (shape_lists t arrays lies kind) types))
 holds_nothing arrays (by_offsets os) (child ∷ []) t lies kind types empty =
     holds_none child.arrow_type child.sources child (empty 0 child (omega arith))
 holds_nothing arrays (by_offsets os) (g ∷ h ∷ rest) t lies kind types empty =
-    absurd (one_child g h rest t (shape_lists t arrays os lies kind) types)
-holds_nothing arrays (by_size s) children t lies kind types empty =
+    absurd (omega (arith, one_child (g ∷ h ∷ rest) t (shape_lists t arrays lies kind) types))
+holds_nothing arrays form children t lies kind types empty =
     record {
       counted = refl;
       well = λ f d within. empty_is_well (get_or children f d) (empty f d within);
       whole = λ f d within. ap (λ g. length g.rows) (empty f d within) ∙ omega arith;
-      columns = λ f d within. no_column t (by_size s) children f d empty within;
-    }
-holds_nothing arrays by_fields children t lies kind types empty =
-    record {
-      counted = refl;
-      well = λ f d within. empty_is_well (get_or children f d) (empty f d within);
-      whole = λ f d within. ap (λ g. length g.rows) (empty f d within) ∙ omega arith;
-      columns = λ f d within. no_column t by_fields children f d empty within;
+      columns = λ f d within. no_column t form children f d empty within;
     }

@@ -1,25 +1,11 @@
 -- Of which rows a type id is one of some field, as words of bits.
-use Rattle.std.proofs.Common.{◌≡◌, ◌∙◌, ℕ, ℤ, ◌+◌, ◌*◌, ◌<◌, ◌≤◌, ◌%◌, ◌^◌, ◌-◌, ◌==◌, Bool, false, cond, List, [], ◌∷◌, ◌++◌, map, length, take, drop, replicate, get_or, w8, of_z, to_z, refl, sym, ap, ap₂, arith, bit_or}
-use Rattle.std.proofs.lemmas.Bool.Decides.{Decides-eqb, Decides-int_eq, same_from_decides}
-use Rattle.std.proofs.lemmas.Int.{to_z-of_z}
-use Rattle.std.proofs.lemmas.List.{length-drop, length-map, length-take, length-take-le, map-append, take-take, get_or-drop, get_or-map, get_or-take, get_or_default, same_lists, take_more}
-use Rattle.std.proofs.lemmas.List.Elements.{All-head, All-tail}
+use Rattle.arrow_growable.proofs.Common.{◌≡◌, ◌∙◌, ℕ, ℤ, ◌+◌, ◌*◌, ◌<◌, ◌≤◌, ◌%◌, ◌^◌, ◌-◌, ◌==◌, Bool, false, cond, List, [], ◌∷◌, ◌++◌, map, length, take, drop, replicate, get_or, w8, of_z, to_z, refl, sym, ap, ap₂, arith, bit_or, Decides-eqb, Decides-int_eq, same_from_decides, to_z-of_z, length-drop, length-map, length-take, length-take-le, map-append, take-take, get_or-drop, get_or-map, get_or-take, get_or_default, same_lists, take_more, All-head, All-tail, bitmask_splat, mask_l-lt, mul-lt-mul_of_pos_right, pow-le-pow_right, take-add, AnswersBits, AnswersWords, GathersBits, sliced, min, FitsSigned, All, int_eq, have_id}
 use Rattle.std.proofs.lemmas.Nat.{pow-add, pow_pos}
-use Rattle.std.proofs.lemmas.Simd.{bitmask_splat, mask_l-lt}
-use Rattle.std.proofs.Math.Nat.{mul-lt-mul_of_pos_right, pow-le-pow_right}
-use Rattle.std.proofs.Math.Seq.{take-add}
 use Rattle.std.specs.Int.Bits.{or_shifted_r}
 use Rattle.arrow_memory.proofs.BitLemmas.{word_more}
 use Rattle.arrow_memory.proofs.WordLemmas.{word_of-append}
 use Rattle.std.specs.Int.{from_bool}
 use Rattle.arrow_memory.proofs.GatherLemmas.{rows_by_words}
-use Rattle.arrow_memory.specs.Gathered.{AnswersBits, AnswersWords, GathersBits}
-use Rattle.arrow_memory.specs.Sliced.{sliced}
-use Rattle.std.specs.Prelude.{min}
-use Rattle.std.specs.Int.RustNames.{FitsSigned}
-use Rattle.std.specs.List.{All}
-use Rattle.std.specs.Ordering.{int_eq}
-use Rattle.arrow_growable.specs.Variants.{have_id}
 use lib.Lanes.{mask_l, top, zip2}
 
 -- ---- a block of ids

@@ -8,7 +8,7 @@ no_plain null is = is
 no_plain _ is = is
 
 -- the kinds of arrays with children that can grow
-abbrev IsNestedKind : Kind → Type 0
+abbrev pub IsNestedKind : Kind → Type 0
 IsNestedKind list_kind = Unit {0}
 IsNestedKind fixed_size_list_kind = Unit {0}
 IsNestedKind map_kind = Unit {0}
@@ -23,19 +23,10 @@ nested_kind physical.Map is = tt
 nested_kind physical.Struct is = tt
 nested_kind _ is = is
 
+pub nested_of : {k : Kind} (p : PhysicalType) → kind_in p ≡ k → IsNestedKind k → IsNestedType p
+nested_of p is nested = nested_kind p (subst IsNestedKind (sym is) nested)
+
 -- the physical types of these kinds
-pub nested_lists : (p : PhysicalType) → kind_in p ≡ list_kind → IsNestedType p
-nested_lists p is = nested_kind p (subst IsNestedKind (sym is) tt)
-
-pub nested_fixed_size_lists : (p : PhysicalType) → kind_in p ≡ fixed_size_list_kind → IsNestedType p
-nested_fixed_size_lists p is = nested_kind p (subst IsNestedKind (sym is) tt)
-
-pub nested_maps : (p : PhysicalType) → kind_in p ≡ map_kind → IsNestedType p
-nested_maps p is = nested_kind p (subst IsNestedKind (sym is) tt)
-
-pub nested_structs : (p : PhysicalType) → kind_in p ≡ struct_kind → IsNestedType p
-nested_structs p is = nested_kind p (subst IsNestedKind (sym is) tt)
-
 pub type_of_maps : (p : PhysicalType) → kind_in p ≡ map_kind → p ≡ physical.Map
 type_of_maps physical.Map is = refl
 type_of_maps _ is = cc
@@ -62,14 +53,7 @@ others_flat physical.Struct l f g s m u d = s refl
 others_flat physical.Map l f g s m u d = m refl
 others_flat physical.Union l f g s m u d = u refl
 others_flat (physical.Dictionary k) l f g s m u d = d k refl
-others_flat physical.Null l f g s m u d = tt
-others_flat physical.Boolean l f g s m u d = tt
-others_flat (physical.Primitive e) l f g s m u d = tt
-others_flat physical.Binary l f g s m u d = tt
-others_flat physical.LargeBinary l f g s m u d = tt
-others_flat physical.Utf8 l f g s m u d = tt
-others_flat physical.LargeUtf8 l f g s m u d = tt
-others_flat physical.FixedSizeBinary l f g s m u d = tt
+others_flat p l f g s m u d = tt
 
 -- and that of dictionaries
 pub shape_of_dictionaries : (p : PhysicalType) → kind_in p ≡ dictionary_kind → shape_of p ≡ dictionary_shape

@@ -1,6 +1,5 @@
 -- A growable of lists: its rows, what fits, and why it refuses.
-use Rattle.arrow_growable.proofs.Common.{arith, ◌≡◌, ◌+◌, ◌-◌, ◌<◌, ◌≤◌, ◌^◌, ℕ, zero, suc, pos, Bool, true, false, List, [], ◌∷◌, ◌++◌, Option, length, map, replicate, take, drop, slice_index, refl, ap, sym, subst, ◌∙◌, ints, length-map, length-replicate, map-append, take_all, sum_by-cons, PhysicalType, ArrowType, plain, list, struct, union, dictionary, extension, field, small, large, fixed_size, mapped, Fits, all_items, physical_type_of, joined, mask, masked, Slot, Null, Fits-nil, all_items-append, length-mask, joined-append, from_slots-to_slots, IsOffsets, RisesFrom, last_of, valid_ends, valid_items, with_valid_rows, sliced, at_most_last, map_sliced, length-sliced, valid_sound, FitsRows, bits_of_slice, pieces, pieces_from, length-pieces, Layout, items_row, list_items, rows, ListParts, list_rows, item_type, Grown, empty_over, AreGrown, filled, total, valid_values, mask-append, mask-filled, mask-part, mask-unset, length-bits_of_slice, length-filled, empty_grown, empty_rows, last_behind, total_pieces, valid_grown, valid_last, valid_moved, GrownBy, AnyItems, FitsLists, HoldsLists, IsListType, SparesItems, greatest_in, lists_rows}
-use Rattle.std.proofs.lemmas.List.{length-append}
+use Rattle.arrow_growable.proofs.Common.{arith, ◌≡◌, ◌+◌, ◌-◌, ◌<◌, ◌≤◌, ◌^◌, ℕ, zero, suc, pos, Bool, true, false, List, [], ◌∷◌, ◌++◌, Option, length, map, replicate, take, drop, slice_index, refl, ap, sym, subst, ◌∙◌, ints, length-map, length-replicate, map-append, take_all, sum_by-cons, PhysicalType, ArrowType, plain, list, extension, field, fixed_size, Fits, all_items, physical_type_of, joined, mask, masked, Slot, Null, Fits-nil, all_items-append, length-mask, joined-append, from_slots-to_slots, IsOffsets, RisesFrom, last_of, valid_ends, valid_items, with_valid_rows, sliced, at_most_last, map_sliced, length-sliced, valid_sound, FitsRows, bits_of_slice, pieces, pieces_from, length-pieces, Layout, items_row, list_items, rows, ListParts, list_rows, item_type, Grown, empty_over, AreGrown, filled, total, valid_values, mask-append, mask-filled, mask-part, mask-unset, length-bits_of_slice, length-filled, empty_grown, empty_rows, last_behind, total_pieces, valid_grown, valid_last, valid_moved, GrownBy, AnyItems, FitsLists, HoldsLists, IsListType, SparesItems, greatest_in, lists_rows, length-append}
 use Rattle.arrow_flat_growable.proofs.GrownRowLemmas.{sliced-cut}
 use Rattle.arrow_growable.proofs.KindLemmas.{no_plain}
 
@@ -39,11 +38,10 @@ length-joined (xs ∷ lists) =
 
 spares-filled : (bits : List Bool) (lists : List (List Slot)) → length bits ≡ length lists → SparesItems bits (filled bits lists)
 spares-filled [] [] same = refl
-spares-filled [] (xs ∷ lists) same = absurd (omega (arith, same))
-spares-filled (b ∷ bits) [] same = absurd (omega (arith, same))
 spares-filled (true ∷ bits) (xs ∷ lists) same =
     λ i. from_slots-to_slots xs i ++ spares-filled bits lists (omega (arith, same)) i
 spares-filled (false ∷ bits) (xs ∷ lists) same = spares-filled bits lists (omega (arith, same))
+spares-filled bits lists same = absurd (omega (arith, same))
 
 -- rows of an array, or null rows, behind one's own
 module _ (bits more : List Bool) (lists others : List (List Slot)) (same : length bits ≡ length lists) (spares : SparesItems bits lists) where
@@ -66,31 +64,19 @@ lists_in_rows bits lists spares = ap length spares ∙ length-joined lists
 
 fits_lists_by : (t : ArrowType) (bits : List Bool) (lists : List (List Slot)) → IsListType (physical_type_of t) → SparesItems bits lists → Fits t (mask bits (map items_row lists)) → FitsLists (greatest_in (physical_type_of t)) (item_type t) lists
 fits_lists_by (plain p) bits lists is spares fits = absurd (no_plain p is)
-fits_lists_by (list small (field name t nullable)) bits lists is spares fits =
+fits_lists_by (list (fixed_size n) f) bits lists is spares fits = absurd is
+fits_lists_by (list form (field name t nullable)) bits lists is spares fits =
     record { few = omega (arith, fits.1, lists_in_rows bits lists spares); items = subst (Fits t) spares fits.2 }
-fits_lists_by (list large (field name t nullable)) bits lists is spares fits =
-    record { few = omega (arith, fits.1, lists_in_rows bits lists spares); items = subst (Fits t) spares fits.2 }
-fits_lists_by (list (fixed_size s) f) bits lists is spares fits = absurd is
-fits_lists_by (list (mapped sorted) (field name t nullable)) bits lists is spares fits =
-    record { few = omega (arith, fits.1, lists_in_rows bits lists spares); items = subst (Fits t) spares fits.2 }
-fits_lists_by (struct fs) bits lists is spares fits = absurd is
-fits_lists_by (union mode ids fs) bits lists is spares fits = absurd is
-fits_lists_by (dictionary keys ordered t) bits lists is spares fits = absurd is
 fits_lists_by (extension name metadata t) bits lists is spares fits = fits_lists_by t bits lists is spares fits
+fits_lists_by t bits lists is spares fits = absurd is
 
 lists_fit_by : (t : ArrowType) (bits : List Bool) (lists : List (List Slot)) → IsListType (physical_type_of t) → SparesItems bits lists → length (mask bits (map items_row lists)) < 2 ^ 64 → FitsLists (greatest_in (physical_type_of t)) (item_type t) lists → Fits t (mask bits (map items_row lists))
 lists_fit_by (plain p) bits lists is spares counted fits = absurd (no_plain p is)
-lists_fit_by (list small (field name t nullable)) bits lists is spares counted fits =
+lists_fit_by (list (fixed_size n) f) bits lists is spares counted fits = absurd is
+lists_fit_by (list form (field name t nullable)) bits lists is spares counted fits =
     (counted, omega (arith, fits.few, lists_in_rows bits lists spares), subst (Fits t) (sym spares) fits.items)
-lists_fit_by (list large (field name t nullable)) bits lists is spares counted fits =
-    (counted, omega (arith, fits.few, lists_in_rows bits lists spares), subst (Fits t) (sym spares) fits.items)
-lists_fit_by (list (fixed_size s) f) bits lists is spares counted fits = absurd is
-lists_fit_by (list (mapped sorted) (field name t nullable)) bits lists is spares counted fits =
-    (counted, omega (arith, fits.few, lists_in_rows bits lists spares), subst (Fits t) (sym spares) fits.items)
-lists_fit_by (struct fs) bits lists is spares counted fits = absurd is
-lists_fit_by (union mode ids fs) bits lists is spares counted fits = absurd is
-lists_fit_by (dictionary keys ordered t) bits lists is spares counted fits = absurd is
 lists_fit_by (extension name metadata t) bits lists is spares counted fits = lists_fit_by t bits lists is spares counted fits
+lists_fit_by t bits lists is spares counted fits = absurd is
 
 -- of a type whose arrays are lists
 module _ (t : ArrowType) (layout : PhysicalType) (is : IsListType layout) (kind : physical_type_of t ≡ layout) where

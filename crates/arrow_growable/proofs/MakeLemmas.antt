@@ -1,17 +1,16 @@
 -- Arrays of any type that are bound as arrays of one kind, and growables without rows over the children of those.
-use Rattle.arrow_growable.proofs.Common.{arith, ◌≡◌, ◌+◌, ◌≤◌, ◌<◌, ℕ, suc, List, [], ◌∷◌, ◌++◌, length, map, take, get_or, refl, ap, sym, subst, ◌∙◌, take-suc, take_all, length-map, map-append, ArrowType, plain, null, Layout, flat, type_of_layout, Grown, AreOfOneType, bound_to, first_type, source_is, range_with_len, map-range_with_len_more, grown_of, child_type, child_types, fresh_children, nth_child, AnyGrowable}
-use Rattle.std.specs.List.{All}
+use Rattle.arrow_growable.proofs.Common.{arith, ◌≡◌, ◌+◌, ◌≤◌, ◌<◌, ℕ, suc, List, [], ◌∷◌, ◌++◌, length, map, take, get_or, ap, sym, subst, ◌∙◌, take-suc, take_all, length-map, map-append, ArrowType, plain, null, Layout, type_of_layout, Grown, AreOfOneType, bound_to, first_type, source_is, range_with_len, map-range_with_len_more, grown_of, child_type, child_types, fresh_children, nth_child, AnyGrowable, All, take_at_read, slice_get_read, take-map, Kind, kind_in, physical_type_of, refl}
+pub use Rattle.std.proofs.lemmas.Simd.{map-map as map_twice}
 
-abbrev none_bound : Layout
-none_bound = flat (plain null) []
+-- one more of those that are made one by one of others
+pub taken_more : {A B C : Type 0} (f : A → C) (h : B → C) (done : List A) (whole : List B) (x : A) (item : B) (i : ℕ) → i < length whole → item ≡ get_or whole i item → f x ≡ h item → map f done ≡ map h (take i whole) → map f (done ++ x ∷ []) ≡ map h (take (i + 1) whole)
+taken_more f h done whole x item i within is same so_far =
+    let next = take_at_read whole i item (slice_get_read whole (length whole) i item refl within is) in
+    map-append f done (x ∷ []) ∙ ((λ j. so_far j ++ same j ∷ []) ∙ (sym (map-append h (take i whole) (item ∷ [])) ∙ ap (map h) (sym next)))
 
--- one more of them
 pub bind_next : {A B : Type 0} (f : A → Layout) (h : B → Layout) (kept : List A) (x : A) (arrays : List B) (b : B) (i : ℕ) → i < length arrays → b ≡ get_or arrays i b → f x ≡ h b → map f kept ≡ take i (map h arrays) → map f (kept ++ x ∷ []) ≡ take (i + 1) (map h arrays)
 bind_next f h kept x arrays b i bound read same done =
-    let last : get_or (map h arrays) i none_bound ≡ f x = source_is h arrays i b bound read ∙ sym same in
-    let next : take (suc i) (map h arrays) ≡ take i (map h arrays) ++ (get_or (map h arrays) i none_bound ∷ []) = take-suc (map h arrays) i none_bound (omega (arith, bound, length-map arrays h)) in
-    let one : suc i ≡ i + 1 = omega arith in
-    map-append f kept (x ∷ []) ∙ ((λ j. done j ++ (sym last j ∷ [])) ∙ (sym next ∙ ap (λ k. take k (map h arrays)) one))
+    taken_more f h kept arrays x b i bound read same (done ∙ take-map h i arrays) ∙ sym (take-map h (i + 1) arrays)
 
 -- all of them
 pub bind_all : {A B : Type 0} (f : A → Layout) (h : B → Layout) (kept : List A) (arrays : List B) (i : ℕ) → length arrays ≤ i → map f kept ≡ take i (map h arrays) → map f kept ≡ map h arrays
@@ -22,10 +21,10 @@ pub type_at : {B : Type 0} (h : B → Layout) (arrays : List B) (b : B) (i : ℕ
 type_at h arrays b i bound read same =
     subst (λ l. type_of_layout l ≡ first_type (map h arrays)) (source_is h arrays i b bound read) (same i _ (omega (arith, bound, length-map arrays h)))
 
--- a map of a map
-pub map_twice : {A B C : Type 0} (f : B → C) (g : A → B) (xs : List A) → map f (map g xs) ≡ map (λ x. f (g x)) xs
-map_twice f g [] = refl
-map_twice f g (x ∷ xs) = ap (λ ys. f (g x) ∷ ys) (map_twice f g xs)
+-- so it is of the kind that the first says
+pub kind_at : {B : Type 0} {k : Kind} (h : B → Layout) (arrays : List B) (b : B) (i : ℕ) → i < length arrays → b ≡ get_or arrays i b → AreOfOneType (map h arrays) → kind_in (physical_type_of (first_type (map h arrays))) ≡ k → kind_in (physical_type_of (type_of_layout (h b))) ≡ k
+kind_at h arrays b i bound read same kind =
+    ap (λ t. kind_in (physical_type_of t)) (type_at h arrays b i bound read same) ∙ kind
 
 -- layouts that are all of a type
 pub first_type_of : (t : ArrowType) (layouts : List Layout) → 0 < length layouts → All (λ l. type_of_layout l ≡ t) layouts → first_type layouts ≡ t

@@ -1,7 +1,5 @@
 -- A growable of arrays with children: its rows, what fits, and why it refuses.
-use Rattle.arrow_growable.proofs.Common.{arith, ◌≡◌, ◌+◌, ◌*◌, ◌-◌, ◌<◌, ◌≤◌, ℕ, zero, suc, Bool, List, ◌++◌, Some, length, map, get_or, slice_index, ap, sym, subst, ◌∙◌, get_or-map, get_or_default, length-map, ArrowType, plain, null, Fits, Slot, bits_of_slice, Grown, FitsItself, FitsWith, appended, source_at, length-bits_of_slice, source_is, Layout, listed, fixed, fielded, rows, BindsRows, bound_rows, source_rows, Form, child_type, child_types, column_in, nested_rows, HoldsEven, rows_of_all, IsWhole, children_in, nth_child, no_child, place_in, validity_in}
-use Rattle.std.specs.List.{All}
-use Rattle.std.proofs.lemmas.List.{length-append}
+use Rattle.arrow_growable.proofs.Common.{arith, ◌≡◌, ◌+◌, ◌*◌, ◌-◌, ◌<◌, ◌≤◌, ℕ, zero, suc, Bool, List, ◌++◌, Some, length, map, get_or, slice_index, ap, sym, subst, ◌∙◌, get_or-map, get_or_default, length-map, ArrowType, plain, null, Fits, Slot, bits_of_slice, Grown, FitsItself, FitsWith, appended, source_at, length-bits_of_slice, source_is, Layout, listed, fixed, fielded, rows, BindsRows, bound_rows, source_rows, Form, child_type, child_types, column_in, nested_rows, HoldsEven, rows_of_all, IsWhole, children_in, nth_child, no_child, place_in, validity_in, All, length-append}
 use Rattle.arrow_growable.proofs.ColumnLemmas.{column-append, column_fits}
 
 -- the children of a growable, one by one

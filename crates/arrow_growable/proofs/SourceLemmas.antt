@@ -1,6 +1,5 @@
 -- Arrays with children that are bound: where their rows lie, what they say of their parts, and that those of one kind lie alike.
-use Rattle.arrow_growable.proofs.Common.{arith, ◌≡◌, ◌+◌, ◌*◌, ◌-◌, ◌/◌, ◌<◌, ◌≤◌, ℕ, List, [], ◌∷◌, length, map, get_or, slice_index, refl, ap, sym, subst, ◌∙◌, Bor, Result, Ok, Err, IfOk, mul-div_cancel, get_or-map, length-map, All-map, Error, ArrowType, plain, null, physical_type_of, IsOffsets, last_of, FitsRows, layout_of, FixedListParts, fixed_list_layout, fixed_list_rows, Layout, listed, fixed, from_layouts, to_layouts, rows, type_of_layout, ListParts, list_layout, list_rows, StructParts, HaveRows, row_count, struct_layout, struct_rows, field_types, item_type, list_size, AnyArray, list_shape, shape_in, shape_of, first_type, source_at, source_is, bound_layouts, Form, by_offsets, by_size, by_fields, child_type, child_types, null_slots_by, IsFormOf, IsFresh, emptied, form_of, grown_arrays, Lies, IsOfForm, IsSource, IsWhole, children_in, nth_child, no_child, nulls_in, span_arrays, span_form, BoundNested, Lists, FixedSizeLists, Maps, Structs, GrowableSpans, Spans, Small, Large, Map}
-use Rattle.std.specs.List.{All}
+use Rattle.arrow_growable.proofs.Common.{arith, ◌≡◌, ◌+◌, ◌*◌, ◌-◌, ◌/◌, ◌<◌, ◌≤◌, ℕ, List, [], ◌∷◌, length, map, get_or, slice_index, refl, ap, sym, subst, ◌∙◌, Bor, Result, Ok, Err, IfOk, mul-div_cancel, get_or-map, length-map, All-map, Error, ArrowType, plain, null, physical_type_of, IsOffsets, last_of, FitsRows, layout_of, FixedListParts, fixed_list_layout, fixed_list_rows, Layout, listed, fixed, from_layouts, to_layouts, rows, type_of_layout, ListParts, list_layout, list_rows, StructParts, HaveRows, row_count, struct_layout, struct_rows, field_types, item_type, list_size, AnyArray, list_shape, shape_in, shape_of, first_type, source_at, source_is, bound_layouts, Form, by_offsets, by_size, by_fields, child_type, child_types, null_slots_by, IsFormOf, IsFresh, emptied, form_of, grown_arrays, Lies, IsOfForm, IsSource, IsWhole, children_in, nth_child, no_child, nulls_in, span_arrays, span_form, BoundNested, Lists, FixedSizeLists, Maps, Structs, GrowableSpans, Spans, Small, Large, Map, All}
 use Rattle.arrow_types.specs.declared.datatypes.physical_type.PhysicalType.TheVariants as physical
 use Rattle.arrow_growable.proofs.ColumnLemmas.{list_child_types, struct_child_types}
 use Rattle.arrow_growable.specs.declared.growable.spans.Spans.TheVariants.{FixedSize, Fields}
@@ -113,18 +112,15 @@ module _ {A : Type 0} (f : A → Layout) (alike : (form : Form) (x y : A) → Is
 
 lists_alike : (form : Form) (p q : Bor ListParts) → IsOfForm form (list_layout p.now) → IsOfForm form (list_layout q.now)
 lists_alike (by_offsets os) p q is = tt
-lists_alike (by_size s) p q is = is
-lists_alike by_fields p q is = is
+lists_alike form p q is = is
 
 sized_alike : (form : Form) (p q : Bor FixedListParts) → IsOfForm form (fixed_list_layout p.now) → IsOfForm form (fixed_list_layout q.now)
-sized_alike (by_offsets os) p q is = is
 sized_alike (by_size s) p q is = tt
-sized_alike by_fields p q is = is
+sized_alike form p q is = is
 
 structs_alike : (form : Form) (p q : Bor StructParts) → IsOfForm form (struct_layout p.now) → IsOfForm form (struct_layout q.now)
-structs_alike (by_offsets os) p q is = is
-structs_alike (by_size s) p q is = is
 structs_alike by_fields p q is = tt
+structs_alike form p q is = is
 
 one_form : (form : Form) (arrays : BoundNested) → 0 < length (bound_layouts arrays) → IsOfForm form (source_at (bound_layouts arrays) 0) → All (IsOfForm form) (bound_layouts arrays)
 one_form form (Lists arrays) some first = all_alike (λ r. list_layout r.now) lists_alike form arrays.items some first
@@ -138,21 +134,17 @@ one_form form (Structs arrays) some first =
 
 emptied_form : (form : Form) (l : Layout) → IsOfForm form l → IsOfForm (emptied form) l
 emptied_form (by_offsets os) (listed t v offsets c) is = tt
-emptied_form (by_offsets os) _ is = is
-emptied_form (by_size s) l is = is
-emptied_form by_fields l is = is
+emptied_form form l is = is
 
-emptied_twice : (form : Form) → emptied (emptied form) ≡ emptied form
+pub emptied_twice : (form : Form) → emptied (emptied form) ≡ emptied form
 emptied_twice (by_offsets os) = refl
-emptied_twice (by_size s) = refl
-emptied_twice by_fields = refl
+emptied_twice form = refl
 
 -- of the size of the type
 size_of : (form : Form) (l : Layout) → IsOfForm form l → null_slots_by form ≡ nulls_in l → IsWhole l → IsFormOf (type_of_layout l) (emptied form)
-size_of (by_offsets os) l is nulls whole = tt
 size_of (by_size s) (fixed t v size c) is nulls whole = nulls ∙ whole.0
 size_of (by_size s) _ is nulls whole = absurd is
-size_of by_fields l is nulls whole = tt
+size_of form l is nulls whole = tt
 
 first_is : (ls : List Layout) → 0 < length ls → type_of_layout (source_at ls 0) ≡ first_type ls
 first_is [] some = absurd (omega (arith, some))

@@ -1,6 +1,5 @@
 -- What rows name of a child, a run at a time.
-use Rattle.arrow_growable.proofs.Common.{arith, ◌≡◌, ◌+◌, ◌-◌, ◌*◌, ◌<◌, ◌≤◌, pos, ℕ, zero, suc, Bool, true, false, List, [], ◌∷◌, ◌++◌, length, replicate, slice_index, if◌then◌else◌, refl, ap, sym, subst, ◌∙◌, mul-le-mul_right, append-nil, length-map, length-replicate, replicate-append-replicate, Slot, IsOffsets, last_of, sliced, offsets_rise, length-sliced, valid_values, run_long, NoneBeneath, Rises, spread}
-use Rattle.std.proofs.lemmas.List.{append_assoc, length-append}
+use Rattle.arrow_growable.proofs.Common.{arith, ◌≡◌, ◌+◌, ◌-◌, ◌*◌, ◌<◌, ◌≤◌, pos, ℕ, zero, suc, Bool, true, false, List, [], ◌∷◌, ◌++◌, length, replicate, slice_index, if◌then◌else◌, refl, ap, sym, subst, ◌∙◌, mul-le-mul_right, append-nil, length-map, length-replicate, replicate-append-replicate, Slot, IsOffsets, last_of, sliced, offsets_rise, length-sliced, valid_values, run_long, NoneBeneath, Rises, spread, append_assoc, length-append}
 use Rattle.arrow_flat_growable.proofs.GrownRowLemmas.{sliced-cut}
 
 module _ (w : ℕ) (none : Slot) (place : ℕ → ℕ) (xs : List Slot) where

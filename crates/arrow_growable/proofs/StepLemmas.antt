@@ -1,6 +1,5 @@
 -- What a growable of arrays with children and the array that is named say together, and what it is after a call.
-use Rattle.arrow_growable.proofs.Common.{arith, ◌≡◌, ◌+◌, ◌-◌, ◌*◌, ◌/◌, ◌<◌, ◌≤◌, ◌^◌, inl, inr, ℕ, zero, suc, Bool, true, false, List, [], ◌∷◌, ◌++◌, None, Some, length, map, replicate, get_or, refl, ap, sym, subst, ◌∙◌, get_or-map, length-map, All-map, get_or-map-range_with_len, length-map-range_with_len, PhysicalType, ArrowType, IsCarried, Fits, physical_type_of, Slot, null_slot, sliced, length-sliced, IsCarriedAs, bits_of_slice, Layout, listed, rows, type_of_layout, Grown, AreOfOneType, AreThere, CannotHold, FitsItself, bound_to, empty_over, first_type, source_at, AreBoundAs, BindsRows, CrowdsIn, IsWell, LiesIn, NoneBeneath, Rises, SomeCannotGrow, bound_rows, emptied_of, grown_by, grown_by_nulls, spread, Form, by_fields, by_offsets, by_size, child_types, nested_rows, null_slots_by, IsFormOf, IsFresh, IsSoundForm, emptied, form_of, form_with, form_with_nulls, grown_arrays, Lies, HoldsLists, AreWhole, HoldsNested, IsGrownNested, fresh_children, rows_of_all, IsOfForm, children_in, nth_child, nulls_in, place_in, validity_in, AreSpans, span_count, span_nulls, span_place, GrowableSpans, FixedSize, Fields, Spans}
-use Rattle.std.specs.List.{All}
+use Rattle.arrow_growable.proofs.Common.{arith, ◌≡◌, ◌+◌, ◌-◌, ◌*◌, ◌/◌, ◌<◌, ◌≤◌, ◌^◌, inl, inr, ℕ, zero, suc, Bool, true, false, List, [], ◌∷◌, ◌++◌, None, Some, length, map, replicate, get_or, refl, ap, sym, subst, ◌∙◌, get_or-map, length-map, All-map, get_or-map-range_with_len, length-map-range_with_len, PhysicalType, ArrowType, IsCarried, Fits, physical_type_of, Slot, null_slot, sliced, length-sliced, IsCarriedAs, bits_of_slice, Layout, listed, rows, type_of_layout, Grown, AreOfOneType, AreThere, CannotHold, FitsItself, bound_to, empty_over, first_type, source_at, AreBoundAs, BindsRows, CrowdsIn, IsWell, LiesIn, NoneBeneath, Rises, SomeCannotGrow, bound_rows, emptied_of, grown_by, grown_by_nulls, spread, Form, by_fields, by_offsets, by_size, child_types, nested_rows, null_slots_by, IsFormOf, IsFresh, IsSoundForm, emptied, form_of, form_with, form_with_nulls, grown_arrays, Lies, HoldsLists, AreWhole, HoldsNested, IsGrownNested, fresh_children, rows_of_all, IsOfForm, children_in, nth_child, nulls_in, place_in, validity_in, AreSpans, span_count, span_nulls, span_place, GrowableSpans, FixedSize, Fields, Spans, All}
 use Rattle.arrow_types.specs.declared.datatypes.physical_type.PhysicalType.TheVariants as physical
 use Rattle.arrow_growable.specs.Source.{offsets_in}
 use Rattle.arrow_growable.specs.declared.growable.grown_spans.GrowableSpans.TheVariants.{Small, Large, Map}
@@ -11,36 +10,30 @@ use Rattle.arrow_growable.proofs.EvenLemmas.{no_grown}
 use Rattle.arrow_growable.proofs.GrownLemmas.{AreEmpty, Grows, Holds, LiesSo, Names, child_refused, fits_rows, grows, grows_nulls, holds_nothing}
 use Rattle.arrow_growable.proofs.NestedLemmas.{as_many, binds_child, bits_long, bound_child}
 use Rattle.arrow_growable.proofs.SpreadLemmas.{offset_places, row_places, size_places, spread_bare}
+use Rattle.arrow_growable.proofs.SourceLemmas.{emptied_twice}
 
 -- how rows lie, whatever rows there are
 
 unemptied : (form : Form) (l : Layout) → IsOfForm (emptied form) l → IsOfForm form l
 unemptied (by_offsets os) (listed t v offsets c) is = tt
 unemptied (by_offsets os) _ is = absurd is
-unemptied (by_size s) l is = is
-unemptied by_fields l is = is
+unemptied form l is = is
 
 size_of_form : (t : ArrowType) (form : Form) → IsFormOf t (emptied form) → IsFormOf t form
 size_of_form t (by_offsets os) is = tt
-size_of_form t (by_size s) is = is
-size_of_form t by_fields is = is
+size_of_form t form is = is
 
 emptied_with : (form : Form) (bits : List Bool) (others : List ℕ) (start : ℕ) → emptied (form_with form bits others start) ≡ emptied form
 emptied_with (by_offsets os) bits others start = refl
-emptied_with (by_size s) bits others start = refl
-emptied_with by_fields bits others start = refl
+emptied_with form bits others start = refl
 
 emptied_with_nulls : (form : Form) (n : ℕ) → emptied (form_with_nulls form n) ≡ emptied form
 emptied_with_nulls (by_offsets os) n = refl
-emptied_with_nulls (by_size s) n = refl
-emptied_with_nulls by_fields n = refl
+emptied_with_nulls form n = refl
 
-pub spans_lie : (spans : GrowableSpans) → LiesSo (grown_arrays spans) (form_of spans)
+pub spans_lie : (spans : GrowableSpans) → LiesSo (grown_arrays spans) (emptied (form_of spans))
 spans_lie (Small offsets) = tt
-spans_lie (Large offsets) = tt
-spans_lie (Map offsets) = tt
-spans_lie (FixedSize size) = tt
-spans_lie Fields = tt
+spans_lie spans = tt
 
 one_well : (os : List ℕ) (child : Grown) (bits : List Bool) (len : ℕ) (t : ArrowType) → HoldsLists os child bits len → (f : ℕ) (d : Grown) → f < 1 → IsWell (get_or (child ∷ []) f d)
 one_well os child bits len t holds zero d within = holds.child
@@ -70,31 +63,17 @@ spread_part spans g index start n valid sound bound part covered no_slots bare =
     let whole = spread_bare (span_nulls spans) (null_slot g.arrow_type) (span_place spans) (bound_rows g index) (span_count spans) (rises_in spans g index sound bound) (sliced valid start n) start (omega (arith, many, part)) no_slots bare in
     whole ∙ ap (λ k. sliced (bound_rows g index) (span_place spans start) (span_place spans (start + k) - span_place spans start)) many
 
-lies_by : (arrays : PhysicalType) (os ns : List ℕ) → LiesSo arrays (by_offsets os) → LiesSo arrays (by_offsets ns)
-lies_by physical.List os ns lies = tt
-lies_by physical.LargeList os ns lies = tt
-lies_by physical.Map os ns lies = tt
-lies_by _ os ns lies = absurd lies
-
-lies_sized : (arrays : PhysicalType) (s z : ℕ) → LiesSo arrays (by_size s) → LiesSo arrays (by_size z)
-lies_sized physical.FixedSizeList s z lies = tt
-lies_sized _ s z lies = absurd lies
-
 -- each child of one that has not failed has not
 pub all_well : (form : Form) (children : List Grown) (bits : List Bool) (len : ℕ) (t : ArrowType) → HoldsNested form children bits len t → All IsWell children
-all_well (by_offsets os) [] bits len t holds = absurd holds
 all_well (by_offsets os) (child ∷ []) bits len t holds = λ f d within. one_well os child bits len t holds f d within
-all_well (by_offsets os) (child ∷ other ∷ rest) bits len t holds = absurd holds
-all_well (by_size s) children bits len t holds = holds.well
-all_well by_fields children bits len t holds = holds.well
+all_well (by_offsets os) children bits len t holds = absurd holds
+all_well form children bits len t holds = holds.well
 
 -- and it has as many bits as it counts
 pub bits_counted : (form : Form) (children : List Grown) (bits : List Bool) (len : ℕ) (t : ArrowType) → HoldsNested form children bits len t → length bits ≡ len
 bits_counted (by_offsets os) [] bits len t holds = absurd holds
-bits_counted (by_offsets os) (child ∷ []) bits len t holds = holds.counted
 bits_counted (by_offsets os) (child ∷ other ∷ rest) bits len t holds = absurd holds
-bits_counted (by_size s) children bits len t holds = holds.counted
-bits_counted by_fields children bits len t holds = holds.counted
+bits_counted form children bits len t holds = holds.counted
 
 -- children that are bound as before
 sources_kept : (children news : List Grown) (layouts : List Layout) → AreBoundAs children news → ((f : ℕ) (d : Grown) → f < length children → (get_or children f d).sources ≡ Some (map (nth_child f) layouts)) → (f : ℕ) (d : Grown) → f < length news → (get_or news f d).sources ≡ Some (map (nth_child f) layouts)
@@ -114,60 +93,23 @@ holds_of spans children bits len layouts t failed parts well sound =
       holds = parts.holds well;
     }
 
--- the same types and bound arrays, after a call that refused
-pub failed_parts : (arrays new_arrays : PhysicalType) (form new_form : Form) (children news : List Grown) (bits new_bits : List Bool) (len : ℕ) (layouts : List Layout) (t : ArrowType) (failed : Bool) → IsGrownNested arrays form children bits len layouts t failed → new_arrays ≡ arrays → emptied new_form ≡ emptied form → AreBoundAs children news → IsGrownNested new_arrays new_form news new_bits len layouts t true
-failed_parts arrays new_arrays form new_form children news bits new_bits len layouts t failed parts same form_same kept =
+-- the same types and bound arrays after a call, with what it holds then
+kept_parts : (arrays : PhysicalType) (form new_form : Form) (children news : List Grown) (bits new_bits : List Bool) (len total : ℕ) (layouts : List Layout) (t : ArrowType) (failed new_failed : Bool) → IsGrownNested arrays form children bits len layouts t failed → emptied new_form ≡ emptied form → AreBoundAs children news → (new_failed ≡ false → HoldsNested new_form news new_bits total t) → IsGrownNested arrays new_form news new_bits total layouts t new_failed
+kept_parts arrays form new_form children news bits new_bits len total layouts t failed new_failed parts form_same kept holds =
     record {
-      kind = subst (λ a. IsCarriedAs a t) (sym same) parts.kind;
+      kind = parts.kind;
       size = subst (IsFormOf t) (sym form_same) parts.size;
       one_type = parts.one_type;
       shaped = subst (λ f. All (IsOfForm f) layouts) (sym form_same) parts.shaped;
       types = kept.same_types ∙ parts.types;
       sources = λ f d within. sources_kept children news layouts kept parts.sources f d within;
-      holds = λ well. cc;
+      holds = holds;
     }
 
--- rows of a bound array that are named
-module _ (spans : GrowableSpans) (children : List Grown) (bits : List Bool) (len : ℕ) (layouts : List Layout) (t : ArrowType) (failed : Bool) (places : Spans) (index start n : ℕ) (parts : IsGrownNested (grown_arrays spans) (form_of spans) children bits len layouts t failed) (well : failed ≡ false) (there : AreThere (Some layouts) index start n) (lies : Lies places (source_at layouts index)) where
-  abbrev source : Layout
-  source = source_at layouts index
-
-  abbrev more : List Bool
-  more = bits_of_slice (validity_in source) start n
-
-  of_type : type_of_layout source ≡ t
-  of_type = parts.one_type index _ there.0
-
-  width : length (children_in source) ≡ length children
-  width =
-      sym (length-map (children_in source) type_of_layout) ∙ (ap length lies.source.types ∙ (ap (λ u. length (child_types u)) of_type ∙ sym (as_many children t parts.types)))
-
-  pub names_of : IsSoundForm (grown_arrays spans) (form_of spans) → Names (grown_arrays spans) (form_of spans) children bits len t source index start n
-  names_of sound =
-      record {
-        grown = holds_of spans children bits len layouts t failed parts well sound;
-        of_form = unemptied (form_of spans) source (parts.shaped index _ there.0);
-        of_type = of_type;
-        whole = lies.source.whole;
-        width = width;
-        inside = there.1;
-        mates = λ f d within. bound_child layouts index there.0 (get_or children f d) f (parts.sources f d within);
-      }
-
-  -- each child is bound to that of the array
-  pub binds_all : All (λ g. BindsRows g index (span_place places (span_count places))) children
-  binds_all =
-      λ f d within. subst (BindsRows (get_or children f d) index) (λ j. sym lies.place j (sym lies.count j)) (binds_child layouts index f (get_or children f d) there.0 (parts.sources f d within) lies.source.whole (omega (arith, within, width)))
-
-  -- why it refuses rows that a child refuses
-  pub children_cannot : IsSoundForm (grown_arrays spans) (form_of spans) → SomeCannotGrow (nulls_in source) more (place_in source) index start children → (any_failed : Bool) → CannotHold (record { arrow_type = t; sources = Some layouts; rows = nested_rows (form_of spans) bits (rows_of_all children); count = len; failed = any_failed }) index start n
-  children_cannot sound some any_failed =
-      let f = some.0 in
-      let refused = some.2 no_grown in
-      elim refused.why [
-        | inl over ↦ inl (child_refused (grown_arrays spans) (form_of spans) children bits len t source index start n (names_of sound) f no_grown some.1 over)
-        | inr crowds ↦ inr (crowded_named (emptied (form_of spans)) layouts index f start n parts.shaped there.0 (omega (arith, some.1, width)) (bits_long source start n lies.source.whole there.1) (subst (λ s. CrowdsIn s index (LiesIn more (place_in source) start)) (parts.sources f no_grown some.1) crowds))
-      ]
+-- nothing is said of that after one that refused
+pub failed_parts : (arrays new_arrays : PhysicalType) (form new_form : Form) (children news : List Grown) (bits new_bits : List Bool) (len : ℕ) (layouts : List Layout) (t : ArrowType) (failed : Bool) → IsGrownNested arrays form children bits len layouts t failed → new_arrays ≡ arrays → emptied new_form ≡ emptied form → AreBoundAs children news → IsGrownNested new_arrays new_form news new_bits len layouts t true
+failed_parts arrays new_arrays form new_form children news bits new_bits len layouts t failed parts same form_same kept =
+    subst (λ a. IsGrownNested a new_form news new_bits len layouts t true) (sym same) (kept_parts arrays form new_form children news bits new_bits len len layouts t failed true parts form_same kept (λ well. cc))
 
 -- what a growable is with rows behind
 pub record Step (arrays : PhysicalType) (form new_form : Form) (children news : List Grown) (bits new_bits : List Bool) (total : ℕ) (layouts : List Layout) (t : ArrowType) (named : List Slot) : Type 0 where
@@ -176,33 +118,79 @@ pub record Step (arrays : PhysicalType) (form new_form : Form) (children news : 
 
 step_of : (arrays : PhysicalType) (form new_form : Form) (children news : List Grown) (bits new_bits : List Bool) (len total : ℕ) (layouts : List Layout) (t : ArrowType) (failed : Bool) (named : List Slot) → IsGrownNested arrays form children bits len layouts t failed → emptied new_form ≡ emptied form → AreBoundAs children news → Grows form new_form children news bits new_bits total t named → Step arrays form new_form children news bits new_bits total layouts t named
 step_of arrays form new_form children news bits new_bits len total layouts t failed named parts form_same kept grown =
-    record {
-      parts = record {
-        kind = parts.kind;
-        size = subst (IsFormOf t) (sym form_same) parts.size;
-        one_type = parts.one_type;
-        shaped = subst (λ f. All (IsOfForm f) layouts) (sym form_same) parts.shaped;
-        types = kept.same_types ∙ parts.types;
-        sources = λ f d within. sources_kept children news layouts kept parts.sources f d within;
-        holds = λ well. grown.holds;
-      };
-      rows = grown.rows;
-    }
+    record { parts = kept_parts arrays form new_form children news bits new_bits len total layouts t failed false parts form_same kept (λ well. grown.holds); rows = grown.rows }
 
--- arrays lie so whatever rows there are
-pub lies_with : (arrays : PhysicalType) (form new_form : Form) → LiesSo arrays form → emptied new_form ≡ emptied form → LiesSo arrays new_form
-lies_with arrays (by_offsets os) (by_offsets ns) lies same = lies_by arrays os ns lies
-lies_with arrays (by_offsets os) (by_size s) lies same = cc
-lies_with arrays (by_offsets os) by_fields lies same = cc
-lies_with arrays (by_size s) (by_offsets ns) lies same = cc
-lies_with arrays (by_size s) (by_size z) lies same = lies_sized arrays s z lies
-lies_with arrays (by_size s) by_fields lies same = cc
-lies_with arrays by_fields (by_offsets ns) lies same = cc
-lies_with arrays by_fields (by_size z) lies same = cc
-lies_with arrays by_fields by_fields lies same = lies
+-- children that have grown are bound as before
+pub bound_map : (h : Grown → Grown) (children : List Grown) → ((g : Grown) → (h g).arrow_type ≡ g.arrow_type) → ((g : Grown) → (h g).sources ≡ g.sources) → AreBoundAs children (map h children)
+bound_map h [] types sources = record { same_types = refl; same_sources = refl }
+bound_map h (g ∷ children) types sources =
+    let rest = bound_map h children types sources in
+    record { same_types = λ j. types g j ∷ rest.same_types j; same_sources = λ j. sources g j ∷ rest.same_sources j }
+
+pub bound_by : (h : Grown → Grown) (children news : List Grown) → ((g : Grown) → (h g).arrow_type ≡ g.arrow_type) → ((g : Grown) → (h g).sources ≡ g.sources) → news ≡ map h children → AreBoundAs children news
+bound_by h children news types sources are = subst (AreBoundAs children) (sym are) (bound_map h children types sources)
+
+-- rows of a bound array that are named of a growable that has not failed
+pub record NamesPart (spans : GrowableSpans) (children : List Grown) (bits : List Bool) (len : ℕ) (layouts : List Layout) (t : ArrowType) (failed : Bool) (places : Spans) (index start n : ℕ) : Type 0 where
+  pub parts : IsGrownNested (grown_arrays spans) (form_of spans) children bits len layouts t failed
+  pub well : failed ≡ false
+  pub sound : IsSoundForm (grown_arrays spans) (form_of spans)
+  pub there : AreThere (Some layouts) index start n
+  pub lies : Lies places (source_at layouts index)
+
+module _ (spans : GrowableSpans) (children : List Grown) (bits : List Bool) (len : ℕ) (layouts : List Layout) (t : ArrowType) (failed : Bool) (places : Spans) (index start n : ℕ) (named : NamesPart spans children bits len layouts t failed places index start n) where
+  abbrev source : Layout
+  source = source_at layouts index
+
+  abbrev more : List Bool
+  more = bits_of_slice (validity_in source) start n
+
+  of_type : type_of_layout source ≡ t
+  of_type = named.parts.one_type index _ named.there.0
+
+  width : length (children_in source) ≡ length children
+  width =
+      sym (length-map (children_in source) type_of_layout) ∙ (ap length named.lies.source.types ∙ (ap (λ u. length (child_types u)) of_type ∙ sym (as_many children t named.parts.types)))
+
+  pub names_of : Names (grown_arrays spans) (form_of spans) children bits len t source index start n
+  names_of =
+      record {
+        grown = holds_of spans children bits len layouts t failed named.parts named.well named.sound;
+        of_form = unemptied (form_of spans) source (named.parts.shaped index _ named.there.0);
+        of_type = of_type;
+        whole = named.lies.source.whole;
+        width = width;
+        inside = named.there.1;
+        mates = λ f d within. bound_child layouts index named.there.0 (get_or children f d) f (named.parts.sources f d within);
+      }
+
+  -- each child is bound to that of the array
+  pub binds_all : All (λ g. BindsRows g index (span_place places (span_count places))) children
+  binds_all =
+      λ f d within. subst (BindsRows (get_or children f d) index) (λ j. sym named.lies.place j (sym named.lies.count j)) (binds_child layouts index f (get_or children f d) named.there.0 (named.parts.sources f d within) named.lies.source.whole (omega (arith, within, width)))
+
+  -- and what it is with them
+  abbrev grow_named : Grown → Grown
+  grow_named = grown_by (nulls_in source) more (place_in source) index start
+
+  pub step : (new_form : Form) (news : List Grown) (new_bits : List Bool) (total : ℕ) → new_form ≡ form_with (form_of spans) more (offsets_in source) start → news ≡ map grow_named children → new_bits ≡ bits ++ more → total ≡ len + n → All FitsItself news → Step (grown_arrays spans) (form_of spans) new_form children news bits new_bits total layouts t (sliced (rows source) start n)
+  step new_form news new_bits total form_is news_are bits_are count fits =
+      let grown = grows (grown_arrays spans) (form_of spans) children bits len t source index start n names_of (subst (All FitsItself) news_are fits) in
+      let all = step_of (grown_arrays spans) (form_of spans) (form_with (form_of spans) more (offsets_in source) start) children (map grow_named children) bits (bits ++ more) len (len + n) layouts t failed (sliced (rows source) start n) named.parts (emptied_with (form_of spans) more (offsets_in source) start) (bound_map grow_named children (λ g. refl) (λ g. refl)) grown in
+      subst {A = (Form × List Grown) × (List Bool × ℕ)} (λ q. Step (grown_arrays spans) (form_of spans) q.0.0 children q.0.1 bits q.1.0 q.1.1 layouts t (sliced (rows source) start n)) (λ j. ((sym form_is j, sym news_are j), (sym bits_are j, sym count j))) all
+
+  -- why it refuses rows that a child refuses
+  pub children_cannot : SomeCannotGrow (nulls_in source) more (place_in source) index start children → (any_failed : Bool) → CannotHold (record { arrow_type = t; sources = Some layouts; rows = nested_rows (form_of spans) bits (rows_of_all children); count = len; failed = any_failed }) index start n
+  children_cannot some any_failed =
+      let f = some.0 in
+      let refused = some.2 no_grown in
+      elim refused.why [
+        | inl over ↦ inl (child_refused (grown_arrays spans) (form_of spans) children bits len t source index start n names_of f no_grown some.1 over)
+        | inr crowds ↦ inr (crowded_named (emptied (form_of spans)) layouts index f start n named.parts.shaped named.there.0 (omega (arith, some.1, width)) (bits_long source start n named.lies.source.whole named.there.1) (subst (λ s. CrowdsIn s index (LiesIn more (place_in source) start)) (named.parts.sources f no_grown some.1) crowds))
+      ]
 
 -- its rows fit then
-pub fits_step : (arrays : PhysicalType) (form new_form : Form) (children news : List Grown) (bits new_bits : List Bool) (total : ℕ) (layouts : List Layout) (t : ArrowType) (named : List Slot) → Step arrays form new_form children news bits new_bits total layouts t named → LiesSo arrays new_form → IsSoundForm arrays new_form → total < 2 ^ 64 → Fits t (nested_rows new_form new_bits (rows_of_all news))
+pub fits_step : (arrays : PhysicalType) (form new_form : Form) (children news : List Grown) (bits new_bits : List Bool) (total : ℕ) (layouts : List Layout) (t : ArrowType) (named : List Slot) → Step arrays form new_form children news bits new_bits total layouts t named → LiesSo arrays (emptied new_form) → IsSoundForm arrays new_form → total < 2 ^ 64 → Fits t (nested_rows new_form new_bits (rows_of_all news))
 fits_step arrays form new_form children news bits new_bits total layouts t named s lies sound few =
     fits_rows arrays new_form news new_bits total t (record {
       lies = lies;
@@ -212,31 +200,6 @@ fits_step arrays form new_form children news bits new_bits total layouts t named
       types = s.parts.types;
       holds = s.parts.holds refl;
     }) few
-
--- children that have grown are bound as before
-pub bound_map : (h : Grown → Grown) (children : List Grown) → ((g : Grown) → (h g).arrow_type ≡ g.arrow_type) → ((g : Grown) → (h g).sources ≡ g.sources) → AreBoundAs children (map h children)
-bound_map h [] types sources = record { same_types = refl; same_sources = refl }
-bound_map h (g ∷ children) types sources =
-    let rest = bound_map h children types sources in
-    record { same_types = λ j. types g j ∷ rest.same_types j; same_sources = λ j. sources g j ∷ rest.same_sources j }
-
--- with rows of a bound array
-module _ (spans : GrowableSpans) (children : List Grown) (bits : List Bool) (len : ℕ) (layouts : List Layout) (t : ArrowType) (failed : Bool) (places : Spans) (index start n : ℕ) (parts : IsGrownNested (grown_arrays spans) (form_of spans) children bits len layouts t failed) (well : failed ≡ false) (there : AreThere (Some layouts) index start n) (lies : Lies places (source_at layouts index)) (sound : IsSoundForm (grown_arrays spans) (form_of spans)) where
-  abbrev named_source : Layout
-  named_source = source_at layouts index
-
-  abbrev named_bits : List Bool
-  named_bits = bits_of_slice (validity_in named_source) start n
-
-  abbrev grow_named : Grown → Grown
-  grow_named = grown_by (nulls_in named_source) named_bits (place_in named_source) index start
-
-  pub step : (new_form : Form) (news : List Grown) (new_bits : List Bool) (total : ℕ) → new_form ≡ form_with (form_of spans) named_bits (offsets_in named_source) start → news ≡ map grow_named children → new_bits ≡ bits ++ named_bits → total ≡ len + n → All FitsItself news → Step (grown_arrays spans) (form_of spans) new_form children news bits new_bits total layouts t (sliced (rows named_source) start n)
-  step new_form news new_bits total form_is news_are bits_are count fits =
-      let names = names_of spans children bits len layouts t failed places index start n parts well there lies sound in
-      let grown = grows (grown_arrays spans) (form_of spans) children bits len t named_source index start n names (subst (All FitsItself) news_are fits) in
-      let all = step_of (grown_arrays spans) (form_of spans) (form_with (form_of spans) named_bits (offsets_in named_source) start) children (map grow_named children) bits (bits ++ named_bits) len (len + n) layouts t failed (sliced (rows named_source) start n) parts (emptied_with (form_of spans) named_bits (offsets_in named_source) start) (bound_map grow_named children (λ g. refl) (λ g. refl)) grown in
-      subst {A = (Form × List Grown) × (List Bool × ℕ)} (λ q. Step (grown_arrays spans) (form_of spans) q.0.0 children q.0.1 bits q.1.0 q.1.1 layouts t (sliced (rows named_source) start n)) (λ j. ((sym form_is j, sym news_are j), (sym bits_are j, sym count j))) all
 
 -- with null rows
 pub step_nulls : (spans : GrowableSpans) (children : List Grown) (bits : List Bool) (len : ℕ) (layouts : List Layout) (t : ArrowType) (failed : Bool) (n : ℕ) → IsGrownNested (grown_arrays spans) (form_of spans) children bits len layouts t failed → failed ≡ false → IsSoundForm (grown_arrays spans) (form_of spans) → (new_form : Form) (news : List Grown) (new_bits : List Bool) (total slots : ℕ) → slots ≡ n * null_slots_by (form_of spans) → new_form ≡ form_with_nulls (form_of spans) n → news ≡ map (grown_by_nulls slots) children → new_bits ≡ bits ++ replicate n false → total ≡ len + n → All FitsItself news → Step (grown_arrays spans) (form_of spans) new_form children news bits new_bits total layouts t (replicate n (null_slot t))
@@ -250,19 +213,13 @@ step_nulls spans children bits len layouts t failed n parts well sound new_form 
 
 -- rows of one that is handed out lie in its children
 pub whole_of : (form : Form) (children : List Grown) (bits : List Bool) (len : ℕ) (t : ArrowType) → HoldsNested form children bits len t → AreWhole form (length bits) (rows_of_all children)
-whole_of (by_offsets os) [] bits len t holds = absurd holds
 whole_of (by_offsets os) (child ∷ []) bits len t holds =
     (omega (arith, holds.counted, holds.covered), omega (arith, holds.grown.ends))
-whole_of (by_offsets os) (child ∷ other ∷ rest) bits len t holds = absurd holds
 whole_of (by_size s) children bits len t holds =
     All-map (λ c. length c ≡ length bits * s) (λ g. g.rows) children (λ f d within. holds.whole f d within ∙ ap (λ k. k * s) (sym holds.counted))
 whole_of by_fields children bits len t holds =
     All-map (λ c. length c ≡ length bits * 1) (λ g. g.rows) children (λ f d within. holds.whole f d within ∙ ap (λ k. k * 1) (sym holds.counted))
-
-emptied_twice : (form : Form) → emptied (emptied form) ≡ emptied form
-emptied_twice (by_offsets os) = refl
-emptied_twice (by_size s) = refl
-emptied_twice by_fields = refl
+whole_of form children bits len t holds = absurd holds
 
 pub emptied_same : (form new_form : Form) → new_form ≡ emptied form → emptied new_form ≡ emptied form
 emptied_same form new_form is = ap emptied is ∙ emptied_twice form
@@ -274,24 +231,12 @@ emptied_are children =
     let at : get_or (map emptied_of children) f d ≡ emptied_of (get_or children f d) = get_or-map emptied_of children f d d (omega (arith, within, length-map children emptied_of)) in
     subst (λ g. g ≡ empty_over g.arrow_type g.sources) (sym at) refl
 
--- the parts of one without rows
-pub parts_of_none : (arrays : PhysicalType) (form : Form) (children : List Grown) (bits : List Bool) (layouts : List Layout) (t : ArrowType) → IsCarriedAs arrays t → LiesSo arrays form → IsFormOf t (emptied form) → All (λ l. type_of_layout l ≡ t) layouts → All (IsOfForm (emptied form)) layouts → map (λ g. g.arrow_type) children ≡ child_types t → ((f : ℕ) (d : Grown) → f < length children → (get_or children f d).sources ≡ Some (map (nth_child f) layouts)) → AreEmpty children → bits ≡ [] → IsGrownNested arrays (emptied form) children bits 0 layouts t false
-parts_of_none arrays form children bits layouts t kind lies size one_type shaped types sources empty none =
-    record {
-      kind = kind;
-      size = subst (IsFormOf t) (sym (emptied_twice form)) size;
-      one_type = one_type;
-      shaped = subst (λ f. All (IsOfForm f) layouts) (sym (emptied_twice form)) shaped;
-      types = types;
-      sources = sources;
-      holds = λ well. subst (λ bs. HoldsNested (emptied form) children bs 0 t) (sym none) (holds_nothing arrays form children t lies kind.1 types empty);
-    }
-
--- and of one whose rows are handed out
-pub parts_left : (arrays new_arrays : PhysicalType) (form new_form : Form) (children news : List Grown) (bits new_bits : List Bool) (len : ℕ) (layouts : List Layout) (t : ArrowType) (failed : Bool) → IsGrownNested arrays form children bits len layouts t failed → LiesSo arrays form → new_arrays ≡ arrays → new_form ≡ emptied form → news ≡ map emptied_of children → new_bits ≡ [] → IsGrownNested new_arrays new_form news new_bits 0 layouts t false
+-- the parts of one whose rows are handed out
+pub parts_left : (arrays new_arrays : PhysicalType) (form new_form : Form) (children news : List Grown) (bits new_bits : List Bool) (len : ℕ) (layouts : List Layout) (t : ArrowType) (failed : Bool) → IsGrownNested arrays form children bits len layouts t failed → LiesSo arrays (emptied form) → new_arrays ≡ arrays → new_form ≡ emptied form → news ≡ map emptied_of children → new_bits ≡ [] → IsGrownNested new_arrays new_form news new_bits 0 layouts t false
 parts_left arrays new_arrays form new_form children news bits new_bits len layouts t failed parts lies same form_is news_are none =
     let kept = bound_map emptied_of children (λ g. refl) (λ g. refl) in
-    let left = parts_of_none arrays form (map emptied_of children) new_bits layouts t parts.kind lies parts.size parts.one_type parts.shaped (kept.same_types ∙ parts.types) (λ f d within. sources_kept children (map emptied_of children) layouts kept parts.sources f d within) (emptied_are children) none in
+    let holds = holds_nothing arrays form (map emptied_of children) t lies parts.kind.1 (kept.same_types ∙ parts.types) (emptied_are children) in
+    let left = kept_parts arrays form (emptied form) children (map emptied_of children) bits new_bits len 0 layouts t failed false parts (emptied_twice form) kept (λ well. subst (λ bs. HoldsNested (emptied form) (map emptied_of children) bs 0 t) (sym none) holds) in
     subst {A = (PhysicalType × Form) × List Grown} (λ q. IsGrownNested q.0.0 q.0.1 q.1 new_bits 0 layouts t false) (λ j. ((sym same j, sym form_is j), sym news_are j)) left
 
 -- fresh children
@@ -302,18 +247,21 @@ fresh_at children layouts are f d within =
     let long : length children ≡ count = ap length are ∙ length-map-range_with_len grow 0 count in
     ap (λ cs. get_or cs f d) are ∙ get_or-map-range_with_len grow 0 count f f d (omega (arith, within, long)) (omega arith)
 
-fresh_sources : (children : List Grown) (layouts : List Layout) → children ≡ fresh_children layouts → (f : ℕ) (d : Grown) → f < length children → (get_or children f d).sources ≡ Some (map (nth_child f) layouts)
-fresh_sources children layouts are f d within = ap (λ g. g.sources) (fresh_at children layouts are f d within)
-
-fresh_are : (children : List Grown) (layouts : List Layout) → children ≡ fresh_children layouts → AreEmpty children
-fresh_are children layouts are =
-    λ f d within. subst (λ g. g ≡ empty_over g.arrow_type g.sources) (sym (fresh_at children layouts are f d within)) refl
-
 -- and of one that is made
 pub parts_made : (spans : GrowableSpans) (children : List Grown) (bits : List Bool) (layouts : List Layout) (t : ArrowType) → t ≡ first_type layouts → IsCarried t → AreOfOneType layouts → IsFresh spans layouts → children ≡ fresh_children layouts → map (λ g. g.arrow_type) children ≡ child_types (first_type layouts) → bits ≡ [] → IsGrownNested (grown_arrays spans) (form_of spans) children bits 0 layouts t false
 parts_made spans children bits layouts t copied carried one_type fresh are types none =
     let form = form_of spans in
     let kind : IsCarriedAs (grown_arrays spans) t = (carried, ap physical_type_of copied ∙ sym fresh.arrays) in
     let size : IsFormOf t (emptied form) = subst {A = ArrowType × Form} (λ q. IsFormOf q.0 q.1) (λ j. (sym copied j, fresh.empty j)) fresh.size in
-    let made = parts_of_none (grown_arrays spans) form children bits layouts t kind (spans_lie spans) size (λ k d within. one_type k d within ∙ sym copied) (subst (λ f. All (IsOfForm f) layouts) fresh.empty fresh.form) (types ∙ ap child_types (sym copied)) (λ f d within. fresh_sources children layouts are f d within) (fresh_are children layouts are) none in
-    subst (λ f. IsGrownNested (grown_arrays spans) f children bits 0 layouts t false) (sym fresh.empty) made
+    let items = types ∙ ap child_types (sym copied) in
+    let empty : AreEmpty children = λ f d within. subst (λ g. g ≡ empty_over g.arrow_type g.sources) (sym (fresh_at children layouts are f d within)) refl in
+    let holds = holds_nothing (grown_arrays spans) form children t (spans_lie spans) kind.1 items empty in
+    record {
+      kind = kind;
+      size = size;
+      one_type = λ k d within. one_type k d within ∙ sym copied;
+      shaped = subst (λ f. All (IsOfForm f) layouts) fresh.empty fresh.form;
+      types = items;
+      sources = λ f d within. ap (λ g. g.sources) (fresh_at children layouts are f d within);
+      holds = λ well. subst {A = Form × List Bool} (λ q. HoldsNested q.0 children q.1 0 t) (λ j. (sym fresh.empty j, sym none j)) holds;
+    }

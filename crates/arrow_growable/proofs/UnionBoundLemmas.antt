@@ -1,7 +1,6 @@
 -- Unions under construction and the arrays that are bound to them: rows that are named, a run at a time, and why they are refused.
-use Rattle.arrow_growable.proofs.Common.{arith, ◌≡◌, ◌+◌, ◌-◌, ◌<◌, ◌≤◌, ◌^◌, ◌⊎◌, inl, inr, ℕ, zero, suc, ℤ, Option, Some, None, List, [], ◌∷◌, ◌++◌, length, map, replicate, take, get_or, refl, ap, sym, subst, ◌∙◌, take-map, zip, length-zip, append-nil, get_or-map, length-map, length-replicate, UnionMode, Dense, Sparse, ArrowType, Fits, Slot, Variant, id_at, null_slot, Fits-beginning, sliced, length-sliced, sliced-cut, CrowdedRow, child_at, Layout, field_ids, rows, type_of_layout, variant_at, field_types, mode_in, SpansRows, UnionParts, child_rows_of, mode_by, rows_of_field, union_layout, union_rows, union_has_field, Grown, AreCrowded, CannotHold, FitsWith, RefusedBy, named_rows, null_rows_of, rows_among, source_at, AreBoundAs, BindsRows, bound_rows, source_rows, BindsFields, AreFew, GrowsVariants, HoldsVariants, IsBoundUnion, IsUnionOver, NullsRefused, RunRefused, absent, nth_grown, places_by, variant_rows, rows_of_all, IsRun, IsSparse, field_part, run_rows, variant_type}
-use Rattle.std.proofs.lemmas.List.{append_assoc}
-use Rattle.arrow_growable.proofs.UnionGrowLemmas.{as_many, chosen_refused, column_is, others_refused, places_refused, type_there}
+use Rattle.arrow_growable.proofs.Common.{arith, ◌≡◌, ◌+◌, ◌-◌, ◌<◌, ◌≤◌, ◌^◌, ◌⊎◌, inl, inr, ℕ, ℤ, Option, Some, None, List, [], ◌++◌, length, map, replicate, take, get_or, refl, ap, sym, subst, ◌∙◌, take-map, append-nil, get_or-map, length-map, length-replicate, UnionMode, Dense, ArrowType, Fits, Slot, Variant, id_at, null_slot, Fits-beginning, sliced, length-sliced, sliced-cut, CrowdedRow, child_at, Layout, field_ids, rows, type_of_layout, field_types, mode_in, SpansRows, UnionParts, child_rows_of, mode_by, rows_of_field, union_layout, union_rows, union_has_field, Grown, AreCrowded, CannotHold, FitsWith, RefusedBy, named_rows, null_rows_of, rows_among, source_at, AreBoundAs, BindsRows, bound_rows, source_rows, BindsFields, AreFew, GrowsVariants, HoldsVariants, IsBoundUnion, IsUnionOver, NullsRefused, RunRefused, absent, nth_grown, variant_rows, IsRun, IsSparse, field_part, run_rows, variant_type, append_assoc, map_constant}
+use Rattle.arrow_growable.proofs.UnionGrowLemmas.{as_many, chosen_refused, others_refused, places_refused, type_there, length_held, part_of_child, same_or_not}
 use Rattle.arrow_growable.proofs.UnionRunLemmas.{child_rows_are, none_there, run_crowded}
 use Rattle.arrow_growable.proofs.UnionTypeLemmas.{FitsPlaces, fits_variants, null_variant}
 
@@ -45,20 +44,10 @@ grows_twice {t} {types} {mid_types} {new_types} {offsets} {mid_offsets} {new_off
 
 -- what they hold fits
 
-pub length_held : (t : ArrowType) (types : List ℤ) (offsets : Option (List ℤ)) (gs : List Grown) → HoldsVariants t types offsets gs → length (variant_rows t types offsets gs) ≡ length types
-length_held t types offsets gs holds =
-    let pairs = length-map (zip types (places_by types offsets)) (λ row. variant_at (field_ids t) (rows_of_all gs) row.0 row.1) in
-    omega (arith, pairs, length-zip types (places_by types offsets), holds.rows.spans)
-
-pub part_of_child : (t : ArrowType) (types : List ℤ) (offsets : Option (List ℤ)) (gs : List Grown) → HoldsVariants t types offsets gs → (f : ℕ) → f < length gs → (nth_grown gs f).rows ≡ field_part t f (variant_rows t types offsets gs)
-part_of_child t types offsets gs holds f within =
-    sym (column_is gs f within) ∙ holds.rows.parts f (omega (arith, within, length-map gs (λ (h : Grown). h.rows)))
-
 places_few : (offsets : Option (List ℤ)) (mode : UnionMode) (n : ℕ) → mode ≡ mode_by (child_rows_of offsets) → AreFew offsets n → FitsPlaces mode n
-places_few None Sparse n is few = tt
 places_few None Dense n is few = cc
-places_few (Some os) Sparse n is few = tt
 places_few (Some os) Dense n is few = few
+places_few offsets mode n is few = tt
 
 pub fits_held : (t : ArrowType) (types : List ℤ) (offsets : Option (List ℤ)) (gs : List Grown) → IsUnionOver t offsets gs → HoldsVariants t types offsets gs → length types < 2 ^ 64 → Fits t (variant_rows t types offsets gs)
 fits_held t types offsets gs over holds counted =
@@ -172,25 +161,17 @@ module _ (layouts : List Layout) (index : ℕ) (p : UnionParts) (bounded : index
 pub some_children : (t : ArrowType) (offsets : Option (List ℤ)) (gs : List Grown) → IsUnionOver t offsets gs → 0 < length gs
 some_children t offsets gs over = omega (arith, union_has_field t over.kind, as_many t gs over.types)
 
-map-replicate : (n : ℕ) (h : Slot → Slot) (x : Slot) → map h (replicate n x) ≡ replicate n (h x)
-map-replicate zero h x = refl
-map-replicate (suc n) h x = ap (λ ys. h x ∷ ys) (map-replicate n h x)
-
-first_or_other : (f : ℕ) → (f ≡ 0) ⊎ (f ≡ 0 → ⊥)
-first_or_other zero = inl refl
-first_or_other (suc f) = inr (λ same. omega (arith, same))
-
 pub null_rows_are : (t : ArrowType) (offsets : Option (List ℤ)) (gs : List Grown) (n : ℕ) → IsUnionOver t offsets gs → 0 < length gs → run_rows t 0 (null_rows_of (nth_grown gs 0) n) ≡ replicate n (null_slot t)
 null_rows_are t offsets gs n over some =
     let null = null_variant t over.kind.1 (omega (arith, some, as_many t gs over.types)) in
-    ap (λ u. run_rows t 0 (replicate n (null_slot u))) (type_there t gs 0 over.types some) ∙ (map-replicate n (Variant (id_at (field_ids t) 0)) (null_slot (variant_type t 0)) ∙ ap (replicate n) (sym null))
+    ap (λ u. run_rows t 0 (replicate n (null_slot u))) (type_there t gs 0 over.types some) ∙ (map_constant (Variant (id_at (field_ids t) 0)) n (null_slot (variant_type t 0)) ∙ ap (replicate n) (sym null))
 
 pub nulls_cannot : (t : ArrowType) (types : List ℤ) (offsets : Option (List ℤ)) (gs : List Grown) (n : ℕ) → IsUnionOver t offsets gs → HoldsVariants t types offsets gs → 0 < length gs → NullsRefused offsets n gs → Fits t (variant_rows t types offsets gs ++ replicate n (null_slot t)) → ⊥
 nulls_cannot t types None gs n over holds some refused fits =
     let more = null_rows_of (nth_grown gs 0) n in
     let many : length more ≡ n = length-replicate n (null_slot (nth_grown gs 0).arrow_type) in
     let whole = subst (λ ys. Fits t (variant_rows t types None gs ++ ys)) (sym (null_rows_are t None gs n over some)) fits in
-    elim (first_or_other refused.0) [
+    elim (same_or_not refused.0 0) [
       | inl same ↦ chosen_refused t types None gs over holds 0 n more some many (λ inner. refused.2 absent (subst (λ k. FitsWith (nth_grown gs k) (null_rows_of (nth_grown gs k) n)) (sym same) inner)) whole
       | inr other ↦ others_refused t types None gs over holds 0 n more some many refl (refused.0, refused.1, other, refused.2 absent) whole
     ]

@@ -1,7 +1,5 @@
 -- The children of unions under construction: one that is changed, and what a call on it answers.
-use Rattle.arrow_growable.proofs.Common.{arith, ◌≡◌, ◌+◌, ◌<◌, ℕ, zero, suc, List, [], ◌∷◌, length, map, get_or, refl, ap, sym, subst, ◌∙◌, OnOk, OnErr, set, get_or-map, length-map, All-cons, Error, ArrowType, Slot, sliced, Grown, AreThere, CountsRows, FitsItself, HasFailed, NamesRows, appended, named_rows, rows_among, grown_of, AreBoundAs, BindsRows, GrownBy, IsWell, SameBound, bound_rows, grown_by_nulls, source_rows, absent, nth_grown, with_rows, AnyGrowable}
-use Rattle.std.specs.Prelude.{Result, Ok, Err}
-use Rattle.std.specs.List.{All}
+use Rattle.arrow_growable.proofs.Common.{arith, ◌≡◌, ◌+◌, ◌<◌, ℕ, zero, suc, List, [], ◌∷◌, length, map, get_or, refl, ap, sym, subst, ◌∙◌, OnOk, OnErr, set, get_or-map, length-map, All-cons, Error, ArrowType, Slot, Grown, AreThere, CountsRows, FitsItself, HasFailed, NamesRows, appended, grown_of, AreBoundAs, BindsRows, GrownBy, IsWell, SameBound, grown_by_nulls, absent, nth_grown, with_rows, AnyGrowable, Result, Ok, Err, All, take, drop, ◌++◌, written}
 
 -- what follows from two facts on success
 pub on_both : {T E P Q R : Type 0} (r : Result T E) → OnOk r P → OnOk r Q → (P → Q → R) → OnOk r R
@@ -62,11 +60,6 @@ place_is xs i place e within well is counts =
     let one : IsWell (grown_of (get_or xs i e)) = subst IsWell read (well i absent (omega (arith, within, length-map xs grown_of))) in
     is ∙ (counts one.well ∙ ap (λ g. length g.rows) (sym read))
 
--- rows that are named of the array that it is bound to
-pub named_are : (g : Grown) (i n first len : ℕ) → BindsRows g i n → named_rows g i first len ≡ sliced (bound_rows g i) first len
-named_are g i n first len binds =
-    ap (λ s. rows_among s i first len) binds.sources ∙ ap (λ s. sliced (source_rows s i) first len) (sym binds.sources)
-
 -- all children with null slots
 pub nulls_well : (n : ℕ) (gs news : List Grown) → news ≡ map (grown_by_nulls n) gs → All FitsItself news → All IsWell news
 nulls_well n gs news are fits =
@@ -79,3 +72,8 @@ nulls_well n gs news are fits =
 pub as_many_types : (xs ys : List AnyGrowable) (ts : List ArrowType) → map (λ g. g.arrow_type) (map grown_of xs) ≡ ts → map (λ g. g.arrow_type) (map grown_of ys) ≡ ts → length xs ≡ length ys
 as_many_types xs ys ts first second =
     omega (arith, length-map xs grown_of, length-map ys grown_of, length-map (map grown_of xs) (λ (g : Grown). g.arrow_type), length-map (map grown_of ys) (λ (g : Grown). g.arrow_type), ap length first, ap length second)
+
+-- children that a call had, as they are given back
+pub given_back : (news items lent : List AnyGrowable) (count : ℕ) (ts : List ArrowType) → lent ≡ items → length lent ≡ count → map (λ g. g.arrow_type) (map grown_of items) ≡ ts → map (λ g. g.arrow_type) (map grown_of news) ≡ ts → take count (news ++ drop (length news) items) ≡ news
+given_back news items lent count ts same long olds are =
+    written news items count (as_many_types news items ts are olds ∙ (ap length (sym same) ∙ long))

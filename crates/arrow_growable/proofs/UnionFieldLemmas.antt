@@ -1,14 +1,11 @@
 -- Rows of a sparse union behind others: what each child holds of them, field by field.
-use Rattle.arrow_growable.proofs.Common.{arith, ◌≡◌, ◌+◌, ◌<◌, ◌≤◌, ℕ, zero, suc, ℤ, pos, Bool, true, false, Option, None, List, [], ◌∷◌, ◌++◌, drop, length, map, replicate, get_or, inl, inr, if◌then◌else◌, refl, ap, sym, subst, ◌∙◌, set, range_with_len, zip, int_eq, Decides-int_eq, append-nil, get_or-map, get_or_default, length-map, same_lists, All-drop, All-take, get_or-range_with_len, length-range_with_len, length-zip, Sparse, ArrowType, Fits, sparse_part, mask, Slot, Null, Variant, id_at, null_slot, sliced, length-sliced, sliced-cut, column_of_id, field_ids, rows, type_of_layout, union_items, variant_at, field_types, mode_in, IsKnown, SpansRows, UnionParts, child_rows_by, rows_of_field, union_rows, Grown, appended, AnyGrowable, grown_of, GrownBy, SameBound, bound_rows, BindsFields, GrownFields, SomeFieldRefused, GrowsVariants, HoldsVariants, IsUnionOver, nth_grown, variant_rows, rows_of_all, HoldsColumns, IsSparse, field_part, have_id, part_of_id, run_rows, variant_type, range-sliced, union_items-sliced}
-use Rattle.std.specs.List.{All}
-use Rattle.std.proofs.lemmas.List.{append_assoc, length-append}
-use Rattle.arrow_growable.proofs.UnionBoundLemmas.{part_of_child}
+use Rattle.arrow_growable.proofs.Common.{arith, ◌≡◌, ◌+◌, ◌<◌, ◌≤◌, ℕ, zero, suc, ℤ, pos, Bool, true, false, Option, None, List, [], ◌∷◌, ◌++◌, drop, length, map, replicate, get_or, inl, inr, if◌then◌else◌, refl, ap, sym, subst, ◌∙◌, set, range_with_len, zip, int_eq, Decides-int_eq, append-nil, get_or-map, get_or_default, length-map, same_lists, All-drop, All-take, get_or-range_with_len, length-range_with_len, length-zip, Sparse, ArrowType, Fits, sparse_part, mask, Slot, Null, Variant, id_at, null_slot, sliced, length-sliced, sliced-cut, column_of_id, field_ids, rows, type_of_layout, union_items, variant_at, field_types, mode_in, IsKnown, SpansRows, UnionParts, child_rows_by, rows_of_field, union_rows, Grown, appended, AnyGrowable, grown_of, GrownBy, SameBound, bound_rows, BindsFields, GrownFields, SomeFieldRefused, GrowsVariants, HoldsVariants, IsUnionOver, nth_grown, variant_rows, rows_of_all, HoldsColumns, IsSparse, field_part, have_id, part_of_id, run_rows, variant_type, range-sliced, union_items-sliced, All, append_assoc, length-append}
 use Rattle.arrow_growable.proofs.UnionChildLemmas.{grown_well, set_bound, set_rows, set_well}
-use Rattle.arrow_growable.proofs.UnionGrowLemmas.{as_many, column_is, columns_long, part_long, range-append, type_there, with_rows_here, with_rows_long, with_rows_there}
+use Rattle.arrow_growable.proofs.UnionGrowLemmas.{as_many, column_is, columns_long, part_long, type_there, with_rows_here, with_rows_long, with_rows_there, part_of_child}
 use Rattle.arrow_growable.proofs.UnionRunLemmas.{none_there, one_is, rows_are}
 use Rattle.arrow_growable.proofs.UnionTypeLemmas.{before_or_same, ids_apart, variant_fits}
 use Rattle.arrow_growable.proofs.VariantColumns.{AreApart, holds_run, own_column, run_behind}
-use Rattle.arrow_growable.proofs.VariantLemmas.{part-append}
+use Rattle.arrow_growable.proofs.VariantLemmas.{part-append, range-append}
 
 -- a row of one of so many fields, by its type id
 pub record IsRowOf (ids : Option (List ℤ)) (count : ℕ) (x : Slot) (id : ℤ) : Type 0 where
@@ -61,8 +58,6 @@ module _ (t : ArrowType) (sparse : mode_in t ≡ Sparse) where
       get_or_default news i d [] within ∙ (grown i inside ∙ (ap (λ ys. get_or columns i [] ++ ys) (part_nil i) ∙ (append-nil (get_or columns i []) ∙ sym (get_or_default columns i d [] inside))))) in
       let none : types ++ [] ≡ types = append-nil types in
       (subst {A = List ℤ × List (List Slot)} (λ q. Held q.0 q.1) (λ j. (sym none j, sym news_are j)) holds, (λ j. items (news_are j) (none j)) ∙ sym (append-nil (items columns types)))
-  rows_behind [] (id ∷ ids) types columns news holds apart many named same grown = absurd (omega (arith, many))
-  rows_behind (x ∷ more) [] types columns news holds apart many named same grown = absurd (omega (arith, many))
   rows_behind (x ∷ more) (id ∷ ids) types columns news holds apart many named same grown =
       let row = named 0 (omega arith) in
       let f = row.field in
@@ -84,6 +79,7 @@ module _ (t : ArrowType) (sparse : mode_in t ≡ Sparse) where
       let rest = rows_behind more ids (types ++ id ∷ []) mid news held (subst (AreApart ids_of) (sym (next_long columns x)) apart) (omega (arith, many)) tail (same ∙ sym (next_long columns x)) grows in
       let assoc : (types ++ id ∷ []) ++ ids ≡ types ++ id ∷ ids = append_assoc types (id ∷ []) ids in
       (subst (λ ts. Held ts news) assoc rest.0, (λ j. items news (sym assoc j)) ∙ (rest.1 ∙ (ap (λ ys. ys ++ more) made ∙ append_assoc (items columns types) (x ∷ []) more)))
+  rows_behind more ids types columns news holds apart many named same grown = absurd (omega (arith, many))
 
 -- rows one behind the other in each child, by their type ids
 module _ (ids : Option (List ℤ)) (columns : List (List Slot)) where
@@ -170,7 +166,7 @@ module _ (p : UnionParts) (sparse : IsSparse p) (start len : ℕ) (part : start 
       let known = All-take (IsKnown all_ids (length p.children)) len (drop start p.types) (All-drop (IsKnown all_ids (length p.children)) start p.types sparse.known) in
       subst (λ xs. IsRowOf all_ids (length p.children) (get_or xs i Null) (get_or named i (pos 0))) (sym rows_named) (rows_known all_ids cols named (p.start + start) (length p.children) known i (omega (arith, within, rows_long)))
 
-  pub field_is : (f : ℕ) → f < length p.children → null_slot (variant_type p.arrow_type f) ≡ Null → mask (have_id (id_at all_ids f) named) (sliced (rows_of_field p.children f) (p.start + start) len) ≡ field_part p.arrow_type f (sliced (union_rows p) start len)
+  field_is : (f : ℕ) → f < length p.children → null_slot (variant_type p.arrow_type f) ≡ Null → mask (have_id (id_at all_ids f) named) (sliced (rows_of_field p.children f) (p.start + start) len) ≡ field_part p.arrow_type f (sliced (union_rows p) start len)
   field_is f within null =
       let id = id_at all_ids f in
       let u = variant_type p.arrow_type f in
@@ -183,11 +179,6 @@ module _ (p : UnionParts) (sparse : IsSparse p) (start len : ℕ) (part : start 
       let inside : p.start + start + length named ≤ length col = omega (arith, spans f none_there within, long, named_long, part) in
       let under = part_under all_ids cols apart f (omega (arith, within, columns_long)) u null named (p.start + start) inside in
       sym (ap (λ m. part_of_id m id u (sliced (union_rows p) start len)) sparse.mode ∙ (ap (map (sparse_part id u)) rows_named ∙ (under ∙ ap (λ n. mask (have_id id named) (sliced col (p.start + start) n)) named_long)))
-
-  pub named_in_child : (f : ℕ) → f < length p.children → (g : Grown) (i first : ℕ) (own : List Bool) → own ≡ have_id (id_at all_ids f) named → first ≡ p.start + start → bound_rows g i ≡ rows_of_field p.children f → g.arrow_type ≡ variant_type p.arrow_type f → null_slot g.arrow_type ≡ Null → mask own (sliced (bound_rows g i) first (length own)) ≡ field_part p.arrow_type f (sliced (union_rows p) start len)
-  named_in_child f within g i first own own_is at rows_of type_is null =
-      let long : length own ≡ len = ap length own_is ∙ (length-map named (int_eq (id_at all_ids f)) ∙ named_long) in
-      (λ j. mask (own_is j) (sliced (rows_of j) (at j) (long j))) ∙ field_is f within (ap null_slot (sym type_is) ∙ null)
 
   -- behind those that are held
   module _ (types : List ℤ) (gs : List Grown) (over : IsUnionOver p.arrow_type None gs) (holds : HoldsVariants p.arrow_type types None gs) where
@@ -216,3 +207,25 @@ module _ (p : UnionParts) (sparse : IsSparse p) (start len : ℕ) (part : start 
         let both = (variant_fits p.arrow_type f (held ++ more) over.kind.1 (omega (arith, within, as_many p.arrow_type gs over.types)) fits).1 in
         let parts : field_part p.arrow_type f (held ++ more) ≡ (nth_grown gs f).rows ++ field_part p.arrow_type f more = part-append (mode_in p.arrow_type) (id_at all_ids f) u held more ∙ ap (λ xs. xs ++ field_part p.arrow_type f more) (sym (part_of_child p.arrow_type types None gs holds f within)) in
         refused.2 (subst {A = ArrowType × List Slot} (λ q. Fits q.0 q.1) (λ j. (sym (type_there p.arrow_type gs f over.types within) j, parts j)) both)
+
+-- a loop over the fields has come to field k: its child, as the loop has it and as it was, and the bits of its own rows
+pub record AtField (p : UnionParts) (i : ℕ) (gs : List Grown) (xs : List AnyGrowable) (k : ℕ) (e : AnyGrowable) (start len : ℕ) (own : List Bool) : Type 0 where
+  pub sparse : IsSparse p
+  pub part : start + len ≤ length p.types
+  pub bound : BindsFields p i gs
+  pub within : k < length xs
+  pub inside : k < length gs
+  pub read : nth_grown (map grown_of xs) k ≡ grown_of (get_or xs k e)
+  pub was : nth_grown gs k ≡ grown_of (get_or xs k e)
+  pub own_is : own ≡ have_id (id_at (field_ids p.arrow_type) k) (sliced p.types start len)
+
+module _ (p : UnionParts) (i : ℕ) (gs : List Grown) (xs : List AnyGrowable) (k : ℕ) (e : AnyGrowable) (start len : ℕ) (own : List Bool) (at : AtField p i gs xs k e start len own) where
+  pub own_long : length own ≡ len
+  own_long =
+      ap length at.own_is ∙ (length-map (sliced p.types start len) (int_eq (id_at (field_ids p.arrow_type) k)) ∙ length-sliced p.types start len at.part)
+
+  pub field_named : (first : ℕ) → first ≡ p.start + start → null_slot (grown_of (get_or xs k e)).arrow_type ≡ Null → mask own (sliced (bound_rows (grown_of (get_or xs k e)) i) first (length own)) ≡ field_part p.arrow_type k (sliced (union_rows p) start len)
+  field_named first is null =
+      let rows_of = ap (λ g. bound_rows g i) (sym at.was) ∙ at.bound.rows k at.inside in
+      let type_is = ap (λ (g : Grown). g.arrow_type) (sym at.was) ∙ at.bound.types k at.inside in
+      (λ j. mask (at.own_is j) (sliced (rows_of j) (is j) (own_long j))) ∙ field_is p at.sparse start len at.part k (omega (arith, at.inside, at.bound.width)) (ap null_slot (sym type_is) ∙ null)

@@ -1,8 +1,6 @@
 -- Unions without rows, and the array that is made of the parts of one.
-use Rattle.arrow_growable.proofs.Common.{arith, ◌≡◌, ◌<◌, ℕ, ℤ, pos, false, Option, Some, None, List, [], length, map, get_or, refl, ap, sym, subst, ◌∙◌, option_map, zip, get_or-map, length-map, All-nil, get_or-zip, length-zip, UnionMode, Dense, Sparse, ArrowType, Fits, Slot, id_at, Fits-nil, AnyArray, any_array_rows, any_array_type, layout_of, Layout, column_of_id, field_ids, rows, union_items, HaveRows, mode_in, FitsMode, FitsOffsets, HoldsUnion, IsInside, IsKnown, UnionParts, child_row_of, child_rows_of, mode_by, union_rows, rows_of_arrays, types_of_layouts, Grown, emptied_of, AreFew, HoldsVariants, IsUnionOver, absent, no_offsets, nth_grown, places_by, variant_rows, rows_of_all, part_of_id, variant_type}
-use Rattle.std.specs.List.{All}
-use Rattle.arrow_growable.proofs.UnionBoundLemmas.{length_held, part_of_child}
-use Rattle.arrow_growable.proofs.UnionGrowLemmas.{part_long}
+use Rattle.arrow_growable.proofs.Common.{arith, ◌≡◌, ◌<◌, ℕ, ℤ, pos, false, Option, Some, None, List, [], length, map, get_or, refl, ap, sym, subst, ◌∙◌, option_map, zip, get_or-map, length-map, All-nil, get_or-zip, length-zip, UnionMode, Dense, Sparse, ArrowType, Fits, Slot, id_at, Fits-nil, AnyArray, any_array_rows, any_array_type, layout_of, Layout, column_of_id, field_ids, rows, union_items, HaveRows, mode_in, FitsMode, FitsOffsets, HoldsUnion, IsInside, IsKnown, UnionParts, child_row_of, child_rows_of, mode_by, union_rows, rows_of_arrays, types_of_layouts, Grown, emptied_of, AreFew, HoldsVariants, IsUnionOver, absent, no_offsets, nth_grown, places_by, variant_rows, rows_of_all, part_of_id, variant_type, All}
+use Rattle.arrow_growable.proofs.UnionGrowLemmas.{part_long, length_held, part_of_child}
 use Rattle.arrow_growable.proofs.UnionRunLemmas.{rows_are}
 
 -- children without rows, that have not failed
@@ -16,43 +14,35 @@ emptied_bare gs =
     let at : get_or (map emptied_of gs) k d ≡ emptied_of (get_or gs k d) = get_or-map emptied_of gs k d d (omega (arith, within, length-map gs emptied_of)) in
     subst IsBare (sym at) (record { rows = refl; well = refl })
 
-part-nil : (mode : UnionMode) (id : ℤ) (t : ArrowType) → part_of_id mode id t [] ≡ []
-part-nil Sparse id t = refl
-part-nil Dense id t = refl
+-- what a union without rows says of its offsets and its children, in each mode
+pub record SaysNone (mode : UnionMode) : Type 0 where
+  pub natural : no_offsets mode ≡ option_map (map pos) (child_rows_of (no_offsets mode))
+  pub places : places_by [] (no_offsets mode) ≡ []
+  pub few : AreFew (no_offsets mode) 0
+  pub mode_is : mode_by (child_rows_of (no_offsets mode)) ≡ mode
+  pub parts : (id : ℤ) (t : ArrowType) → part_of_id mode id t [] ≡ []
 
-bare_natural : (mode : UnionMode) → no_offsets mode ≡ option_map (map pos) (child_rows_of (no_offsets mode))
-bare_natural Sparse = refl
-bare_natural Dense = refl
-
-bare_places : (mode : UnionMode) → places_by [] (no_offsets mode) ≡ []
-bare_places Sparse = refl
-bare_places Dense = refl
-
-bare_few : (mode : UnionMode) → AreFew (no_offsets mode) 0
-bare_few Sparse = tt
-bare_few Dense = omega arith
-
-pub bare_mode : (mode : UnionMode) → mode_by (child_rows_of (no_offsets mode)) ≡ mode
-bare_mode Sparse = refl
-bare_mode Dense = refl
+pub says_none : (mode : UnionMode) → SaysNone mode
+says_none Sparse = record { natural = refl; places = refl; few = tt; mode_is = refl; parts = λ id t. refl }
+says_none Dense = record { natural = refl; places = refl; few = omega arith; mode_is = refl; parts = λ id t. refl }
 
 -- they hold what a union without rows holds
 pub holds_none : (t : ArrowType) (gs : List Grown) → All IsBare gs → HoldsVariants t [] (no_offsets (mode_in t)) gs
 holds_none t gs bare =
     let offsets = no_offsets (mode_in t) in
-    let none : places_by [] offsets ≡ [] = bare_places (mode_in t) in
+    let none = says_none (mode_in t) in
     record {
       well = λ k d within. (let one = bare k d within in record { well = one.well; fits = subst (Fits (get_or gs k d).arrow_type) (sym one.rows) (Fits-nil (get_or gs k d).arrow_type) });
-      natural = bare_natural (mode_in t);
-      few = λ f within. subst (λ xs. AreFew offsets (length xs)) (sym (bare f absent within).rows) (bare_few (mode_in t));
+      natural = none.natural;
+      few = λ f within. subst (λ xs. AreFew offsets (length xs)) (sym (bare f absent within).rows) none.few;
       rows = record {
-        spans = ap length none;
+        spans = ap length none.places;
         known = All-nil (IsKnown (field_ids t) (length (rows_of_all gs)));
         placed = λ k d within. absurd (omega (arith, within));
         parts =
             λ f within.
             let among : f < length gs = omega (arith, within, length-map gs (λ (g : Grown). g.rows)) in
-            get_or-map (λ (g : Grown). g.rows) gs f absent [] among ∙ ((bare f absent among).rows ∙ sym (part-nil (mode_in t) (id_at (field_ids t) f) (variant_type t f)));
+            get_or-map (λ (g : Grown). g.rows) gs f absent [] among ∙ ((bare f absent among).rows ∙ sym (none.parts (id_at (field_ids t) f) (variant_type t f)));
       };
     }
 
@@ -89,9 +79,8 @@ offsets_inside ids children columns types (Some os) same natural long placed =
 
 fits_mode : (mode : UnionMode) (types : List ℤ) (offsets : Option (List ℤ)) (children : List Layout) → mode ≡ mode_by (child_rows_of offsets) → length (places_by types offsets) ≡ length types → (mode ≡ Sparse → HaveRows (length types) children) → FitsMode mode types offsets children
 fits_mode Sparse types None children mode long have = have refl
-fits_mode Dense types None children mode long have = cc
-fits_mode Sparse types (Some os) children mode long have = cc
 fits_mode Dense types (Some os) children mode long have = sym (length-map os child_row_of) ∙ long
+fits_mode _ types offsets children mode long have = cc
 
 module _ (t : ArrowType) (types : List ℤ) (offsets : Option (List ℤ)) (gs : List Grown) (values : List AnyArray) (over : IsUnionOver t offsets gs) (holds : HoldsVariants t types offsets gs) (types_are : map any_array_type values ≡ map (λ g. g.arrow_type) gs) (rows_same : map any_array_rows values ≡ map (λ g. g.rows) gs) where
   have_rows : mode_in t ≡ Sparse → HaveRows (length types) (map layout_of values)

@@ -1,17 +1,15 @@
 -- Unions under construction: what they hold behind a run of rows of one field, and why a run is refused.
-use Rattle.arrow_growable.proofs.Common.{arith, ◌≡◌, ◌+◌, ◌<◌, ◌^◌, ◌⊎◌, inl, inr, ℕ, zero, suc, ℤ, pos, Option, Some, None, List, [], ◌∷◌, ◌++◌, length, map, replicate, get_or, refl, ap, sym, subst, ◌∙◌, option_map, range_with_len, zip, length-zip, append-nil, get_or-map, length-map, length-replicate, map-append, UnionMode, Dense, Sparse, ArrowType, plain, null, Fits, sparse_part, Slot, id_at, field_ids, union_items, variant_at, field_types, mode_in, child_row_of, child_rows_of, mode_by, Grown, FitsWith, appended, null_rows_of, IsWell, grown_by_nulls, AreFew, GrowsVariants, HoldsVariants, IsUnionOver, OthersCannotHold, absent, nth_grown, placed_behind, places_by, variant_rows, with_others, with_rows, with_run, rows_of_all, HoldsColumns, field_part, part_of_id, run_rows, variant_type}
-use Rattle.std.specs.List.{All}
-use Rattle.std.proofs.lemmas.List.{length-append}
+use Rattle.arrow_growable.proofs.Common.{arith, ◌≡◌, ◌+◌, ◌<◌, ◌^◌, ◌⊎◌, inl, inr, ℕ, zero, suc, ℤ, pos, Option, Some, None, List, [], ◌∷◌, ◌++◌, length, map, replicate, get_or, refl, ap, sym, subst, ◌∙◌, option_map, range_with_len, zip, length-zip, append-nil, get_or-map, length-map, length-replicate, map-append, UnionMode, Dense, Sparse, ArrowType, plain, null, Fits, sparse_part, Slot, id_at, field_ids, union_items, variant_at, field_types, mode_in, child_row_of, child_rows_of, mode_by, Grown, FitsWith, appended, null_rows_of, IsWell, grown_by_nulls, AreFew, GrowsVariants, HoldsVariants, IsUnionOver, OthersCannotHold, absent, nth_grown, placed_behind, places_by, variant_rows, with_others, with_rows, with_run, rows_of_all, HoldsColumns, field_part, part_of_id, run_rows, variant_type, All, length-append}
 use Rattle.arrow_growable.proofs.UnionTypeLemmas.{FitsPlaces, before_or_same, ids_apart, variant_fits}
 use Rattle.arrow_growable.proofs.VariantColumns.{AreApart, holds_run, run_behind}
-use Rattle.arrow_growable.proofs.VariantLemmas.{naturals_back, others_part, part-append, part_other, part_same}
+use Rattle.arrow_growable.proofs.VariantLemmas.{naturals_back, others_part, part-append, part_other, part_same, range-append}
 
 -- children, one by one
 
 pub with_rows_long : (f : ℕ) (more : List Slot) (gs : List Grown) → length (with_rows f more gs) ≡ length gs
+with_rows_long (suc f) more (g ∷ gs) = ap suc (with_rows_long f more gs)
 with_rows_long f more [] = refl
 with_rows_long zero more (g ∷ gs) = refl
-with_rows_long (suc f) more (g ∷ gs) = ap suc (with_rows_long f more gs)
 
 pub with_rows_here : (f : ℕ) (more : List Slot) (gs : List Grown) → f < length gs → nth_grown (with_rows f more gs) f ≡ appended (nth_grown gs f) more
 with_rows_here f more [] within = absurd (omega (arith, within))
@@ -19,11 +17,11 @@ with_rows_here zero more (g ∷ gs) within = refl
 with_rows_here (suc f) more (g ∷ gs) within = with_rows_here f more gs (omega (arith, within))
 
 pub with_rows_there : (f g : ℕ) (more : List Slot) (gs : List Grown) → (g ≡ f → ⊥) → nth_grown (with_rows f more gs) g ≡ nth_grown gs g
-with_rows_there f g more [] other = refl
 with_rows_there zero zero more (h ∷ gs) other = absurd (other refl)
+with_rows_there (suc f) (suc g) more (h ∷ gs) other = with_rows_there f g more gs (λ same. other (ap suc same))
+with_rows_there f g more [] other = refl
 with_rows_there zero (suc g) more (h ∷ gs) other = refl
 with_rows_there (suc f) zero more (h ∷ gs) other = refl
-with_rows_there (suc f) (suc g) more (h ∷ gs) other = with_rows_there f g more gs (λ same. other (ap suc same))
 
 pub with_others_long : (f n : ℕ) (gs : List Grown) → length (with_others f n gs) ≡ length gs
 with_others_long f n [] = refl
@@ -62,6 +60,13 @@ type_there t gs g types within =
 pub as_many : (t : ArrowType) (gs : List Grown) → map (λ h. h.arrow_type) gs ≡ field_types t → length gs ≡ length (field_types t)
 as_many t gs types = sym (length-map gs (λ (h : Grown). h.arrow_type)) ∙ ap length types
 
+pub same_or_not : (g f : ℕ) → (g ≡ f) ⊎ (g ≡ f → ⊥)
+same_or_not g f =
+    elim (before_or_same g f) [
+      | inl less ↦ inr (λ same. omega (arith, less, same))
+      | inr rest ↦ elim rest [ inl same ↦ inl same | inr more ↦ inr (λ same. omega (arith, more, same)) ]
+    ]
+
 -- the rows of each behind a run of field f
 
 chosen_rows : (offsets : Option (List ℤ)) (f n : ℕ) (more : List Slot) (gs : List Grown) → f < length gs → (nth_grown (with_run offsets f more n gs) f).rows ≡ (nth_grown gs f).rows ++ more
@@ -74,17 +79,6 @@ other_rows t None f g n more gs mode type_is within other =
     ap (λ h. h.rows) (with_rows_there f g more (with_others f n gs) other ∙ with_others_there f g n gs within other) ∙ (λ j. (nth_grown gs g).rows ++ others_part (sym mode j) (type_is j) n)
 other_rows t (Some os) f g n more gs mode type_is within other =
     ap (λ h. h.rows) (with_rows_there f g more gs other) ∙ (sym (append-nil (nth_grown gs g).rows) ∙ (λ j. (nth_grown gs g).rows ++ others_part (sym mode j) (variant_type t g) n))
-
--- numbers behind numbers
-pub range-append : (a m n : ℕ) → range_with_len a (m + n) ≡ range_with_len a m ++ range_with_len (a + m) n
-range-append a zero n =
-    let none : zero + n ≡ n = omega arith in
-    let at : a ≡ a + zero = omega arith in
-    λ j. range_with_len (at j) (none j)
-range-append a (suc m) n =
-    let more : suc m + n ≡ suc (m + n) = omega arith in
-    let at : a + 1 + m ≡ a + suc m = omega arith in
-    ap (range_with_len a) more ∙ ap (λ rest. a ∷ rest) (range-append (a + 1) m n ∙ ap (λ k. range_with_len (a + 1) m ++ range_with_len k n) at)
 
 placed_rows : (os : List ℤ) (place n : ℕ) → map child_row_of (os ++ map pos (range_with_len place n)) ≡ map child_row_of os ++ range_with_len place n
 placed_rows os place n =
@@ -119,6 +113,17 @@ few_other None f g n more gs few other = tt
 few_other (Some os) f g n more gs few other =
     omega (arith, few, ap (λ h. length h.rows) (with_rows_there f g more gs other))
 
+-- what is held
+
+pub length_held : (t : ArrowType) (types : List ℤ) (offsets : Option (List ℤ)) (gs : List Grown) → HoldsVariants t types offsets gs → length (variant_rows t types offsets gs) ≡ length types
+length_held t types offsets gs holds =
+    let pairs = length-map (zip types (places_by types offsets)) (λ row. variant_at (field_ids t) (rows_of_all gs) row.0 row.1) in
+    omega (arith, pairs, length-zip types (places_by types offsets), holds.rows.spans)
+
+pub part_of_child : (t : ArrowType) (types : List ℤ) (offsets : Option (List ℤ)) (gs : List Grown) → HoldsVariants t types offsets gs → (f : ℕ) → f < length gs → (nth_grown gs f).rows ≡ field_part t f (variant_rows t types offsets gs)
+part_of_child t types offsets gs holds f within =
+    sym (column_is gs f within) ∙ holds.rows.parts f (omega (arith, within, length-map gs (λ (h : Grown). h.rows)))
+
 -- rows of one field behind those of before
 module _ (t : ArrowType) (types : List ℤ) (offsets : Option (List ℤ)) (gs : List Grown) (over : IsUnionOver t offsets gs) (holds : HoldsVariants t types offsets gs) (f n : ℕ) (more : List Slot) (within : f < length gs) (many : length more ≡ n) where
   abbrev held : List Slot
@@ -131,9 +136,6 @@ module _ (t : ArrowType) (types : List ℤ) (offsets : Option (List ℤ)) (gs : 
   apart =
       subst (AreApart (field_ids t)) (sym (columns_long gs ∙ as_many t gs over.types)) (ids_apart t over.kind)
 
-  part_held : (g : ℕ) → g < length gs → (nth_grown gs g).rows ≡ field_part t g held
-  part_held g inside = sym (column_is gs g inside) ∙ holds.rows.parts g (omega (arith, inside, columns_long gs))
-
   -- what each holds of them with the run
   run_part : (g : ℕ) → g < length gs → (g ≡ f) ⊎ (g ≡ f → ⊥) → (nth_grown (with_run offsets f more n gs) g).rows ≡ (nth_grown gs g).rows ++ field_part t g (run_rows t f more)
   run_part g inside (inl same) =
@@ -143,31 +145,19 @@ module _ (t : ArrowType) (types : List ℤ) (offsets : Option (List ℤ)) (gs : 
       let part : field_part t g (run_rows t f more) ≡ others_part (mode_in t) (variant_type t g) n = part_other (mode_in t) (id_at (field_ids t) g) (id_at (field_ids t) f) (variant_type t g) more differ ∙ ap (others_part (mode_in t) (variant_type t g)) many in
       other_rows t offsets f g n more gs over.mode (type_there t gs g over.types inside) inside other ∙ ap (λ ys. (nth_grown gs g).rows ++ ys) (sym part)
 
-  same_or_not : (g : ℕ) → (g ≡ f) ⊎ (g ≡ f → ⊥)
-  same_or_not g =
-      elim (before_or_same g f) [
-        | inl less ↦ inr (λ same. omega (arith, less, same))
-        | inr rest ↦ elim rest [ inl same ↦ inl same | inr more ↦ inr (λ same. omega (arith, more, same)) ]
-      ]
-
   grown_part : (g : ℕ) → g < length (rows_of_all gs) → get_or (rows_of_all (with_run offsets f more n gs)) g [] ≡ get_or (rows_of_all gs) g [] ++ field_part t g (run_rows t f more)
   grown_part g inside =
       let among : g < length gs = omega (arith, inside, columns_long gs) in
-      column_is (with_run offsets f more n gs) g (omega (arith, among, run_long offsets f more n gs)) ∙ (run_part g among (same_or_not g) ∙ ap (λ xs. xs ++ field_part t g (run_rows t f more)) (sym (column_is gs g among)))
+      column_is (with_run offsets f more n gs) g (omega (arith, among, run_long offsets f more n gs)) ∙ (run_part g among (same_or_not g f) ∙ ap (λ xs. xs ++ field_part t g (run_rows t f more)) (sym (column_is gs g among)))
 
   news_long : length (rows_of_all (with_run offsets f more n gs)) ≡ length (rows_of_all gs)
   news_long =
       columns_long (with_run offsets f more n gs) ∙ (run_long offsets f more n gs ∙ sym (columns_long gs))
 
-  held_long : length held ≡ length types
-  held_long =
-      let pairs = length-map (zip types (places_by types offsets)) (λ row. variant_at (field_ids t) (rows_of_all gs) row.0 row.1) in
-      omega (arith, pairs, length-zip types (places_by types offsets), holds.rows.spans)
-
   -- in a sparse union a child has as many rows as the union
   place_sparse : mode_by (child_rows_of offsets) ≡ Sparse → place ≡ length types
   place_sparse sparse =
-      ap length (part_held f within) ∙ (part_long (mode_in t) (id_at (field_ids t) f) (variant_type t f) held (over.mode ∙ sparse) ∙ held_long)
+      ap length (part_of_child t types offsets gs holds f within) ∙ (part_long (mode_in t) (id_at (field_ids t) f) (variant_type t f) held (over.mode ∙ sparse) ∙ length_held t types offsets gs holds)
 
   new_columns : HoldsColumns t (types ++ replicate n (id_at (field_ids t) f)) (places_by types offsets ++ range_with_len place n) (rows_of_all (with_run offsets f more n gs))
   new_columns =
@@ -189,13 +179,12 @@ module _ (t : ArrowType) (types : List ℤ) (offsets : Option (List ℤ)) (gs : 
   grows_run news new_types new_offsets news_are types_are offsets_are well few =
       let ids = field_ids t in
       let all = types ++ replicate n (id_at ids f) in
-      let places = places_by types offsets ++ range_with_len place n in
       let behind = run_behind t types (places_by types offsets) (rows_of_all gs) (rows_of_all (with_run offsets f more n gs)) f place n more holds.rows apart (omega (arith, within, columns_long gs)) news_long grown_part (ap length (sym (column_is gs f within))) many in
       let made : GrowsVariants t types offsets gs all (placed_behind offsets place n) (with_run offsets f more n gs) (run_rows t f more) = record {
         holds = record {
           well = subst (All IsWell) news_are well;
           natural = natural_behind offsets place n holds.natural;
-          few = λ g inside. new_few few g inside (same_or_not g);
+          few = λ g inside. new_few few g inside (same_or_not g f);
           rows = subst (λ ps. HoldsColumns t all ps (rows_of_all (with_run offsets f more n gs))) (sym new_places) new_columns;
         };
         rows = ap (union_items ids (rows_of_all (with_run offsets f more n gs)) all) new_places ∙ behind;
@@ -206,7 +195,7 @@ module _ (t : ArrowType) (types : List ℤ) (offsets : Option (List ℤ)) (gs : 
   child_fits : (g : ℕ) → g < length gs → Fits t (held ++ run_rows t f more) → FitsPlaces (mode_in t) (length ((nth_grown gs g).rows ++ field_part t g (run_rows t f more))) × FitsWith (nth_grown gs g) (field_part t g (run_rows t f more))
   child_fits g inside fits =
       let all = variant_fits t g (held ++ run_rows t f more) over.kind.1 (omega (arith, inside, as_many t gs over.types)) fits in
-      let part : field_part t g (held ++ run_rows t f more) ≡ (nth_grown gs g).rows ++ field_part t g (run_rows t f more) = part-append (mode_in t) (id_at (field_ids t) g) (variant_type t g) held (run_rows t f more) ∙ ap (λ xs. xs ++ field_part t g (run_rows t f more)) (sym (part_held g inside)) in
+      let part : field_part t g (held ++ run_rows t f more) ≡ (nth_grown gs g).rows ++ field_part t g (run_rows t f more) = part-append (mode_in t) (id_at (field_ids t) g) (variant_type t g) held (run_rows t f more) ∙ ap (λ xs. xs ++ field_part t g (run_rows t f more)) (sym (part_of_child t types offsets gs holds g inside)) in
       subst {A = ArrowType × List Slot} (λ q. FitsPlaces (mode_in t) (length q.1) × Fits q.0 q.1) (λ j. (sym (type_there t gs g over.types inside) j, part j)) all
 
   own_part : field_part t f (run_rows t f more) ≡ more

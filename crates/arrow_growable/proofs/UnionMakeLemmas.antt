@@ -1,34 +1,17 @@
 -- The children of arrays of unions that are bound, those of each field beside one another.
-use Rattle.arrow_growable.proofs.Common.{arith, ◌≡◌, ◌+◌, ◌<◌, ◌≤◌, ◌⊎◌, inl, inr, ℕ, ℤ, zero, suc, false, Option, List, [], ◌∷◌, ◌++◌, length, map, take, get_or, refl, ap, sym, subst, ◌∙◌, range_with_len, get_or-map, length-map, map-append, eq-or-lt_of_le, take-suc, get_or-map-range_with_len, length-map-range_with_len, map-range_with_len_more, PhysicalType, ArrowType, plain, null, IsCarriedAs, AnyArray, kind_in, layout_of, union_kind, child_at, Layout, type_of_layout, deepest, type_depth, field_types, mode_in, UnionParts, child_rows_of, mode_by, union_layout, Grown, AreOfOneType, bound_to, first_type, grown_of, AnyGrowable, CanBind, HaveFieldTypes, IsBoundUnion, IsGrownUnion, absent, no_offsets, nth_grown, union_children, variant_rows, variant_type}
-use Rattle.std.specs.List.{All}
+use Rattle.arrow_growable.proofs.Common.{arith, ◌≡◌, ◌+◌, ◌<◌, ◌≤◌, ◌⊎◌, inl, inr, ℕ, ℤ, zero, suc, false, Option, List, [], ◌∷◌, ◌++◌, length, map, get_or, refl, ap, sym, subst, ◌∙◌, range_with_len, get_or-map, length-map, map-append, eq-or-lt_of_le, get_or-map-range_with_len, length-map-range_with_len, map-range_with_len_more, PhysicalType, ArrowType, plain, null, IsCarriedAs, AnyArray, kind_in, layout_of, union_kind, child_at, Layout, type_of_layout, deepest, type_depth, field_types, mode_in, UnionParts, child_rows_of, mode_by, union_layout, Grown, AreOfOneType, bound_to, first_type, CanBind, HaveFieldTypes, IsBoundUnion, IsGrownUnion, absent, no_offsets, nth_grown, union_children, variant_rows, variant_type, All, same_lists, map-map, get_or_default}
+use Rattle.std.proofs.Math.ListN.{get_or-map as get_or-map_default}
 use Rattle.arrow_types.specs.declared.datatypes.physical_type.PhysicalType.TheVariants as physical
 use Rattle.arrow_growable.proofs.MakeLemmas.{first_type_of, one_type_of}
 use Rattle.arrow_growable.proofs.UnionLoopLemmas.{union_type}
-use Rattle.arrow_growable.proofs.UnionFinishLemmas.{IsBare, bare_mode}
+use Rattle.arrow_growable.proofs.UnionFinishLemmas.{IsBare, says_none}
 use Rattle.arrow_growable.proofs.UnionStructLemmas.{bare_union}
 use Rattle.arrow_growable.proofs.UnionRunLemmas.{child_is, none_there}
-
-read_type : (ls : List Layout) (f : ℕ) → get_or (map type_of_layout ls) f (plain null) ≡ type_of_layout (get_or ls f none_there)
-read_type [] f = refl
-read_type (l ∷ ls) zero = refl
-read_type (l ∷ ls) (suc f) = read_type ls f
-
-same_lists : (xs ys : List ArrowType) → length xs ≡ length ys → ((f : ℕ) → f < length xs → get_or xs f (plain null) ≡ get_or ys f (plain null)) → xs ≡ ys
-same_lists [] [] long same = refl
-same_lists [] (y ∷ ys) long same = absurd (omega (arith, long))
-same_lists (x ∷ xs) [] long same = absurd (omega (arith, long))
-same_lists (x ∷ xs) (y ∷ ys) long same =
-    let rest = same_lists xs ys (omega (arith, long)) (λ f within. same (suc f) (omega (arith, within))) in
-    λ j. same 0 (omega arith) j ∷ rest j
-
-types_bound : (columns : List (List Layout)) → map (λ g. g.arrow_type) (map bound_to columns) ≡ map first_type columns
-types_bound [] = refl
-types_bound (c ∷ columns) = ap (λ ts. first_type c ∷ ts) (types_bound columns)
 
 -- the child of a field has its type
 pub child_type_is : (p : UnionParts) (f : ℕ) → map type_of_layout p.children ≡ field_types p.arrow_type → type_of_layout (child_at f (union_layout p)) ≡ variant_type p.arrow_type f
 child_type_is p f fields =
-    ap type_of_layout (child_is p f) ∙ (sym (read_type p.children f) ∙ ap (λ ts. get_or ts f (plain null)) fields)
+    ap type_of_layout (child_is p f) ∙ (sym (get_or-map_default type_of_layout p.children f none_there) ∙ ap (λ ts. get_or ts f (plain null)) fields)
 
 -- and there is one
 pub child_there : (p : UnionParts) (xs : List AnyArray) (f : ℕ) → map type_of_layout p.children ≡ field_types p.arrow_type → map layout_of xs ≡ p.children → f < length (field_types p.arrow_type) → f < length xs
@@ -63,14 +46,14 @@ columns_bind layouts some types =
 -- and have the types of the fields
 pub columns_types : (layouts : List Layout) → 0 < length layouts → HaveFieldTypes layouts → map first_type (union_children layouts) ≡ field_types (first_type layouts)
 columns_types layouts some types =
-    same_lists (map first_type (union_children layouts)) (field_types (first_type layouts)) (length-map (union_children layouts) first_type ∙ children_many layouts) (λ f inside.
+    same_lists (map first_type (union_children layouts)) (field_types (first_type layouts)) (length-map (union_children layouts) first_type ∙ children_many layouts) (λ f d inside.
     let among : f < length (union_children layouts) = omega (arith, inside, length-map (union_children layouts) first_type) in
     let within : f < length (field_types (first_type layouts)) = omega (arith, among, children_many layouts) in
-    get_or-map first_type (union_children layouts) f [] (plain null) among ∙ (ap first_type (child_list layouts f within []) ∙ child_first layouts f some within types))
+    get_or-map first_type (union_children layouts) f [] d among ∙ (ap first_type (child_list layouts f within []) ∙ (child_first layouts f some within types ∙ get_or_default (field_types (first_type layouts)) f (plain null) d within)))
 
 -- growables over them too
 pub grown_types : (columns : List (List Layout)) (grown : List Grown) → grown ≡ map bound_to columns → map (λ g. g.arrow_type) grown ≡ map first_type columns
-grown_types columns grown are = ap (map (λ (g : Grown). g.arrow_type)) are ∙ types_bound columns
+grown_types columns grown are = ap (map (λ (g : Grown). g.arrow_type)) are ∙ map-map (λ g. g.arrow_type) bound_to columns
 
 -- one of them is less deep than the deepest
 pub column_depth : (columns : List (List Layout)) (k : ℕ) (d : List Layout) → k < length columns → suc (type_depth (first_type (get_or columns k d))) ≤ deepest (map first_type columns)
@@ -119,7 +102,7 @@ made_union layouts t types offsets gs copied kind one_type are fields none offse
       over = record {
         kind = subst (IsCarriedAs physical.Union) (sym copied) kind;
         types = fields ∙ ap field_types (sym copied);
-        mode = sym (ap (λ os. mode_by (child_rows_of os)) offsets_are ∙ bare_mode (mode_in t));
+        mode = sym (ap (λ os. mode_by (child_rows_of os)) offsets_are ∙ (says_none (mode_in t)).mode_is);
       };
       one_type = λ k d within. one_type k d within ∙ sym copied;
       sources =
@@ -140,15 +123,12 @@ type_of_unions physical.Union is = refl
 type_of_unions _ is = cc
 
 -- one column, read
+pub record LentColumn (columns : List (List Layout)) (k : ℕ) (column : List Layout) : Type 0 where
+  pub within : k < length columns
+  pub lent : column ≡ get_or columns k []
+
 pub column_read : {A : Type 0} (h : A → List Layout) (columns : List A) (k : ℕ) (e : A) (d : List Layout) → k < length columns → e ≡ get_or columns k e → h e ≡ get_or (map h columns) k d
 column_read h columns k e d within read = ap h read ∙ sym (get_or-map h columns k e d within)
-
--- one growable more
-pub grown_next : (columns : List (List Layout)) (done : List AnyGrowable) (x : AnyGrowable) (k : ℕ) (d : List Layout) → k < length columns → grown_of x ≡ bound_to (get_or columns k d) → map grown_of done ≡ map bound_to (take k columns) → map grown_of (done ++ x ∷ []) ≡ map bound_to (take (k + 1) columns)
-grown_next columns done x k d within made so_far =
-    let one : suc k ≡ k + 1 = omega arith in
-    let next : take (k + 1) columns ≡ take k columns ++ (get_or columns k d ∷ []) = ap (λ i. take i columns) (sym one) ∙ take-suc columns k d within in
-    map-append grown_of done (x ∷ []) ∙ ((λ j. so_far j ++ made j ∷ []) ∙ (sym (map-append bound_to (take k columns) (get_or columns k d ∷ [])) ∙ ap (map bound_to) (sym next)))
 
 -- of one array each column is one child
 pub columns_alone : (layouts : List Layout) → length layouts ≡ 1 → All (λ column. length column ≡ 1) (union_children layouts)

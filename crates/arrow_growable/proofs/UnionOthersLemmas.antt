@@ -1,11 +1,9 @@
 -- The children of a sparse union that a run does not go to: those before the field's child and those behind it.
-use Rattle.arrow_growable.proofs.Common.{arith, ◌≡◌, ◌+◌, ◌-◌, ◌<◌, ℕ, suc, List, [], ◌∷◌, ◌++◌, length, map, take, drop, get_or, refl, ap, sym, subst, ◌∙◌, drop-map, take-map, drop-cons, take-append-add, append-nil, drop_all, get_or-drop, get_or-map, get_or-take, length-drop, length-map, length-take, map-append, take-append-drop, take_all, All-append, All-cons, All-drop, All-take, drop-append-drop, Grown, FitsItself, FitsWith, null_rows_of, grown_of, AreBoundAs, IsWell, SomeCannotHoldNulls, grown_by_nulls, OthersCannotHold, absent, nth_grown, with_others, AnyGrowable}
-use Rattle.std.specs.List.{All}
-use Rattle.std.proofs.lemmas.List.{append_assoc, length-append}
+use Rattle.arrow_growable.proofs.Common.{arith, ◌≡◌, ◌+◌, ◌-◌, ◌<◌, ℕ, suc, List, [], ◌∷◌, ◌++◌, length, map, take, drop, get_or, refl, ap, sym, subst, ◌∙◌, drop-map, take-map, drop-cons, take-append-add, append-nil, drop_all, get_or-drop, get_or-map, get_or-take, length-drop, length-map, length-take, map-append, take-append-drop, take_all, All-append, All-cons, All-drop, All-take, drop-append-drop, Grown, FitsItself, FitsWith, null_rows_of, grown_of, AreBoundAs, IsWell, SomeCannotHoldNulls, grown_by_nulls, OthersCannotHold, absent, nth_grown, with_others, AnyGrowable, All, append_assoc, length-append}
 use Rattle.arrow_growable.proofs.UnionChildLemmas.{nulls_well}
 
 -- a child, where there is one
-pub some_child : (xs : List AnyGrowable) (f : ℕ) → f < length xs → AnyGrowable
+some_child : (xs : List AnyGrowable) (f : ℕ) → f < length xs → AnyGrowable
 some_child [] f within = absurd (omega (arith, within))
 some_child (x ∷ xs) f within = x
 
@@ -23,7 +21,10 @@ others_parts [] rest g n = refl
 others_parts (a ∷ firsts) rest g n = ap (λ gs. grown_by_nulls n a ∷ gs) (others_parts firsts rest g n)
 
 -- of all children but the f-th
-module _ (xs : List AnyGrowable) (f n : ℕ) (within : f < length xs) (d : AnyGrowable) where
+module _ (xs : List AnyGrowable) (f n : ℕ) (within : f < length xs) where
+  abbrev d : AnyGrowable
+  d = some_child xs f within
+
   abbrev chosen : AnyGrowable
   chosen = get_or xs f d
 

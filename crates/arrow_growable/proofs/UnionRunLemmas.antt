@@ -1,10 +1,8 @@
 -- Runs of rows of one field in an array of unions: the rows, and which of them are crowded.
-use Rattle.arrow_growable.proofs.Common.{arith, ◌≡◌, ◌+◌, ◌-◌, ◌<◌, ◌≤◌, ◌≤ℤ◌, inl, inr, ℕ, zero, suc, ℤ, pos, Option, Some, None, List, [], ◌∷◌, ◌++◌, length, map, replicate, take, drop, get_or, refl, ap, sym, subst, ◌∙◌, option_map, slice_get, range_with_len, get_or-drop, get_or-map, get_or-replicate, get_or-take, length-map, length-take, replicate-append-replicate, take-append-drop, All-map, ints, get_or-range_with_len, get_or_from_slice_get, slice_get-get_or, ArrowType, plain, null, Slot, id_at, sliced, length-sliced, sliced-cut, CrowdedRow, CrowdedVariant, child_at, nth_layout, Layout, column_of_id, flat, field_ids, rows, to_layouts, type_of_layout, union_items, field_types, FindsField, SpansRows, UnionParts, child_row_of, child_rows_by, rows_of_field, union_layout, union_layout_by, union_rows, range-sliced, union_items-sliced, columns_of-to_layouts, IsRun, run_rows}
-use Rattle.std.specs.Prelude.{slice_index}
-use Rattle.std.specs.List.{All}
+use Rattle.arrow_growable.proofs.Common.{arith, ◌≡◌, ◌+◌, ◌-◌, ◌<◌, ◌≤◌, ◌≤ℤ◌, inl, inr, ℕ, zero, suc, ℤ, pos, Option, Some, None, List, [], ◌∷◌, ◌++◌, length, map, replicate, take, drop, get_or, refl, ap, sym, subst, ◌∙◌, option_map, slice_get, range_with_len, get_or-drop, get_or-map, get_or-replicate, get_or-take, length-map, length-take, replicate-append-replicate, take-append-drop, All-map, ints, get_or-range_with_len, get_or_from_slice_get, slice_get-get_or, ArrowType, plain, null, Slot, id_at, sliced, length-sliced, sliced-cut, CrowdedRow, CrowdedVariant, child_at, nth_layout, Layout, column_of_id, flat, field_ids, rows, to_layouts, type_of_layout, union_items, field_types, FindsField, SpansRows, UnionParts, child_row_of, child_rows_by, rows_of_field, union_layout, union_layout_by, union_rows, range-sliced, union_items-sliced, columns_of-to_layouts, IsRun, run_rows, slice_index, All, drop_more}
 use Rattle.arrow_growable.proofs.UnionTypeLemmas.{before_or_same}
 use Rattle.arrow_growable.proofs.VariantColumns.{AreApart, own_column}
-use Rattle.arrow_growable.proofs.VariantLemmas.{naturals_back, run_pairs}
+use Rattle.arrow_growable.proofs.VariantLemmas.{naturals_back, run_pairs, range-append}
 
 -- the rows, by type ids and places
 rows_by_places : (t : ArrowType) (types : List ℤ) (child_rows : Option (List ℕ)) (start : ℕ) (children : List Layout) → rows (union_layout_by t types child_rows start children) ≡ union_items (field_ids t) (map rows children) types (child_rows_by child_rows start (length types))
@@ -56,9 +54,8 @@ abbrev pub none_there : Layout
 none_there = flat (plain null) []
 
 nth_from : (ls : List Layout) (f : ℕ) → nth_layout (to_layouts ls) f ≡ get_or ls f none_there
-nth_from [] f = refl
-nth_from (l ∷ ls) zero = refl
 nth_from (l ∷ ls) (suc f) = nth_from ls f
+nth_from ls f = refl
 
 child_by : (t : ArrowType) (types : List ℤ) (child_rows : Option (List ℕ)) (start : ℕ) (children : List Layout) (f : ℕ) → child_at f (union_layout_by t types child_rows start children) ≡ get_or children f none_there
 child_by t types None start children f = nth_from children f
@@ -163,18 +160,7 @@ offsets_many (Some ns) zs start count children seen spans =
 -- one more of it
 
 pub one_is : {A : Type 0} (xs : List A) (i : ℕ) (d : A) → i < length xs → sliced xs i 1 ≡ get_or xs i d ∷ []
-one_is [] i d within = absurd (omega (arith, within))
-one_is (x ∷ xs) zero d within = refl
-one_is (x ∷ xs) (suc i) d within = one_is xs i d (omega (arith, within))
-
-range_with_len_more : (a n : ℕ) → range_with_len a (n + 1) ≡ range_with_len a n ++ ((a + n) ∷ [])
-range_with_len_more a zero =
-    let at : a ≡ a + 0 = omega arith in
-    ap (λ (k : ℕ). k ∷ []) at
-range_with_len_more a (suc n) =
-    let more : suc n + 1 ≡ suc (n + 1) = omega arith in
-    let at : a + 1 + n ≡ a + suc n = omega arith in
-    ap (range_with_len a) more ∙ ap (λ (rest : List ℕ). a ∷ rest) (range_with_len_more (a + 1) n ∙ ap (λ (k : ℕ). range_with_len (a + 1) n ++ (k ∷ [])) at)
+one_is xs i d within = ap (take 1) (drop_more xs i d within)
 
 pub next_same : {A : Type 0} (xs : List A) (start n : ℕ) (x d : A) → start + n < length xs → get_or xs (start + n) d ≡ x → sliced xs start n ≡ replicate n x → sliced xs start (n + 1) ≡ replicate (n + 1) x
 next_same xs start n x d within is so_far =
@@ -182,4 +168,4 @@ next_same xs start n x d within is so_far =
 
 pub next_risen : (ns : List ℕ) (start n first : ℕ) → start + n < length ns → get_or ns (start + n) 0 ≡ first + n → sliced ns start n ≡ range_with_len first n → sliced ns start (n + 1) ≡ range_with_len first (n + 1)
 next_risen ns start n first within is so_far =
-    sliced-cut ns start n 1 ∙ ((λ j. so_far j ++ one_is ns (start + n) 0 within j) ∙ ((λ j. range_with_len first n ++ (is j ∷ [])) ∙ sym (range_with_len_more first n)))
+    sliced-cut ns start n 1 ∙ ((λ j. so_far j ++ one_is ns (start + n) 0 within j) ∙ ((λ j. range_with_len first n ++ (is j ∷ [])) ∙ sym (range-append first n 1)))

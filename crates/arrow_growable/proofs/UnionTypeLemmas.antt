@@ -1,5 +1,5 @@
 -- What the type of a union says: ids that differ, null slots, and which rows fit by what each child holds of them.
-use Rattle.arrow_growable.proofs.Common.{arith, ◌≡◌, ◌+◌, ◌<◌, ◌≤◌, ◌^◌, ◌⊎◌, inl, inr, ℕ, zero, suc, ℤ, pos, Option, Some, None, List, [], ◌∷◌, length, map, get_or, Vec, Global, refl, ap, sym, subst, ◌∙◌, slice_index_or, length-map, DataType, Union, Field, UnionMode, Dense, Sparse, ArrowType, ArrowFields, plain, list, struct, union, dictionary, extension, null, field, no_fields, more_fields, type_in, from_fields, AreTypeIds, IsCarried, IsTypeId, fields_of, ids_of, type_of, type_of-Union, Fits, FitsDense, FitsSparse, dense_part, sparse_part, physical_type_of, Slot, Variant, id_at, null_slot, IsCarriedAs, field_ids, field_types, mode_in, list_shaped, plain_shape, field_part, variant_type}
+use Rattle.arrow_growable.proofs.Common.{arith, ◌≡◌, ◌+◌, ◌<◌, ◌≤◌, ◌^◌, ◌⊎◌, inl, inr, ℕ, zero, suc, ℤ, pos, Option, Some, None, List, [], ◌∷◌, length, map, get_or, Vec, Global, refl, ap, sym, subst, ◌∙◌, slice_index_or, length-map, DataType, Union, Field, UnionMode, Dense, Sparse, ArrowType, ArrowFields, plain, list, union, extension, null, field, no_fields, more_fields, type_in, from_fields, AreTypeIds, IsCarried, IsTypeId, fields_of, ids_of, type_of, type_of-Union, Fits, FitsDense, FitsSparse, dense_part, sparse_part, physical_type_of, Slot, Variant, id_at, null_slot, IsCarriedAs, field_ids, field_types, mode_in, list_shaped, plain_shape, field_part, variant_type}
 use Rattle.arrow_types.specs.declared.datatypes.physical_type.PhysicalType.TheVariants as physical
 use Rattle.arrow_growable.proofs.VariantColumns.{AreApart}
 
@@ -33,11 +33,10 @@ apart_of (Some ids) count are f g low high same = given_apart ids count f g are 
 ids_of_union : (t : ArrowType) → IsCarried t → physical_type_of t ≡ physical.Union → AreApart (field_ids t) (length (field_types t))
 ids_of_union (plain p) carried kind = cc (plain_shape p)
 ids_of_union (list form f) carried kind = cc (list_shaped form)
-ids_of_union (struct fs) carried kind = cc
 ids_of_union (union mode ids fs) carried kind =
     subst (AreApart ids) (sym (length-map (from_fields fs) type_in)) (apart_of ids (length (from_fields fs)) carried.0)
-ids_of_union (dictionary keys ordered t) carried kind = cc
 ids_of_union (extension name metadata t) carried kind = ids_of_union t carried kind
+ids_of_union t carried kind = cc
 
 pub ids_apart : (t : ArrowType) → IsCarriedAs physical.Union t → AreApart (field_ids t) (length (field_types t))
 ids_apart t kind = ids_of_union t kind.0 kind.1
@@ -62,11 +61,10 @@ id_told t fields ids mode given_ids f id kind is some within read =
 pub null_variant : (t : ArrowType) → physical_type_of t ≡ physical.Union → 0 < length (field_types t) → null_slot t ≡ Variant (id_at (field_ids t) 0) (null_slot (variant_type t 0))
 null_variant (plain p) kind some = cc (plain_shape p)
 null_variant (list form f) kind some = cc (list_shaped form)
-null_variant (struct fs) kind some = cc
 null_variant (union mode ids no_fields) kind some = absurd (omega (arith, some))
 null_variant (union mode ids (more_fields (field name t nullable) fs)) kind some = refl
-null_variant (dictionary keys ordered t) kind some = cc
 null_variant (extension name metadata t) kind some = null_variant t kind some
+null_variant t kind some = cc
 
 -- rows that fit do so in each child
 
@@ -97,13 +95,12 @@ FitsPlaces Dense n = n ≤ 2 ^ 31
 pub variant_fits : (t : ArrowType) (f : ℕ) (xs : List Slot) → physical_type_of t ≡ physical.Union → f < length (field_types t) → Fits t xs → FitsPlaces (mode_in t) (length (field_part t f xs)) × Fits (variant_type t f) (field_part t f xs)
 variant_fits (plain p) f xs kind within fits = cc (plain_shape p)
 variant_fits (list form g) f xs kind within fits = cc (list_shaped form)
-variant_fits (struct fs) f xs kind within fits = cc
 variant_fits (union Sparse ids fs) f xs kind within fits =
     (tt, sparse_fits fs ids 0 f f xs (omega arith) within fits.1)
 variant_fits (union Dense ids fs) f xs kind within fits =
     dense_fits fs ids 0 f f xs (omega arith) within fits.1
-variant_fits (dictionary keys ordered t) f xs kind within fits = cc
 variant_fits (extension name metadata t) f xs kind within fits = variant_fits t f xs kind within fits
+variant_fits t f xs kind within fits = cc
 
 -- and fit where they do
 
@@ -121,7 +118,6 @@ fit_dense (more_fields (field name t nullable) fs) ids i xs each =
 pub fits_variants : (t : ArrowType) (xs : List Slot) → physical_type_of t ≡ physical.Union → length xs < 2 ^ 64 → ((f : ℕ) → f < length (field_types t) → FitsPlaces (mode_in t) (length (field_part t f xs)) × Fits (variant_type t f) (field_part t f xs)) → Fits t xs
 fits_variants (plain p) xs kind counted each = cc (plain_shape p)
 fits_variants (list form f) xs kind counted each = cc (list_shaped form)
-fits_variants (struct fs) xs kind counted each = cc
 fits_variants (union Sparse ids fs) xs kind counted each =
     let among : (f j : ℕ) → j ≡ 0 + f → f < length (map type_in (from_fields fs)) → Fits (type_of_field fs f) (map (sparse_part (id_at ids j) (type_of_field fs f)) xs) =
     λ f j at within. subst (λ k. Fits (type_of_field fs f) (map (sparse_part (id_at ids k) (type_of_field fs f)) xs)) (omega (arith, at)) (each f within).1 in
@@ -130,5 +126,5 @@ fits_variants (union Dense ids fs) xs kind counted each =
     let among : (f j : ℕ) → j ≡ 0 + f → f < length (map type_in (from_fields fs)) → (length (dense_part (id_at ids j) xs) ≤ 2 ^ 31) × Fits (type_of_field fs f) (dense_part (id_at ids j) xs) =
     λ f j at within. subst (λ k. (length (dense_part (id_at ids k) xs) ≤ 2 ^ 31) × Fits (type_of_field fs f) (dense_part (id_at ids k) xs)) (omega (arith, at)) (each f within) in
     (counted, fit_dense fs ids 0 xs among)
-fits_variants (dictionary keys ordered t) xs kind counted each = cc
 fits_variants (extension name metadata t) xs kind counted each = fits_variants t xs kind counted each
+fits_variants t xs kind counted each = cc

@@ -1,9 +1,8 @@
 -- Dictionaries of a child that can't be joined: neither can those of the arrays that hold it.
-use Rattle.arrow_growable.proofs.Common.{arith, ◌≡◌, ◌+◌, ◌<◌, inl, inr, ℕ, ℤ, zero, suc, Option, Some, None, List, [], ◌∷◌, ◌++◌, Result, Ok, Err, length, map, take, get_or, ap, sym, subst, ◌∙◌, append_assoc, IsErrAnd, IsOkUnless, slice_index_or, Error, OutOfMemory, append-nil, length-map, All-cons, ArrowType, IsCarried, Fits, physical_type_of, joined, values_in, dictionary_kind, kind_in, type_depth, dictionary_child, CrowdedAmong, CrowdedRow, Unjoined, UnjoinedBy, UnjoinedPart, child_at, child_of, nth_layout, KeyedParts, keyed_layout, UnionParts, union_layout, union_layout_by, Layout, Layouts, listed, fixed, fielded, no_layouts, more_layouts, from_layouts, to_layouts, rows, type_of_layout, AreOfOneType, first_type, source_at, first_is, Form, by_offsets, by_size, by_fields, CannotAppendAll, CannotJoin, IsOfForm, no_child, nth_child}
-use Rattle.std.specs.List.{All}
-use Rattle.arrow_growable.proofs.CrowdLemmas.{field_child, listed_child, same_map, sized_child}
+use Rattle.arrow_growable.proofs.Common.{arith, ◌≡◌, ◌+◌, ◌<◌, inl, inr, ℕ, ℤ, zero, suc, Option, Some, None, List, [], ◌∷◌, ◌++◌, Result, Ok, Err, length, map, take, get_or, ap, sym, subst, ◌∙◌, append_assoc, IsErrAnd, IsOkUnless, slice_index_or, Error, OutOfMemory, append-nil, length-map, All-cons, ArrowType, IsCarried, Fits, physical_type_of, joined, values_in, dictionary_kind, kind_in, type_depth, dictionary_child, CrowdedAmong, CrowdedRow, Unjoined, UnjoinedBy, UnjoinedPart, child_at, child_of, nth_layout, KeyedParts, keyed_layout, UnionParts, union_layout, union_layout_by, Layout, Layouts, listed, fixed, fielded, no_layouts, more_layouts, from_layouts, to_layouts, rows, type_of_layout, AreOfOneType, first_type, source_at, first_is, Form, by_offsets, by_size, by_fields, CannotAppendAll, CannotJoin, IsOfForm, no_child, nth_child, All, map-map}
+use Rattle.arrow_growable.proofs.CrowdLemmas.{field_child, listed_child, same_map, sized_child, nth_from}
 use Rattle.arrow_growable.proofs.KindLemmas.{shape_of_dictionaries}
-use Rattle.arrow_growable.proofs.MakeLemmas.{first_type_of, map_twice, one_type_of}
+use Rattle.arrow_growable.proofs.MakeLemmas.{first_type_of, one_type_of}
 
 -- a field of structs, of those from field g on
 part_unjoined : (cs : Layouts) (all : List Layout) (g f h : ℕ) → h ≡ g + f → UnjoinedBy (slice_index_or (from_layouts cs) f no_child) (map (child_at h) all) → UnjoinedPart cs g all
@@ -35,11 +34,8 @@ child_unjoined form (l ∷ ls) f each inner =
 
 -- a field of unions, of those from field g on
 nth_unjoined : (cs : Layouts) (all : List Layout) (g f h : ℕ) → h ≡ g + f → UnjoinedBy (nth_layout cs f) (map (child_at h) all) → UnjoinedPart cs g all
-nth_unjoined no_layouts all g f h at inner = inner
-nth_unjoined (more_layouts l ls) all g zero h at inner =
-    inl (subst (λ k. UnjoinedBy l (map (child_at k) all)) (omega (arith, at)) inner)
-nth_unjoined (more_layouts l ls) all g (suc f) h at inner =
-    inr (nth_unjoined ls all (suc g) f h (omega (arith, at)) inner)
+nth_unjoined cs all g f h at inner =
+    part_unjoined cs all g f h at (subst (λ l. UnjoinedBy l (map (child_at h) all)) (sym (nth_from cs f)) inner)
 
 by_union : (t : ArrowType) (types : List ℤ) (child_rows : Option (List ℕ)) (start : ℕ) (children all : List Layout) (f : ℕ) → UnjoinedBy (child_at f (union_layout_by t types child_rows start children)) (map (child_at f) all) → UnjoinedBy (union_layout_by t types child_rows start children) all
 by_union t types None start children all f inner = nth_unjoined (to_layouts children) all 0 f f (omega arith) inner
@@ -58,7 +54,7 @@ values_unjoined f (a ∷ arrays) refused some =
     let layouts = map (λ b. keyed_layout (f b)) (a ∷ arrays) in
     let t = type_of_layout (f a).child in
     elim refused [
-      | inl over ↦ inl (subst (λ xss. Fits t (joined xss) → ⊥) (map_twice rows child_of layouts) over)
+      | inl over ↦ inl (subst (λ xss. Fits t (joined xss) → ⊥) (map-map rows child_of layouts) over)
       | inr others ↦ inr others
     ]
 

@@ -1,7 +1,5 @@
 -- Children that hold what rows of a union hold of each, and a run of rows of one field behind them.
-use Rattle.arrow_growable.proofs.Common.{arith, ◌≡◌, ◌+◌, ◌<◌, ◌≤◌, ℕ, ℤ, Option, List, [], ◌++◌, length, replicate, get_or, refl, ap, sym, subst, ◌∙◌, range_with_len, zip, get_or-replicate, length-replicate, All-append, get_or-range_with_len, length-range_with_len, get_or-zip, length-zip, ArrowType, Slot, id_at, column_of_id, field_ids, union_items, mode_in, IsKnown, column_at, HoldsColumns, field_part, run_rows, variant_type}
-use Rattle.std.specs.List.{All}
-use Rattle.std.proofs.lemmas.List.{length-append}
+use Rattle.arrow_growable.proofs.Common.{arith, ◌≡◌, ◌+◌, ◌<◌, ◌≤◌, ℕ, ℤ, Option, List, [], ◌++◌, length, replicate, get_or, refl, ap, sym, subst, ◌∙◌, range_with_len, zip, get_or-replicate, length-replicate, All-append, get_or-range_with_len, length-range_with_len, get_or-zip, length-zip, ArrowType, Slot, id_at, column_of_id, field_ids, union_items, mode_in, IsKnown, column_at, HoldsColumns, field_part, run_rows, variant_type, All, length-append}
 use Rattle.arrow_growable.proofs.VariantLemmas.{column_grown, part-append, part_same, rows_behind, zip-append}
 
 -- ids that differ from field to field, of so many

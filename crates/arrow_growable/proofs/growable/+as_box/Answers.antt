@@ -1,10 +1,11 @@
-use Rattle.arrow_growable.proofs.Common.{arith, rules, ◌≡◌, ◌<◌, length, map, refl, ap, sym, subst, ◌∙◌, length-map, length-set, take_all, type_of, any_array_rows, any_array_type, layout_of, deepest, type_depth, child_rows_of, all_changed, changed_next, changed_read, in_map, rest_as_was, written, Grown, HoldsRows, grown_of, AreBoundAs, IsWell, emptied_of, deepest_child, deepest_of_fields, form_of, grown_arrays, no_offsets, offsets_in, AreWhole, rows_of_all}
+use Rattle.arrow_growable.proofs.Common.{arith, rules, ◌≡◌, length, map, refl, ap, sym, subst, ◌∙◌, length-map, take_all, type_of, any_array_rows, any_array_type, layout_of, deepest, type_depth, child_rows_of, all_changed, written, Grown, HoldsRows, grown_of, AreBoundAs, IsWell, emptied_of, deepest_child, deepest_of_fields, form_of, grown_arrays, no_offsets, offsets_in, AreWhole, rows_of_all, ℕ}
 use Rattle.arrow_growable.proofs.ChildLemmas.{only_memory}
-use Rattle.arrow_growable.proofs.LoopLemmas.{as_many_items, bound_after, deepest_at, taken_next}
-use Rattle.arrow_growable.proofs.StepLemmas.{all_well, bound_map, emptied_same, failed_parts, parts_left, spans_lie, whole_of}
+use Rattle.arrow_growable.proofs.LoopLemmas.{as_many_items, bound_after, taken_next, AtChild, child_changed, is_as, less_deep}
+use Rattle.arrow_growable.proofs.StepLemmas.{all_well, emptied_same, failed_parts, parts_left, spans_lie, whole_of, bound_by}
 use Rattle.arrow_growable.proofs.UnionBoundLemmas.{bound_next}
 use Rattle.arrow_growable.proofs.UnionFinishLemmas.{holds_array, rows_in_array}
 use Rattle.arrow_growable.proofs.UnionStructLemmas.{failed_union, left_union, none_mode}
+use Rattle.arrow_growable.proofs.growable.+as_box.Goals.{children::box_children-In-loop-child}
 use Rattle.arrow_growable.proofs.growable.+as_box.Goals as goal
 
 -- all children
@@ -13,50 +14,41 @@ pub children::box_children-loop-child-init : goal.children::box_children-loop-ch
 children::box_children-loop-child-init t c =
     ((refl, λ k d within. refl), λ k d within. absurd (omega (arith, within)), ap (map any_array_type) c.in_ok-arrays.ensures.items, ap (map any_array_rows) c.in_ok-arrays.ensures.items)
 
+-- the child whose turn it is
+child_now : (t : ℕ) (c : children::box_children-In-loop-child t) → AtChild emptied_of c.loop-child.child-items c.args.children.now c.loop-child.child-index
+child_now t c =
+    let i = c.loop-child.invariant in
+    record { types = λ g. refl; sources = λ g. refl; same = i.0.0; within = c.loop-child-test.true; rest = i.0.1; changed = i.1 }
+
 pub children::box_children-as_box-requires : goal.children::box_children-as_box-requires
 children::box_children-as_box-requires t c =
-    let was = c.args.children.now in
-    let k = c.loop-child.child-index in
-    let e = c.child-item.result in
-    let now = c.loop-child.invariant.0.1 k e (omega arith) in
-    rw now (omega (arith, c.decreases, deepest_at was k e c.loop-child-test.true))
+    omega (arith, c.decreases, less_deep (child_now t (goal.at.children::box_children-as_box-requires t c).In-loop-child) c.child-item.result)
 
 pub children::box_children-returns-in_err-as_box-clause-kept : goal.children::box_children-returns-in_err-as_box-clause-kept
 children::box_children-returns-in_err-as_box-clause-kept t c =
-    let i = c.loop-child.invariant in
     let failed = c.in_err-as_box.ensures.err in
-    bound_after emptied_of (λ g. refl) (λ g. refl) c.loop-child.child-items c.args.children.now c.loop-child.child-index c.as_box.new.self c.child-item.result i.0.0 c.loop-child-test.true i.0.1 i.1 (record { same_type = failed.same_type; same_sources = failed.same_sources })
+    bound_after (child_now t (goal.at.children::box_children-returns-in_err-as_box-clause-kept t c).In-loop-child) c.as_box.new.self c.child-item.result (record { same_type = failed.same_type; same_sources = failed.same_sources })
 
 pub children::box_children-returns-in_err-as_box-clause-err : goal.children::box_children-returns-in_err-as_box-clause-err
 children::box_children-returns-in_err-as_box-clause-err t c =
-    let was = c.args.children.now in
-    let k = c.loop-child.child-index in
-    let e = c.child-item.result in
-    let now = c.loop-child.invariant.0.1 k e (omega arith) in
-    let well = in_map grown_of IsWell was k e c.requires.well c.loop-child-test.true in
-    only_memory c.from_residual-in_err-as_box.result _ _ c.from_residual-in_err-as_box.ensures.1 c.in_err-as_box.ensures.others c.in_err-as_box.ensures.failed (ap (λ x. (grown_of x).failed) now ∙ well.well)
+    let well = is_as (child_now t (goal.at.children::box_children-returns-in_err-as_box-clause-err t c).In-loop-child) IsWell c.child-item.result c.requires.well in
+    only_memory c.from_residual-in_err-as_box.result _ _ c.from_residual-in_err-as_box.ensures.1 c.in_err-as_box.ensures.others c.in_err-as_box.ensures.failed well.well
 
 pub children::box_children-returns-in_err-push-clause-kept : goal.children::box_children-returns-in_err-push-clause-kept
 children::box_children-returns-in_err-push-clause-kept t c =
-    let i = c.loop-child.invariant in
     let left = c.in_ok-as_box.ensures.left in
-    bound_after emptied_of (λ g. refl) (λ g. refl) c.loop-child.child-items c.args.children.now c.loop-child.child-index c.as_box.new.self c.child-item.result i.0.0 c.loop-child-test.true i.0.1 i.1 (record { same_type = ap (λ g. g.arrow_type) left; same_sources = ap (λ g. g.sources) left })
+    bound_after (child_now t (goal.at.children::box_children-returns-in_err-push-clause-kept t c).In-loop-child) c.as_box.new.self c.child-item.result (record { same_type = ap (λ g. g.arrow_type) left; same_sources = ap (λ g. g.sources) left })
 
 pub children::box_children-loop-child-preserved : goal.children::box_children-loop-child-preserved
 children::box_children-loop-child-preserved t c =
     let was = c.args.children.now in
-    let items = c.loop-child.child-items in
     let k = c.loop-child.child-index in
-    let x = c.as_box.new.self in
     let e = c.child-item.result in
     let i = c.loop-child.invariant in
-    let among = c.loop-child-test.true in
-    let here : k < length items = omega (arith, among, i.0.0) in
-    let now = i.0.1 k e (omega arith) in
-    let new = changed_read grown_of emptied_of items was k x e among now c.in_ok-as_box.ensures.left in
+    let next = child_changed (child_now t (goal.at.children::box_children-loop-child-preserved t c).In-loop-child) c.as_box.new.self e c.in_ok-as_box.ensures.left in
     let array = c.in_ok-as_box.field-0 in
-    let made = subst (λ y. HoldsRows (grown_of y) array) now c.in_ok-as_box.ensures.ok in
-    ((length-set items k x ∙ i.0.0, rest_as_was items was k x i.0.1), changed_next grown_of emptied_of items was k x here i.1 new, rw c.in_ok-push.ensures.items (taken_next (λ (g : Grown). g.arrow_type) any_array_type was c.loop-child.arrays.items array k e among made.0 i.2), rw c.in_ok-push.ensures.items (taken_next (λ (g : Grown). g.rows) any_array_rows was c.loop-child.arrays.items array k e among made.1 i.3))
+    let made = subst (λ y. HoldsRows (grown_of y) array) (i.0.1 k e (omega arith)) c.in_ok-as_box.ensures.ok in
+    (next.0, next.1, rw c.in_ok-push.ensures.items (taken_next (λ (g : Grown). g.arrow_type) any_array_type was c.loop-child.arrays.items array k e c.loop-child-test.true made.0 i.2), rw c.in_ok-push.ensures.items (taken_next (λ (g : Grown). g.rows) any_array_rows was c.loop-child.arrays.items array k e c.loop-child-test.true made.1 i.3))
 
 pub children::box_children-returns-clause-types : goal.children::box_children-returns-clause-types
 children::box_children-returns-clause-types t c =
@@ -75,9 +67,7 @@ children::box_children-returns-clause-left t c =
 
 pub children::box_children-returns-clause-kept : goal.children::box_children-returns-clause-kept
 children::box_children-returns-clause-kept t c =
-    let i = c.loop-child.invariant in
-    let whole = all_changed grown_of emptied_of c.loop-child.child-items c.args.children.now i.0.0 (λ k d before. i.1 k d (omega (arith, before, c.loop-child-test.false))) in
-    subst (AreBoundAs (map grown_of c.args.children.now)) (sym whole) (bound_map emptied_of (map grown_of c.args.children.now) (λ g. refl) (λ g. refl))
+    bound_by emptied_of _ _ (λ g. refl) (λ g. refl) (children::box_children-returns-clause-left t c)
 
 -- the growable
 

@@ -1,10 +1,10 @@
-use Rattle.arrow_growable.proofs.Common.{arith, rules, ◌≡◌, ◌<◌, Bor, Err, Global, List, [], Vec, get_or, length, map, ap, sym, subst, ◌∙◌, get_or_default, length-map, take_all, physical_type_of, IfOk-weaker, joined, layout_of, layouts_in, Unjoined, child_of, keyed_layout, Layout, rows, passed_on, AnyArray, deepest, type_depth, field_types, union_layout, AreOfOneType, bound_to, first_type, first_is, bound_layouts, child_type, child_types, child_less_deep, deepest_of_fields, CanBind, HaveFieldTypes, SomeColumnUnjoined, union_children, nth_child, form_of, CannotJoin}
-use Rattle.std.specs.List.{All}
-use Rattle.arrow_growable.proofs.UnionMakeLemmas.{child_list, children_many, column_depth, column_read, columns_alone, columns_bind, columns_types, grown_next, grown_types}
+use Rattle.arrow_growable.proofs.Common.{arith, rules, ◌≡◌, ◌<◌, Bor, Err, Global, List, [], Vec, get_or, length, map, ap, sym, subst, ◌∙◌, get_or_default, length-map, take_all, physical_type_of, IfOk-weaker, joined, layout_of, layouts_in, Unjoined, child_of, keyed_layout, Layout, rows, passed_on, AnyArray, deepest, type_depth, field_types, union_layout, AreOfOneType, bound_to, first_type, first_is, bound_layouts, child_type, child_types, child_less_deep, deepest_of_fields, CanBind, HaveFieldTypes, SomeColumnUnjoined, union_children, nth_child, form_of, CannotJoin, All, map-map, ℕ, grown_of}
+use Rattle.arrow_growable.proofs.UnionMakeLemmas.{child_list, children_many, column_depth, column_read, columns_alone, columns_bind, columns_types, grown_types, LentColumn}
 use Rattle.arrow_growable.proofs.KindLemmas.{others_flat}
 use Rattle.arrow_growable.proofs.UnjoinedLemmas.{cannot_join, child_unjoined, field_unjoined, only_memory, values_are, values_unjoined}
-use Rattle.arrow_growable.proofs.MakeLemmas.{all_children, made_next, map_twice, one_type_of, first_type_of}
+use Rattle.arrow_growable.proofs.MakeLemmas.{all_children, made_next, one_type_of, first_type_of, taken_more}
 use Rattle.arrow_growable.proofs.growable.+make.Goals as goal
+use Rattle.arrow_growable.proofs.growable.+make.Goals.{make::make_each-After-deref}
 
 pub nested::make_children-make_growable-requires : goal.nested::make_children-make_growable-requires
 nested::make_children-make_growable-requires t c =
@@ -32,7 +32,6 @@ nested::make_children-loop-f-preserved t c =
 
 pub nested::make_children-returns-clause-ok : goal.nested::make_children-returns-clause-ok
 nested::make_children-returns-clause-ok t c =
-    let u = first_type (bound_layouts c.args.arrays.now) in
     all_children (bound_layouts c.args.arrays.now) c.loop-f.children.items c.loop-f.f (omega (arith, c.loop-f-test.false, c.width-width.ensures)) c.loop-f.invariant.0
 
 pub nested::make_children-returns-clause-types : goal.nested::make_children-returns-clause-types
@@ -67,7 +66,7 @@ pub dictionary::join_values-returns-clause-joined : goal.dictionary::join_values
 dictionary::join_values-returns-clause-joined t c =
     let layouts = map (λ (r : Bor _). keyed_layout r.now) c.args.arrays.now in
     let column = ap (map (λ (a : Bor _). layout_of a.now)) c.deref.ensures.value ∙ c.in_ok-values.ensures.ok in
-    IfOk-weaker c.join_arrays.result _ _ (λ all same. same ∙ (ap (λ ls. joined (map rows ls)) column ∙ ap joined (map_twice rows child_of layouts))) c.join_arrays.ensures.rows
+    IfOk-weaker c.join_arrays.result _ _ (λ all same. same ∙ (ap (λ ls. joined (map rows ls)) column ∙ ap joined (map-map rows child_of layouts))) c.join_arrays.ensures.rows
 
 pub dictionary::join_values-returns-clause-overflow : goal.dictionary::join_values-returns-clause-overflow
 dictionary::join_values-returns-clause-overflow t c overflows =
@@ -96,41 +95,37 @@ nested::GrowableNested::new-returns-in_err-children t c =
 abbrev layouts_by : Vec (Bor AnyArray) Global → List Layout
 layouts_by column = map (λ (a : Bor AnyArray). layout_of a.now) column.items
 
+-- the column whose turn it is
+column_lent : (t : ℕ) (c : make::make_each-After-deref t) → LentColumn (map layouts_by c.args.columns.now) c.loop-column.column-index (map (λ (a : Bor _). layout_of a.now) c.deref.result.now)
+column_lent t c =
+    let lent = ap (map (λ (a : Bor _). layout_of a.now)) c.deref.ensures.value ∙ column_read layouts_by c.args.columns.now c.loop-column.column-index c.column-item.result [] c.loop-column-test.true c.column-item.is in
+    record { within = omega (arith, c.loop-column-test.true, length-map c.args.columns.now layouts_by); lent = lent }
+
 pub make::make_each-make_growable-requires : goal.make::make_each-make_growable-requires
 make::make_each-make_growable-requires t c =
-    let columns = map layouts_by c.args.columns.now in
-    let k = c.loop-column.column-index in
-    let within : k < length columns = omega (arith, c.loop-column-test.true, length-map c.args.columns.now layouts_by) in
-    let lent : map (λ (a : Bor _). layout_of a.now) c.deref.result.now ≡ get_or columns k [] = ap (map (λ (a : Bor _). layout_of a.now)) c.deref.ensures.value ∙ column_read layouts_by c.args.columns.now k c.column-item.result [] c.loop-column-test.true c.column-item.is in
-    let binds = c.requires k [] within in
-    (omega (arith, ap (λ ls. type_depth (first_type ls)) lent, column_depth columns k [] within, c.decreases), (omega (arith, binds.some, ap length lent, length-map c.deref.result.now (λ (a : Bor _). layout_of a.now)), subst AreOfOneType (sym lent) binds.one_type))
+    let at = column_lent t (goal.at.make::make_each-make_growable-requires t c).After-deref in
+    let binds = c.requires c.loop-column.column-index [] at.within in
+    (omega (arith, ap (λ ls. type_depth (first_type ls)) at.lent, column_depth (map layouts_by c.args.columns.now) c.loop-column.column-index [] at.within, c.decreases), (omega (arith, binds.some, ap length at.lent, length-map c.deref.result.now (λ (a : Bor _). layout_of a.now)), subst AreOfOneType (sym at.lent) binds.one_type))
 
 pub make::make_each-loop-column-preserved : goal.make::make_each-loop-column-preserved
 make::make_each-loop-column-preserved t c =
+    let at = column_lent t (goal.at.make::make_each-loop-column-preserved t c).After-deref in
     let columns = map layouts_by c.args.columns.now in
-    let k = c.loop-column.column-index in
-    let within : k < length columns = omega (arith, c.loop-column-test.true, length-map c.args.columns.now layouts_by) in
-    let lent : map (λ (a : Bor _). layout_of a.now) c.deref.result.now ≡ get_or columns k [] = ap (map (λ (a : Bor _). layout_of a.now)) c.deref.ensures.value ∙ column_read layouts_by c.args.columns.now k c.column-item.result [] c.loop-column-test.true c.column-item.is in
-    rw c.in_ok-push.ensures.items (grown_next columns c.loop-column.growables.items c.in_ok-make_growable.field-0 k [] within (c.in_ok-make_growable.ensures.ok ∙ ap bound_to lent) c.loop-column.invariant)
+    let item = get_or columns c.loop-column.column-index [] in
+    rw c.in_ok-push.ensures.items (taken_more grown_of bound_to c.loop-column.growables.items columns c.in_ok-make_growable.field-0 item c.loop-column.column-index at.within (get_or_default columns c.loop-column.column-index [] item at.within) (c.in_ok-make_growable.ensures.ok ∙ ap bound_to at.lent) c.loop-column.invariant)
 
 pub make::make_each-returns-in_err-make_growable-clause-overflow :
     goal.make::make_each-returns-in_err-make_growable-clause-overflow
 make::make_each-returns-in_err-make_growable-clause-overflow t c overflows =
-    let columns = map layouts_by c.args.columns.now in
-    let k = c.loop-column.column-index in
-    let within : k < length columns = omega (arith, c.loop-column-test.true, length-map c.args.columns.now layouts_by) in
-    let lent : map (λ (a : Bor _). layout_of a.now) c.deref.result.now ≡ get_or columns k [] = ap (map (λ (a : Bor _). layout_of a.now)) c.deref.ensures.value ∙ column_read layouts_by c.args.columns.now k c.column-item.result [] c.loop-column-test.true c.column-item.is in
+    let at = column_lent t (goal.at.make::make_each-returns-in_err-make_growable-clause-overflow t c).After-deref in
     let refused = c.in_err-make_growable.ensures.overflow (ap Err (passed_on c.from_residual-in_err-make_growable.result _ _ c.from_residual-in_err-make_growable.ensures.1 overflows)) in
-    (k, within, λ d. subst Unjoined (lent ∙ get_or_default columns k [] d within) refused)
+    (c.loop-column.column-index, at.within, λ d. subst Unjoined (at.lent ∙ get_or_default (map layouts_by c.args.columns.now) c.loop-column.column-index [] d at.within) refused)
 
 pub make::make_each-returns-in_err-make_growable-clause-alone :
     goal.make::make_each-returns-in_err-make_growable-clause-alone
 make::make_each-returns-in_err-make_growable-clause-alone t c alone =
-    let columns = map layouts_by c.args.columns.now in
-    let k = c.loop-column.column-index in
-    let within : k < length columns = omega (arith, c.loop-column-test.true, length-map c.args.columns.now layouts_by) in
-    let lent : map (λ (a : Bor _). layout_of a.now) c.deref.result.now ≡ get_or columns k [] = ap (map (λ (a : Bor _). layout_of a.now)) c.deref.ensures.value ∙ column_read layouts_by c.args.columns.now k c.column-item.result [] c.loop-column-test.true c.column-item.is in
-    only_memory c.from_residual-in_err-make_growable.result _ c.from_residual-in_err-make_growable.ensures.1 (c.in_err-make_growable.ensures.alone (omega (arith, alone k [] within, ap length lent)))
+    let at = column_lent t (goal.at.make::make_each-returns-in_err-make_growable-clause-alone t c).After-deref in
+    only_memory c.from_residual-in_err-make_growable.result _ c.from_residual-in_err-make_growable.ensures.1 (c.in_err-make_growable.ensures.alone (omega (arith, alone c.loop-column.column-index [] at.within, ap length at.lent)))
 
 pub union::GrowableUnion::new-make_each-requires : goal.union::GrowableUnion::new-make_each-requires
 union::GrowableUnion::new-make_each-requires t c =

@@ -1,5 +1,5 @@
-use Rattle.arrow_growable.proofs.Common.{arith, ◌≡◌, Bor, map, sym, subst, ◌∙◌, take_all, All-map, All-more, All-same, layout_of, Layout, type_of_layout, first_type, child_type, nth_child}
-use Rattle.arrow_growable.proofs.MakeLemmas.{bind_all, bind_next, map_twice, type_at}
+use Rattle.arrow_growable.proofs.Common.{arith, ◌≡◌, Bor, map, sym, subst, ◌∙◌, take_all, All-map, All-more, All-same, layout_of, Layout, type_of_layout, first_type, child_type, nth_child, map-map}
+use Rattle.arrow_growable.proofs.MakeLemmas.{bind_all, bind_next, type_at}
 use Rattle.arrow_growable.proofs.SourceLemmas.{child_there, nth_type}
 use Rattle.arrow_growable.proofs.growable.bound.column_of.Goals as goal
 
@@ -16,7 +16,7 @@ loop-array-preserved g c =
 
 pub returns-clause-ok : goal.returns-clause-ok
 returns-clause-ok g c =
-    bind_all (λ (a : Bor _). layout_of a.now) (λ (r : Bor _). nth_child c.args.f (g.A.NestedArray.layout_in r.now)) c.loop-array.column.items c.args.arrays.now c.loop-array.array-index (omega (arith, c.loop-array-test.false)) c.loop-array.invariant.0 ∙ sym (map_twice (nth_child c.args.f) (λ (r : Bor _). g.A.NestedArray.layout_in r.now) c.args.arrays.now)
+    bind_all (λ (a : Bor _). layout_of a.now) (λ (r : Bor _). nth_child c.args.f (g.A.NestedArray.layout_in r.now)) c.loop-array.column.items c.args.arrays.now c.loop-array.array-index (omega (arith, c.loop-array-test.false)) c.loop-array.invariant.0 ∙ sym (map-map (nth_child c.args.f) (λ (r : Bor _). g.A.NestedArray.layout_in r.now) c.args.arrays.now)
 
 pub returns-clause-types : goal.returns-clause-types
 returns-clause-types g c =

@@ -1,11 +1,10 @@
-use Rattle.arrow_growable.proofs.Common.{Bor, ap, sym, ◌∙◌, physical_type_of, kind_in, layout_of, keyed_layout}
-use Rattle.arrow_growable.proofs.MakeLemmas.{bind_next, type_at}
+use Rattle.arrow_growable.proofs.Common.{Bor, sym, ◌∙◌, layout_of, keyed_layout}
+use Rattle.arrow_growable.proofs.MakeLemmas.{bind_next, kind_at}
 use Rattle.arrow_growable.proofs.growable.dictionary.bind.Goals as goal
 
 pub as_dictionary-requires : goal.as_dictionary-requires
 as_dictionary-requires c =
-    let same = type_at (λ (a : Bor _). layout_of a.now) c.args.arrays.now c.array-item.result c.loop-array.array-index c.loop-array-test.true c.array-item.is c.requires.one_type in
-    sym c.data_type.ensures.kind ∙ (ap (λ t. kind_in (physical_type_of t)) same ∙ c.requires.kind)
+    sym c.data_type.ensures.kind ∙ kind_at (λ (a : Bor _). layout_of a.now) c.args.arrays.now c.array-item.result c.loop-array.array-index c.loop-array-test.true c.array-item.is c.requires.one_type c.requires.kind
 
 pub loop-array-preserved : goal.loop-array-preserved
 loop-array-preserved c =

@@ -1,5 +1,4 @@
-use Rattle.arrow_growable.proofs.Common.{◌≡◌, ◌<◌, ℕ, length, map, take, values_before, keyed_layout}
-use Rattle.std.specs.Prelude.{slice_index}
+use Rattle.arrow_growable.proofs.Common.{◌≡◌, ◌<◌, ℕ, length, map, take, values_before, keyed_layout, slice_index}
 use Rattle.arrow_growable.proofs.growable.dictionary.starts_of.Given as goal
 
 -- where the values of the arrays so far begin, and those of the next one

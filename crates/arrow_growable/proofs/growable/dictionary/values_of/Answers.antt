@@ -1,5 +1,5 @@
-use Rattle.arrow_growable.proofs.Common.{arith, ◌≡◌, Bor, sym, subst, ◌∙◌, take_all, All-more, All-same, values_in, layout_of, child_of, keyed_layout, type_of_layout}
-use Rattle.arrow_growable.proofs.MakeLemmas.{bind_all, bind_next, map_twice}
+use Rattle.arrow_growable.proofs.Common.{arith, ◌≡◌, Bor, sym, subst, ◌∙◌, take_all, All-more, All-same, values_in, layout_of, child_of, keyed_layout, type_of_layout, map-map}
+use Rattle.arrow_growable.proofs.MakeLemmas.{bind_all, bind_next}
 use Rattle.arrow_growable.proofs.growable.dictionary.values_of.Goals as goal
 
 pub loop-array-preserved : goal.loop-array-preserved
@@ -9,7 +9,7 @@ loop-array-preserved c =
 
 pub returns-clause-ok : goal.returns-clause-ok
 returns-clause-ok c =
-    bind_all (λ (a : Bor _). layout_of a.now) (λ (r : Bor _). r.now.child) c.loop-array.values.items c.args.arrays.now c.loop-array.array-index (omega (arith, c.loop-array-test.false)) c.loop-array.invariant.0 ∙ sym (map_twice child_of (λ (r : Bor _). keyed_layout r.now) c.args.arrays.now)
+    bind_all (λ (a : Bor _). layout_of a.now) (λ (r : Bor _). r.now.child) c.loop-array.values.items c.args.arrays.now c.loop-array.array-index (omega (arith, c.loop-array-test.false)) c.loop-array.invariant.0 ∙ sym (map-map child_of (λ (r : Bor _). keyed_layout r.now) c.args.arrays.now)
 
 pub returns-clause-types : goal.returns-clause-types
 returns-clause-types c =

@@ -1,8 +1,4 @@
-use Rattle.std.proofs.Common.{rules, take}
-use Rattle.std.proofs.lemmas.List.{length-take-le}
-use Rattle.std.proofs.lemmas.List.Elements.{All-take}
-use Rattle.std.specs.Int.RustNames.{FitsSigned}
-use Rattle.std.specs.Int.{w8}
+use Rattle.arrow_growable.proofs.Common.{rules, take, length-take-le, All-take, FitsSigned, w8}
 use Rattle.arrow_growable.proofs.IdLemmas.{block_is}
 use Rattle.arrow_growable.proofs.growable.ids.block_of_id.Goals as goal
 

@@ -1,5 +1,4 @@
-use Rattle.std.proofs.Common.{ℕ, ℤ, ◌<◌, slice_index_or, w8}
-use Rattle.std.specs.Int.RustNames.{FitsSigned}
+use Rattle.arrow_growable.proofs.Common.{ℕ, ℤ, ◌<◌, slice_index_or, w8, FitsSigned}
 use Rattle.arrow_growable.proofs.growable.ids.fit.Given as goal
 
 abbrev pub invariant-loop-id : goal.invariant-loop-id

@@ -1,11 +1,6 @@
-use Rattle.std.proofs.Common.{◌≡◌, ap, of_z, rules, to_z, ◌∙◌, length}
-use Rattle.std.proofs.lemmas.Int.{to_z-of_z}
-use Rattle.std.proofs.lemmas.List.{length-map}
-use Rattle.std.specs.Int.{w8}
-use Rattle.std.specs.Ordering.{int_eq}
+use Rattle.arrow_growable.proofs.Common.{◌≡◌, ap, of_z, rules, to_z, ◌∙◌, length, to_z-of_z, length-map, w8, int_eq, have_id}
 use Rattle.arrow_memory.proofs.BitLemmas.{bits_of_word}
 use Rattle.arrow_memory.specs.Words.{word_of}
-use Rattle.arrow_growable.specs.Variants.{have_id}
 use Rattle.arrow_growable.proofs.growable.ids.mask_of_id.Goals as goal
 
 pub returns-then-types-le-WORD_BITS-clause-ok : goal.returns-then-types-le-WORD_BITS-clause-ok

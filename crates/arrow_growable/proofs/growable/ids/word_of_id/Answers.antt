@@ -1,5 +1,4 @@
-use Rattle.std.proofs.Common.{arith, ◌+◌, ◌≤◌, length, of_z, to_z}
-use Rattle.std.specs.Int.{w8}
+use Rattle.arrow_growable.proofs.Common.{arith, ◌+◌, ◌≤◌, length, of_z, to_z, w8}
 use Rattle.arrow_growable.proofs.IdLemmas.{block_more, id_more}
 use Rattle.arrow_growable.proofs.growable.ids.word_of_id.Goals as goal
 

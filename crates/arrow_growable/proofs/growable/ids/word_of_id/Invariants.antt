@@ -1,6 +1,5 @@
-use Rattle.std.proofs.Common.{◌≡◌, ◌≤◌, ◌-◌, length, take}
+use Rattle.arrow_growable.proofs.Common.{◌≡◌, ◌≤◌, ◌-◌, length, take, have_id}
 use Rattle.arrow_memory.specs.Words.{word_of}
-use Rattle.arrow_growable.specs.Variants.{have_id}
 use Rattle.arrow_growable.proofs.growable.ids.word_of_id.Given as goal
 
 abbrev pub invariant-loop-row : goal.invariant-loop-row

@@ -1,5 +1,5 @@
-use Rattle.arrow_growable.proofs.Common.{arith, ◌≡◌, Bor, IfOk, length, map, ap, sym, subst, ◌∙◌, length-map, physical_type_of, kind_in, layout_of, null_layout, AreOfOneType, bound_to}
-use Rattle.arrow_growable.proofs.MakeLemmas.{bind_all, bind_next, type_at}
+use Rattle.arrow_growable.proofs.Common.{arith, ◌≡◌, Bor, IfOk, length, map, ap, sym, subst, ◌∙◌, length-map, kind_in, layout_of, null_layout, AreOfOneType, bound_to}
+use Rattle.arrow_growable.proofs.MakeLemmas.{bind_all, bind_next, kind_at}
 use Rattle.arrow_growable.proofs.growable.make.bound_nulls.Goals as goal
 
 pub loop-array-init : goal.loop-array-init
@@ -8,8 +8,7 @@ loop-array-init c =
 
 pub as_null-requires : goal.as_null-requires
 as_null-requires c =
-    let same = type_at (λ (a : Bor _). layout_of a.now) c.args.arrays.now c.array-item.result c.loop-array.array-index c.loop-array-test.true c.array-item.is c.requires.one_type in
-    sym c.data_type.ensures.kind ∙ (ap (λ t. kind_in (physical_type_of t)) same ∙ ap kind_in c.requires.kind)
+    sym c.data_type.ensures.kind ∙ kind_at (λ (a : Bor _). layout_of a.now) c.args.arrays.now c.array-item.result c.loop-array.array-index c.loop-array-test.true c.array-item.is c.requires.one_type (ap kind_in c.requires.kind)
 
 pub loop-array-preserved : goal.loop-array-preserved
 loop-array-preserved c =

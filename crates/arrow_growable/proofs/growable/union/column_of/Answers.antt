@@ -1,5 +1,5 @@
-use Rattle.arrow_growable.proofs.Common.{arith, ◌≡◌, Bor, length, map, ap, sym, subst, ◌∙◌, take_all, All-map, All-more, All-same, layout_of, child_at, Layout, type_of_layout, field_types, union_layout, first_type, variant_type}
-use Rattle.arrow_growable.proofs.MakeLemmas.{bind_all, bind_next, map_twice, type_at}
+use Rattle.arrow_growable.proofs.Common.{arith, ◌≡◌, Bor, length, map, ap, sym, subst, ◌∙◌, take_all, All-map, All-more, All-same, layout_of, child_at, Layout, type_of_layout, field_types, union_layout, first_type, variant_type, map-map}
+use Rattle.arrow_growable.proofs.MakeLemmas.{bind_all, bind_next, type_at}
 use Rattle.arrow_growable.proofs.UnionMakeLemmas.{same_type}
 use Rattle.arrow_growable.proofs.growable.union.column_of.Goals as goal
 
@@ -17,7 +17,7 @@ loop-array-preserved c =
 
 pub returns-clause-ok : goal.returns-clause-ok
 returns-clause-ok c =
-    bind_all (λ (a : Bor _). layout_of a.now) (λ (r : Bor _). child_at c.args.f (union_layout r.now)) c.loop-array.column.items c.args.arrays.now c.loop-array.array-index (omega (arith, c.loop-array-test.false)) c.loop-array.invariant.0 ∙ sym (map_twice (child_at c.args.f) (λ (r : Bor _). union_layout r.now) c.args.arrays.now)
+    bind_all (λ (a : Bor _). layout_of a.now) (λ (r : Bor _). child_at c.args.f (union_layout r.now)) c.loop-array.column.items c.args.arrays.now c.loop-array.array-index (omega (arith, c.loop-array-test.false)) c.loop-array.invariant.0 ∙ sym (map-map (child_at c.args.f) (λ (r : Bor _). union_layout r.now) c.args.arrays.now)
 
 pub returns-clause-types : goal.returns-clause-types
 returns-clause-types c =

@@ -1,5 +1,4 @@
-use Rattle.arrow_growable.proofs.Common.{arith, ◌+◌, ◌++◌, [], ◌∷◌, pos, w32, map, ap, sym, ◌∙◌, range_with_len, to_z_pos, map-range_with_len_more}
-use Rattle.std.proofs.lemmas.List.{append_assoc}
+use Rattle.arrow_growable.proofs.Common.{arith, ◌+◌, ◌++◌, [], ◌∷◌, pos, w32, map, ap, sym, ◌∙◌, range_with_len, to_z_pos, map-range_with_len_more, append_assoc}
 use Rattle.arrow_growable.proofs.growable.variants.append_places.Goals as goal
 
 pub loop-i-preserved : goal.loop-i-preserved

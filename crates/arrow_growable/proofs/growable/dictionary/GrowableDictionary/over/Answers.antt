@@ -1,5 +1,4 @@
-use Rattle.arrow_growable.proofs.Common.{arith, ◌≡◌, ◌∙◌, ◌++◌, Bor, false, get_or, length, map, ap, sym, subst, get_or_default, IsCarried, physical_type_of, mask, type_of, values_in, any_array_rows, layout_of, AreKeys, keyed_layout, type_of_layout, BindsAll, first_type, BindsKeys, grown_key_type, key_slots, key_sources, first_is, IsGrownDictionary}
-use Rattle.std.specs.List.{All}
+use Rattle.arrow_growable.proofs.Common.{arith, ◌≡◌, ◌∙◌, ◌++◌, Bor, false, get_or, length, map, ap, sym, subst, get_or_default, IsCarried, physical_type_of, mask, type_of, values_in, any_array_rows, layout_of, AreKeys, keyed_layout, type_of_layout, BindsAll, first_type, BindsKeys, grown_key_type, key_slots, key_sources, first_is, IsGrownDictionary, All}
 use Rattle.arrow_types.specs.declared.datatypes.physical_type.PhysicalType.TheVariants as physical
 use Rattle.arrow_growable.proofs.MakeLemmas.{type_at}
 use Rattle.arrow_growable.proofs.growable.dictionary.GrowableDictionary.over.Goals as goal
