@@ -1,61 +1,33 @@
 -- Rows that a predicate chooses, by what is stored and validities, a word at a time.
-use Rattle.arrow_choice.proofs.Common.{arith, ◌≡◌, ◌+◌, ◌-◌, ◌*◌, ◌/◌, ◌%◌, ◌^◌, ◌<◌, ◌≤◌, min, ℕ, zero, suc, Bool, true, false, Option, Some, None, List, [], ◌∷◌, ◌++◌, length, map, replicate, take, drop, get_or, slice_index, refl, ap, sym, subst, ◌∙◌, if◌then◌else◌, zero-add, append_assoc, w64, not, ◌==◌, ◌&&◌, ◌||◌, bit_and, bit_or, slice_get, IfOk, Result, Ok, bit_at, bit_not, drop-drop, get_or-map, get_or-replicate, get_or_default, length-map, length-replicate, length-take, same_lists, take_min, get_or-map-range_with_len, bit_at-zero, bit_at_ones, slice_get-get_or, ArrowType, choice, chosen, masked, valid_at, Slot, Null, Boolean, null_slot, take_at_read, length-chosen, AnswersWords, sliced, is_set, low_bits, word_of, bits_of_word, and_each, not_each, or_each, get_or-bits_in, length-bits_in, length-low_bits, Parts, FitsRows, boolean_rows, rows_by, length-masked, row_at, AreOneLength, MarksChosen, chosen_by, valid_chosen}
-use Rattle.std.specs.Prelude.{Err}
-use Rattle.std.proofs.lemmas.List.{length-drop}
+use Rattle.arrow_choice.proofs.Common.{arith, Err, length-drop, ◌≡◌, ◌+◌, ◌-◌, ◌*◌, ◌/◌, ◌%◌, ◌^◌, ◌<◌, min, ℕ, zero, suc, Bool, true, false, Option, Some, List, [], ◌∷◌, ◌++◌, length, map, replicate, take, drop, get_or, slice_index, refl, ap, sym, subst, ◌∙◌, if◌then◌else◌, zero-add, append_assoc, w64, not, ◌==◌, ◌&&◌, ◌||◌, bit_and, bit_or, slice_get, IfOk, Result, Ok, bit_at, bit_not, drop-drop, get_or-map, get_or-replicate, get_or_default, length-map, length-replicate, length-take, same_lists, take_min, get_or-map-range_with_len, bit_at-zero, bit_at_ones, ArrowType, choice, chosen, masked, valid_at, Slot, Null, Boolean, null_slot, take_at_read, length-chosen, AnswersWords, sliced, is_set, low_bits, word_of, bits_of_word, and_each, not_each, or_each, get_or-bits_in, length-bits_in, length-low_bits, Parts, FitsRows, boolean_rows, rows_by, length-masked, row_at, AreOneLength, MarksChosen, chosen_by, valid_chosen, fits_only_counted, is_only_counted, Fits, physical_type_of}
 
 -- ---- members of two lists
 
 pub length-chosen_by : {A : Type 0} (bits : List Bool) (xs ys : List A) → length xs ≡ length bits → length ys ≡ length bits → length (chosen_by bits xs ys) ≡ length bits
 length-chosen_by [] xs ys left right = refl
-length-chosen_by (b ∷ bits) [] ys left right = absurd (omega (arith, left))
-length-chosen_by (b ∷ bits) (x ∷ xs) [] left right = absurd (omega (arith, right))
 length-chosen_by (b ∷ bits) (x ∷ xs) (y ∷ ys) left right =
     ap suc (length-chosen_by bits xs ys (omega (arith, left)) (omega (arith, right)))
+length-chosen_by bits xs ys left right = absurd (omega (arith, left, right))
 
 pub chosen_by-map : {A B : Type 0} (f : A → B) (bits : List Bool) (xs ys : List A) → map f (chosen_by bits xs ys) ≡ chosen_by bits (map f xs) (map f ys)
-chosen_by-map f [] xs ys = refl
-chosen_by-map f (b ∷ bits) [] ys = refl
-chosen_by-map f (b ∷ bits) (x ∷ xs) [] = refl
 chosen_by-map f (true ∷ bits) (x ∷ xs) (y ∷ ys) = ap (λ zs. f x ∷ zs) (chosen_by-map f bits xs ys)
 chosen_by-map f (false ∷ bits) (x ∷ xs) (y ∷ ys) = ap (λ zs. f y ∷ zs) (chosen_by-map f bits xs ys)
+chosen_by-map f bits xs ys = refl
 
 -- one of them
-pub slice_get-chosen_by : {A : Type 0} (bits : List Bool) (xs ys : List A) (i : ℕ) (b : Bool) (x y : A) → slice_get bits i ≡ Some b → slice_get xs i ≡ Some x → slice_get ys i ≡ Some y → slice_get (chosen_by bits xs ys) i ≡ Some (if b then x else y)
-slice_get-chosen_by [] xs ys i b x y bit left right = cc
-slice_get-chosen_by (c ∷ bits) [] ys i b x y bit left right = cc
-slice_get-chosen_by (c ∷ bits) (p ∷ xs) [] i b x y bit left right = cc
-slice_get-chosen_by (c ∷ bits) (p ∷ xs) (q ∷ ys) zero b x y bit left right =
-    let same : c ≡ b = cc in
-    let first : p ≡ x = cc in
-    let second : q ≡ y = cc in
-    λ t. Some (if same t then first t else second t)
-slice_get-chosen_by (c ∷ bits) (p ∷ xs) (q ∷ ys) (suc i) b x y bit left right =
-    slice_get-chosen_by bits xs ys i b x y bit left right
-
 pub get_or-chosen_by : {A : Type 0} (bits : List Bool) (xs ys : List A) (i : ℕ) (d : A) → length xs ≡ length bits → length ys ≡ length bits → i < length bits → get_or (chosen_by bits xs ys) i d ≡ (if get_or bits i false then get_or xs i d else get_or ys i d)
-get_or-chosen_by [] xs ys i d left right within = absurd (omega (arith, within))
-get_or-chosen_by (b ∷ bits) [] ys i d left right within = absurd (omega (arith, left))
-get_or-chosen_by (b ∷ bits) (x ∷ xs) [] i d left right within = absurd (omega (arith, right))
 get_or-chosen_by (b ∷ bits) (x ∷ xs) (y ∷ ys) zero d left right within = refl
 get_or-chosen_by (b ∷ bits) (x ∷ xs) (y ∷ ys) (suc i) d left right within =
     get_or-chosen_by bits xs ys i d (omega (arith, left)) (omega (arith, right)) (omega (arith, within))
+get_or-chosen_by bits xs ys i d left right within = absurd (omega (arith, within, left, right))
 
 -- all of one list
-pub all_of_right : {A : Type 0} (n : ℕ) (xs ys : List A) → length xs ≡ n → length ys ≡ n → chosen_by (replicate n false) xs ys ≡ ys
-all_of_right zero xs [] left right = refl
-all_of_right zero xs (y ∷ ys) left right = absurd (omega (arith, right))
-all_of_right (suc n) [] ys left right = absurd (omega (arith, left))
-all_of_right (suc n) (x ∷ xs) [] left right = absurd (omega (arith, right))
-all_of_right (suc n) (x ∷ xs) (y ∷ ys) left right =
-    ap (λ zs. y ∷ zs) (all_of_right n xs ys (omega (arith, left)) (omega (arith, right)))
-
-pub all_of_left : {A : Type 0} (n : ℕ) (xs ys : List A) → length xs ≡ n → length ys ≡ n → chosen_by (replicate n true) xs ys ≡ xs
-all_of_left zero [] ys left right = refl
-all_of_left zero (x ∷ xs) ys left right = absurd (omega (arith, left))
-all_of_left (suc n) [] ys left right = absurd (omega (arith, left))
-all_of_left (suc n) (x ∷ xs) [] left right = absurd (omega (arith, right))
-all_of_left (suc n) (x ∷ xs) (y ∷ ys) left right =
-    ap (λ zs. x ∷ zs) (all_of_left n xs ys (omega (arith, left)) (omega (arith, right)))
+all_of_side : {A : Type 0} (b : Bool) (n : ℕ) (xs ys : List A) → length xs ≡ n → length ys ≡ n → chosen_by (replicate n b) xs ys ≡ (if b then xs else ys)
+all_of_side true zero [] ys left right = refl
+all_of_side false zero xs [] left right = refl
+all_of_side b (suc n) (x ∷ xs) (y ∷ ys) left right =
+    ap (λ zs. (if b then x else y) ∷ zs) (all_of_side b n xs ys (omega (arith, left)) (omega (arith, right)))
+all_of_side b n xs ys left right = absurd (omega (arith, left, right))
 
 -- lists that are cut in two
 nil_left : {A : Type 0} (bits : List Bool) (ys : List A) → ◌≡◌ {A = List A} (chosen_by bits [] ys) []
@@ -63,17 +35,15 @@ nil_left [] ys = refl
 nil_left (b ∷ bits) ys = refl
 
 nil_right : {A : Type 0} (bits : List Bool) (xs : List A) → ◌≡◌ {A = List A} (chosen_by bits xs []) []
-nil_right [] xs = refl
-nil_right (b ∷ bits) [] = refl
 nil_right (b ∷ bits) (x ∷ xs) = refl
+nil_right bits xs = refl
 
 chosen_by-cut : {A : Type 0} (n : ℕ) (bits : List Bool) (xs ys : List A) → chosen_by bits xs ys ≡ chosen_by (take n bits) (take n xs) (take n ys) ++ chosen_by (drop n bits) (drop n xs) (drop n ys)
-chosen_by-cut zero bits xs ys = refl
-chosen_by-cut (suc n) [] xs ys = refl
 chosen_by-cut (suc n) (b ∷ bits) [] ys = sym (nil_left (drop n bits) (drop (suc n) ys))
 chosen_by-cut (suc n) (b ∷ bits) (x ∷ xs) [] = sym (nil_right (drop n bits) (drop n xs))
 chosen_by-cut (suc n) (b ∷ bits) (x ∷ xs) (y ∷ ys) =
     ap (λ zs. (if b then x else y) ∷ zs) (chosen_by-cut n bits xs ys)
+chosen_by-cut n bits xs ys = refl
 
 pub chosen_by-from : {A : Type 0} (place n : ℕ) (bits : List Bool) (xs ys : List A) → chosen_by (drop place bits) (drop place xs) (drop place ys) ≡ chosen_by (sliced bits place n) (sliced xs place n) (sliced ys place n) ++ chosen_by (drop (place + n) bits) (drop (place + n) xs) (drop (place + n) ys)
 chosen_by-from place n bits xs ys =
@@ -81,25 +51,27 @@ chosen_by-from place n bits xs ys =
 
 -- ---- by the bits of a word
 
-bit_of_low : (word n k : ℕ) (d : Bool) → k < n → get_or (low_bits word n) k d ≡ (bit_at word k == 1)
+pub bit_of_low : (word n k : ℕ) (d : Bool) → k < n → get_or (low_bits word n) k d ≡ (bit_at word k == 1)
 bit_of_low word n k d below =
     get_or-map-range_with_len (λ k. bit_at word k == 1) 0 n k k d below (omega arith)
 
-pub low_bit : (word n k : ℕ) → k < n → slice_get (low_bits word n) k ≡ Some (bit_at word k == 1)
-low_bit word n k below =
-    slice_get-get_or (low_bits word n) k false (omega (arith, below, length-low_bits word n)) ∙ ap Some (bit_of_low word n k false below)
+-- bits that are all alike
+same_low_bits : (word n : ℕ) (b : Bool) → ((k : ℕ) → k < n → (bit_at word k == 1) ≡ b) → low_bits word n ≡ replicate n b
+same_low_bits word n b same =
+    same_lists _ _ (length-low_bits word n ∙ sym (length-replicate n b)) (λ k d within.
+    let below : k < n = omega (arith, within, length-low_bits word n) in
+    bit_of_low word n k d below ∙ (same k below ∙ sym (get_or-replicate n k b d below)))
 
-pub no_low_bit : (n : ℕ) → low_bits 0 n ≡ replicate n false
-no_low_bit n =
-    same_lists _ _ (length-low_bits 0 n ∙ sym (length-replicate n false)) (λ k d within.
-    let below : k < n = omega (arith, within, length-low_bits 0 n) in
-    bit_of_low 0 n k d below ∙ (ap (λ b. b == 1) (bit_at-zero k) ∙ sym (get_or-replicate n k false d below)))
+pub unset_bit : (word k : ℕ) → word ≡ 0 → (bit_at word k == 1) ≡ false
+unset_bit word k is = ap (λ w. bit_at w k == 1) is ∙ ap (λ b. b == 1) (bit_at-zero k)
 
-pub all_low_bits : (n : ℕ) → n ≤ 64 → low_bits 18446744073709551615 n ≡ replicate n true
-all_low_bits n in_word =
-    same_lists _ _ (length-low_bits 18446744073709551615 n ∙ sym (length-replicate n true)) (λ k d within.
-    let below : k < n = omega (arith, within, length-low_bits 18446744073709551615 n) in
-    bit_of_low 18446744073709551615 n k d below ∙ (ap (λ b. b == 1) (bit_at_ones 64 k (omega (arith, below, in_word))) ∙ sym (get_or-replicate n k true d below)))
+pub set_bit : (word k : ℕ) → word ≡ 18446744073709551615 → k < 64 → (bit_at word k == 1) ≡ true
+set_bit word k is below = ap (λ w. bit_at w k == 1) is ∙ ap (λ b. b == 1) (bit_at_ones 64 k below)
+
+-- what a word of them chooses
+pub word_of_side : {A : Type 0} (word : ℕ) (b : Bool) (xs ys : List A) → length xs ≡ length ys → ((k : ℕ) → k < length xs → (bit_at word k == 1) ≡ b) → chosen_by (low_bits word (length xs)) xs ys ≡ (if b then xs else ys)
+word_of_side word b xs ys lengths same =
+    ap (λ bs. chosen_by bs xs ys) (same_low_bits word (length xs) b same) ∙ all_of_side b (length xs) xs ys refl (sym lengths)
 
 -- one more of what a list begins with
 pub begins_more : {A : Type 0} (before done whole : List A) (k : ℕ) (x : A) → done ≡ before ++ take k whole → slice_get whole k ≡ Some x → done ++ x ∷ [] ≡ before ++ take (k + 1) whole
@@ -122,8 +94,7 @@ part_chosen bits xs ys place word count n left right is cut read =
 -- each bit of a word that two words make
 either_bit : (b p q : Bool) → ((b && p) || (not b && q)) ≡ (if b then p else q)
 either_bit true true q = refl
-either_bit true false q = refl
-either_bit false p q = refl
+either_bit b p q = refl
 
 pub either_each : (word left right k : ℕ) → word < 2 ^ 64 → k < 64 → (bit_at (bit_or (bit_and word left) (bit_and (bit_not w64 word) right)) k == 1) ≡ (if bit_at word k == 1 then bit_at left k == 1 else bit_at right k == 1)
 either_each word left right k small below =
@@ -169,18 +140,31 @@ validity_chosen answered p left right len bits is gives all =
 -- ---- rows
 
 pub get_or-chosen : (ps ls rs : List Slot) (t : ArrowType) (i : ℕ) (d : Slot) → length ls ≡ length ps → length rs ≡ length ps → i < length ps → get_or (chosen ps ls rs t) i d ≡ choice t (get_or ps i Null) (get_or ls i Null) (get_or rs i Null)
-get_or-chosen [] ls rs t i d left right within = absurd (omega (arith, within))
-get_or-chosen (p ∷ ps) [] rs t i d left right within = absurd (omega (arith, left))
-get_or-chosen (p ∷ ps) (l ∷ ls) [] t i d left right within = absurd (omega (arith, right))
 get_or-chosen (p ∷ ps) (l ∷ ls) (r ∷ rs) t zero d left right within = refl
 get_or-chosen (p ∷ ps) (l ∷ ls) (r ∷ rs) t (suc i) d left right within =
     get_or-chosen ps ls rs t i d (omega (arith, left)) (omega (arith, right)) (omega (arith, within))
+get_or-chosen ps ls rs t i d left right within = absurd (omega (arith, within, left, right))
+
+-- rows under a validity: it has a bit for each, they are as many, and one of them
+module _ {T : Type 0} (slot : T → Slot) (v : Option (List Bool)) (xs : List T) (fits : FitsRows v (length xs)) where
+  pub slots_fit : FitsRows v (length (map slot xs))
+  slots_fit = subst (FitsRows v) (sym (length-map xs slot)) fits
+
+  pub long_slots : length (masked v (map slot xs)) ≡ length xs
+  long_slots = length-masked v (map slot xs) slots_fit ∙ length-map xs slot
+
+  pub slot_at : (i : ℕ) → i < length xs → get_or (masked v (map slot xs)) i Null ≡ (if valid_at v i then get_or (map slot xs) i Null else Null)
+  slot_at i below = row_at v (map slot xs) i slots_fit (omega (arith, below, length-map xs slot))
+
+pub truth_at : (v : Option (List Bool)) (bits : List Bool) (i : ℕ) → FitsRows v (length bits) → i < length bits → get_or (masked v (map Boolean bits)) i Null ≡ (if valid_at v i then Boolean (get_or bits i false) else Null)
+truth_at v bits i fits below =
+    slot_at Boolean v bits fits i below ∙ ap (λ s. if valid_at v i then s else Null) (get_or-map Boolean bits i false Null below)
 
 -- a row by its bits
-row_chosen : (t : ArrowType) → null_slot t ≡ Null → (valid bit left right : Bool) (x y : Slot) → (if valid && (if bit then left else right) then (if bit then x else y) else Null) ≡ choice t (if valid then Boolean bit else Null) (if left then x else Null) (if right then y else Null)
-row_chosen t none true true left right x y = refl
-row_chosen t none true false left right x y = refl
-row_chosen t none false bit left right x y = sym none
+pub row_by_bits : (t : ArrowType) → null_slot t ≡ Null → (valid bit left right : Bool) (x y : Slot) → (if valid && (if bit then left else right) then (if bit then x else y) else Null) ≡ choice t (if valid then Boolean bit else Null) (if left then x else Null) (if right then y else Null)
+row_by_bits t none true true left right x y = refl
+row_by_bits t none true false left right x y = refl
+row_by_bits t none false bit left right x y = sym none
 
 -- what is stored of two arrays, and their validities, of which values and a validity are chosen
 pub record Chooses {T : Type 0} (p : Parts (List Bool)) (l r : Parts (List T)) (values : List T) (validity : Option (List Bool)) : Type 0 where
@@ -192,34 +176,23 @@ pub record Chooses {T : Type 0} (p : Parts (List Bool)) (l r : Parts (List T)) (
   pub are : values ≡ chosen_by p.values l.values r.values
   pub marks : MarksChosen p l.validity r.validity validity
 
-slots_fit : {T : Type 0} (slot : T → Slot) (v : Option (List Bool)) (xs : List T) → FitsRows v (length xs) → FitsRows v (length (map slot xs))
-slots_fit slot v xs fits = subst (FitsRows v) (sym (length-map xs slot)) fits
-
-long_rows : {T : Type 0} (slot : T → Slot) (q : Parts (List T)) → FitsRows q.validity (length q.values) → length (rows_by (map slot) q) ≡ length q.values
-long_rows slot q fits =
-    length-masked q.validity (map slot q.values) (slots_fit slot q.validity q.values fits) ∙ length-map q.values slot
-
 -- they are so of arrays of one length
 pub chooses : {T : Type 0} (slot : T → Slot) (p : Parts (List Bool)) (l r : Parts (List T)) (values : List T) (validity v w : Option (List Bool)) → AreOneLength (boolean_rows p) (rows_by (map slot) l) (rows_by (map slot) r) → FitsRows p.validity (length p.values) → FitsRows l.validity (length (map slot l.values)) → FitsRows r.validity (length (map slot r.values)) → v ≡ l.validity → w ≡ r.validity → values ≡ chosen_by p.values l.values r.values → MarksChosen p v w validity → Chooses p l r values validity
 chooses slot p l r values validity v w lengths fits left right as_left as_right are marks =
     let fits_left : FitsRows l.validity (length l.values) = subst (FitsRows l.validity) (length-map l.values slot) left in
     let fits_right : FitsRows r.validity (length r.values) = subst (FitsRows r.validity) (length-map r.values slot) right in
-    let truths = long_rows Boolean p fits in
+    let truths = long_slots Boolean p.validity p.values fits in
     record {
       fits = fits;
-      long_left = sym (long_rows slot l fits_left) ∙ (lengths.0 ∙ truths);
-      long_right = sym (long_rows slot r fits_right) ∙ (lengths.1 ∙ truths);
+      long_left = sym (long_slots slot l.validity l.values fits_left) ∙ (lengths.0 ∙ truths);
+      long_right = sym (long_slots slot r.validity r.values fits_right) ∙ (lengths.1 ∙ truths);
       fits_left = fits_left;
       fits_right = fits_right;
       are = are;
       marks = subst (λ u. MarksChosen p l.validity u validity) as_right (subst (λ u. MarksChosen p u w validity) as_left marks);
     }
 
-row_of : {T : Type 0} (slot : T → Slot) (q : Parts (List T)) (i : ℕ) → FitsRows q.validity (length q.values) → i < length q.values → get_or (rows_by (map slot) q) i Null ≡ (if valid_at q.validity i then get_or (map slot q.values) i Null else Null)
-row_of slot q i fits below =
-    row_at q.validity (map slot q.values) i (slots_fit slot q.validity q.values fits) (omega (arith, below, length-map q.values slot))
-
-module _ {T : Type 0} (p : Parts (List Bool)) (l r : Parts (List T)) (values : List T) (validity : Option (List Bool)) (all : Chooses p l r values validity) where
+module _ {T : Type 0} {p : Parts (List Bool)} {l r : Parts (List T)} {values : List T} {validity : Option (List Bool)} (all : Chooses p l r values validity) where
   pub long_values : length values ≡ length p.values
   long_values =
       ap length all.are ∙ length-chosen_by p.values l.values r.values all.long_left all.long_right
@@ -235,22 +208,25 @@ module _ {T : Type 0} (p : Parts (List Bool)) (l r : Parts (List T)) (values : L
       let xs = map slot l.values in
       let ys = map slot r.values in
       let stored : get_or (map slot values) i Null ≡ (if bit then get_or xs i Null else get_or ys i Null) = ap (λ zs. get_or zs i Null) (ap (map slot) all.are ∙ chosen_by-map slot p.values l.values r.values) ∙ get_or-chosen_by p.values xs ys i Null (length-map l.values slot ∙ all.long_left) (length-map r.values slot ∙ all.long_right) below in
-      let here = row_at validity (map slot values) i (slots_fit slot validity values values_fit) (omega (arith, below, length-map values slot, long_values)) in
-      let truth : get_or (boolean_rows p) i Null ≡ (if valid_at p.validity i then Boolean bit else Null) = row_of Boolean p i all.fits below ∙ ap (λ z. if valid_at p.validity i then z else Null) (get_or-map Boolean p.values i false Null below) in
-      let one = row_of slot l i all.fits_left (omega (arith, below, all.long_left)) in
-      let other = row_of slot r i all.fits_right (omega (arith, below, all.long_right)) in
-      here ∙ ((λ h. if all.marks.each i below h then stored h else Null) ∙ (row_chosen t none (valid_at p.validity i) bit (valid_at l.validity i) (valid_at r.validity i) (get_or xs i Null) (get_or ys i Null) ∙ (λ h. choice t (sym truth h) (sym one h) (sym other h))))
+      let here = slot_at slot validity values values_fit i (omega (arith, below, long_values)) in
+      let truth = truth_at p.validity p.values i all.fits below in
+      let one = slot_at slot l.validity l.values all.fits_left i (omega (arith, below, all.long_left)) in
+      let other = slot_at slot r.validity r.values all.fits_right i (omega (arith, below, all.long_right)) in
+      here ∙ ((λ h. if all.marks.each i below h then stored h else Null) ∙ (row_by_bits t none (valid_at p.validity i) bit (valid_at l.validity i) (valid_at r.validity i) (get_or xs i Null) (get_or ys i Null) ∙ (λ h. choice t (sym truth h) (sym one h) (sym other h))))
 
   pub rows_chosen : (slot : T → Slot) (t : ArrowType) → null_slot t ≡ Null → masked validity (map slot values) ≡ chosen (boolean_rows p) (rows_by (map slot) l) (rows_by (map slot) r) t
   rows_chosen slot t none =
-      let ps = boolean_rows p in
-      let ls = rows_by (map slot) l in
-      let rs = rows_by (map slot) r in
-      let truths = long_rows Boolean p all.fits in
-      let left = long_rows slot l all.fits_left ∙ all.long_left in
-      let right = long_rows slot r all.fits_right ∙ all.long_right in
-      let long = length-chosen ps ls rs t (truths ∙ sym left) (truths ∙ sym right) in
-      let size = length-masked validity (map slot values) (slots_fit slot validity values values_fit) ∙ (length-map values slot ∙ long_values) in
-      same_lists _ _ (size ∙ (sym truths ∙ sym long)) (λ i d within.
+      let truths = long_slots Boolean p.validity p.values all.fits in
+      let left = long_slots slot l.validity l.values all.fits_left ∙ (all.long_left ∙ sym truths) in
+      let right = long_slots slot r.validity r.values all.fits_right ∙ (all.long_right ∙ sym truths) in
+      let long = length-chosen (boolean_rows p) (rows_by (map slot) l) (rows_by (map slot) r) t (sym left) (sym right) ∙ truths in
+      let size = long_slots slot validity values values_fit ∙ long_values in
+      same_lists _ _ (size ∙ sym long) (λ i d within.
       let below : i < length p.values = omega (arith, within, size) in
-      get_or_default (masked validity (map slot values)) i d Null within ∙ (row_is slot t none i below ∙ sym (get_or-chosen ps ls rs t i d (left ∙ sym truths) (right ∙ sym truths) (omega (arith, below, truths)))))
+      get_or_default (masked validity (map slot values)) i d Null within ∙ (row_is slot t none i below ∙ sym (get_or-chosen (boolean_rows p) (rows_by (map slot) l) (rows_by (map slot) r) t i d left right (omega (arith, below, truths)))))
+
+-- rows that need only be counted fit where they are those that a predicate chooses
+pub counted_fit : (t u : ArrowType) (xs ps ls rs : List Slot) → is_only_counted (physical_type_of t) ≡ true → u ≡ t → AreOneLength ps ls rs → length ps < 2 ^ 64 → xs ≡ chosen ps ls rs t → Fits u xs
+counted_fit t u xs ps ls rs counted same lengths few are =
+    let many = ap length are ∙ length-chosen ps ls rs t (sym lengths.0) (sym lengths.1) in
+    subst (λ s. Fits s xs) (sym same) (fits_only_counted t xs counted (omega (arith, few, many)))

@@ -1,5 +1,5 @@
 -- Rows of bytes or items that come behind others: a row, a run of rows of one side, or those that a word of bits chooses.
-use Rattle.arrow_choice.proofs.Common.{arith, ◌≡◌, ◌+◌, ◌-◌, ◌*◌, ◌<◌, ◌≤◌, min, ℕ, zero, suc, Bool, true, false, Option, Some, None, List, [], ◌∷◌, ◌++◌, length, map, take, replicate, get_or, slice_index, if◌then◌else◌, refl, ap, sym, subst, ◌∙◌, inl, inr, append_assoc, slice_index_or, sum, range_with_len, cases_lt, append-nil, get_or-drop, get_or-replicate, get_or-take, get_or_default, length-replicate, map-append, take_all, length-map-range_with_len, map-range_with_len_more, take-map-range_with_len, sum-map, sum_by-append, sum_by-cons, sum_by-take-le, get_or_from_slice_get, valid_at, IsOffsets, counted_on, last_of, valid_ends, valid_items, valid_length, sliced, at_most_last, offsets_rise, length-sliced, pieces, piece_at, total, valid_values, set_run, AppendsRows, row_chosen, row_under, rows_from, ends_from, concatenated, row_length, concatenated-append, ends_append, last_ends, row_in, counted_ends, counted_sum}
+use Rattle.arrow_choice.proofs.Common.{arith, ◌≡◌, ◌+◌, ◌-◌, ◌*◌, ◌<◌, ◌≤◌, min, ℕ, zero, suc, Bool, true, false, Option, Some, None, List, [], ◌∷◌, ◌++◌, length, map, take, replicate, get_or, slice_index, if◌then◌else◌, refl, ap, sym, subst, ◌∙◌, append_assoc, slice_index_or, sum, range_with_len, append-nil, get_or-drop, get_or-replicate, get_or-take, get_or_default, length-replicate, map-append, take_all, length-map-range_with_len, map-range_with_len_more, take-map-range_with_len, sum-map, sum_by-append, sum_by-cons, sum_by-take-le, get_or_from_slice_get, valid_at, IsOffsets, counted_on, last_of, valid_ends, valid_items, valid_length, sliced, at_most_last, offsets_rise, length-sliced, pieces, piece_at, total, valid_values, set_run, AppendsRows, row_chosen, row_under, rows_from, ends_from, concatenated, row_length, concatenated-append, ends_append, last_ends, row_in, counted_ends, counted_sum, same_lists, take_min, get_or-map-range_with_len, concatenated_length, length-valid_values}
 
 -- ---- rows behind others
 
@@ -50,38 +50,19 @@ module _ {A : Type 0} (f : ℕ → List A) where
   -- which has no more bytes than they all
   pub row_passes : (start count k greatest : ℕ) (ends mid_ends : List ℕ) (bytes mid_bytes row : List A) → 0 < length ends → k < count → row ≡ f (start + k) → AppendsRows (rows_from f start k) ends bytes mid_ends mid_bytes → greatest < last_of mid_ends + length row → greatest < last_of ends + total (rows_from f start count)
   row_passes start count k greatest ends mid_ends bytes mid_bytes row some within is first over =
-      let rest = count - (k + 1) in
-      let all : count ≡ k + 1 + rest = omega (arith, within) in
-      let cut = ap (λ n. total (rows_from f start n)) all ∙ (ap total (rows_cut start (k + 1) rest) ∙ sum_by-append length (rows_from f start (k + 1)) (rows_from f (start + (k + 1)) rest)) in
       let more = ap total (map-range_with_len_more f start k (start + k) refl) ∙ sum_by-append length (rows_from f start k) (f (start + k) ∷ []) in
-      omega (arith, over, last_appended (rows_from f start k) ends mid_ends bytes mid_bytes some first, cut, more, ap length is, sum_by-cons length (f (start + k)) [])
+      let first_rows = ap total (take-map-range_with_len f start count (k + 1) (omega (arith, within))) in
+      omega (arith, over, last_appended (rows_from f start k) ends mid_ends bytes mid_bytes some first, more, ap length is, sum_by-cons length (f (start + k)) [], first_rows, sum_by-take-le length (rows_from f start count) (k + 1))
 
   -- a word of rows more, of all from the first on
-  module _ (n j count : ℕ) (within : 64 * j < n) (is : count ≡ min 64 (n - 64 * j)) where
-    take_word : take (64 * (j + 1)) (rows_from f 0 n) ≡ take (64 * j) (rows_from f 0 n) ++ rows_from f (64 * j) count
-    take_word =
-        let whole = rows_from f 0 n in
-        let end = 64 * j + count in
-        let to_end : take (64 * (j + 1)) whole ≡ rows_from f 0 end = elim (cases_lt n (64 * (j + 1))) as (λ _. take (64 * (j + 1)) whole ≡ rows_from f 0 end) [
-          | inl below ↦
-              let at : n ≡ end = omega (arith, is, within, below) in
-              take_all (64 * (j + 1)) whole (omega (arith, below, length-map-range_with_len f 0 n)) ∙ ap (rows_from f 0) at
-          | inr above ↦
-              let at : 64 * (j + 1) ≡ end = omega (arith, is, above) in
-              take-map-range_with_len f 0 n (64 * (j + 1)) (omega (arith, above)) ∙ ap (rows_from f 0) at
-        ] in
-        let place : 0 + 64 * j ≡ 64 * j = omega arith in
-        let first = sym (take-map-range_with_len f 0 n (64 * j) (omega (arith, within))) in
-        to_end ∙ (rows_cut 0 (64 * j) count ∙ (λ t. first t ++ rows_from f (place t) count))
-
-    pub word_appended : (mid_ends new_ends : List ℕ) (mid_bytes new_bytes : List A) → AppendsRows (take (64 * j) (rows_from f 0 n)) (0 ∷ []) [] mid_ends mid_bytes → AppendsRows (rows_from f (64 * j) count) mid_ends mid_bytes new_ends new_bytes → AppendsRows (take (64 * (j + 1)) (rows_from f 0 n)) (0 ∷ []) [] new_ends new_bytes
-    word_appended mid_ends new_ends mid_bytes new_bytes first second =
-        subst (λ rows. AppendsRows rows (0 ∷ []) [] new_ends new_bytes) (sym take_word) (both_appended (take (64 * j) (rows_from f 0 n)) (rows_from f (64 * j) count) (0 ∷ []) mid_ends new_ends [] mid_bytes new_bytes (omega arith) first second)
-
-    pub word_passes : (greatest : ℕ) (mid_ends : List ℕ) (mid_bytes : List A) → AppendsRows (take (64 * j) (rows_from f 0 n)) (0 ∷ []) [] mid_ends mid_bytes → greatest < last_of mid_ends + total (rows_from f (64 * j) count) → greatest < total (rows_from f 0 n)
-    word_passes greatest mid_ends mid_bytes first over =
-        let last : last_of mid_ends ≡ 0 + total (take (64 * j) (rows_from f 0 n)) = last_appended (take (64 * j) (rows_from f 0 n)) (0 ∷ []) mid_ends [] mid_bytes (omega arith) first in
-        omega (arith, over, last, ap total take_word, sum_by-append length (take (64 * j) (rows_from f 0 n)) (rows_from f (64 * j) count), sum_by-take-le length (rows_from f 0 n) (64 * (j + 1)))
+  take_word : (n j count : ℕ) → 64 * j < n → count ≡ min 64 (n - 64 * j) → take (64 * (j + 1)) (rows_from f 0 n) ≡ take (64 * j) (rows_from f 0 n) ++ rows_from f (64 * j) count
+  take_word n j count within is =
+      let whole = rows_from f 0 n in
+      let end : min (64 * (j + 1)) (length whole) ≡ 64 * j + count = omega (arith, is, within, length-map-range_with_len f 0 n) in
+      let to_end = sym (take_min (64 * (j + 1)) whole) ∙ (ap (λ k. take k whole) end ∙ take-map-range_with_len f 0 n (64 * j + count) (omega (arith, is, within))) in
+      let place : 0 + 64 * j ≡ 64 * j = omega arith in
+      let first = sym (take-map-range_with_len f 0 n (64 * j) (omega (arith, within))) in
+      to_end ∙ (rows_cut 0 (64 * j) count ∙ (λ t. first t ++ rows_from f (place t) count))
 
   -- or a run of them
   pub run_more : (row count : ℕ) (mid_ends new_ends : List ℕ) (mid_items new_items : List A) → AppendsRows (rows_from f 0 row) (0 ∷ []) [] mid_ends mid_items → AppendsRows (rows_from f row count) mid_ends mid_items new_ends new_items → AppendsRows (rows_from f 0 (row + count)) (0 ∷ []) [] new_ends new_items
@@ -90,22 +71,31 @@ module _ {A : Type 0} (f : ℕ → List A) where
       let more = rows_cut 0 row count ∙ ap (λ k. rows_from f 0 row ++ rows_from f k count) place in
       subst (λ rows. AppendsRows rows (0 ∷ []) [] new_ends new_items) (sym more) (both_appended (rows_from f 0 row) (rows_from f row count) (0 ∷ []) mid_ends new_ends [] mid_items new_items (omega arith) first second)
 
+-- the rows of the words before word j, of so many
+pub record WordsUpTo {A : Type 0} (f : ℕ → List A) (n j : ℕ) (ends : List ℕ) (items : List A) : Type 0 where
+  pub rows : AppendsRows (take (64 * j) (rows_from f 0 n)) (0 ∷ []) [] ends items
+
+module _ {A : Type 0} {f : ℕ → List A} {n j : ℕ} {ends : List ℕ} {items : List A} (so_far : WordsUpTo f n j ends items) where
+  module _ (count : ℕ) (within : 64 * j < n) (is : count ≡ min 64 (n - 64 * j)) where
+    -- with those of that word
+    pub word_appended : (new_ends : List ℕ) (new_items : List A) → AppendsRows (rows_from f (64 * j) count) ends items new_ends new_items → WordsUpTo f n (j + 1) new_ends new_items
+    word_appended new_ends new_items more =
+        record { rows = subst (λ rows. AppendsRows rows (0 ∷ []) [] new_ends new_items) (sym (take_word f n j count within is)) (both_appended (take (64 * j) (rows_from f 0 n)) (rows_from f (64 * j) count) (0 ∷ []) ends new_ends [] items new_items (omega arith) so_far.rows more) }
+
+    pub word_passes : (greatest : ℕ) → greatest < last_of ends + total (rows_from f (64 * j) count) → greatest < total (rows_from f 0 n)
+    word_passes greatest over =
+        let last : last_of ends ≡ 0 + total (take (64 * j) (rows_from f 0 n)) = last_appended (take (64 * j) (rows_from f 0 n)) (0 ∷ []) ends [] items (omega arith) so_far.rows in
+        omega (arith, over, last, ap total (take_word f n j count within is), sum_by-append length (take (64 * j) (rows_from f 0 n)) (rows_from f (64 * j) count), sum_by-take-le length (rows_from f 0 n) (64 * (j + 1)))
+
   -- with the last word they are all
-  module _ (n j : ℕ) (whole : n ≤ 64 * j) (ends : List ℕ) (bytes : List A) (are : AppendsRows (take (64 * j) (rows_from f 0 n)) (0 ∷ []) [] ends bytes) where
-    all_appended : AppendsRows (rows_from f 0 n) (0 ∷ []) [] ends bytes
-    all_appended =
-        subst (λ rows. AppendsRows rows (0 ∷ []) [] ends bytes) (take_all (64 * j) (rows_from f 0 n) (omega (arith, whole, length-map-range_with_len f 0 n))) are
+  pub all_appended : n ≤ 64 * j → AppendsRows (rows_from f 0 n) (0 ∷ []) [] ends items
+  all_appended whole =
+      subst (λ rows. AppendsRows rows (0 ∷ []) [] ends items) (take_all (64 * j) (rows_from f 0 n) (omega (arith, whole, length-map-range_with_len f 0 n))) so_far.rows
 
-    pub all_ends : ends ≡ 0 ∷ ends_from 0 (map length (rows_from f 0 n))
-    all_ends = all_appended.ends
-
-    pub all_bytes : bytes ≡ concatenated (rows_from f 0 n)
-    all_bytes = all_appended.items
-
-    pub all_few : (greatest : ℕ) → last_of ends ≤ greatest → total (rows_from f 0 n) ≤ greatest
-    all_few greatest few =
-        let last : last_of ends ≡ 0 + total (rows_from f 0 n) = last_appended (rows_from f 0 n) (0 ∷ []) ends [] bytes (omega arith) all_appended in
-        omega (arith, few, last)
+  pub all_few : n ≤ 64 * j → (greatest : ℕ) → last_of ends ≤ greatest → total (rows_from f 0 n) ≤ greatest
+  all_few whole greatest few =
+      let last : last_of ends ≡ 0 + total (rows_from f 0 n) = last_appended (rows_from f 0 n) (0 ∷ []) ends [] items (omega arith) (all_appended whole) in
+      omega (arith, few, last)
 
 -- ---- rows of a side
 
@@ -115,13 +105,10 @@ row_is v bits ls rs rows i valid is same = λ t. if is t then get_or (same t) i 
 
 -- rows that are the same one by one
 rows_same : {A : Type 0} (f g : ℕ → List A) (a n : ℕ) → ((k : ℕ) → k < n → f (a + k) ≡ g (a + k)) → rows_from f a n ≡ rows_from g a n
-rows_same f g a zero same = refl
-rows_same f g a (suc n) same =
-    let at : a + 0 ≡ a = omega arith in
-    let rest = rows_same f g (a + 1) n (λ k below.
-    let next : a + suc k ≡ a + 1 + k = omega arith in
-    subst (λ i. f i ≡ g i) next (same (suc k) (omega (arith, below)))) in
-    λ i. subst (λ j. f j ≡ g j) at (same 0 (omega arith)) i ∷ rest i
+rows_same f g a n same =
+    same_lists _ _ (length-map-range_with_len f a n ∙ sym (length-map-range_with_len g a n)) (λ k d within.
+    let below : k < n = omega (arith, within, length-map-range_with_len f a n) in
+    get_or-map-range_with_len f a n k (a + k) d below refl ∙ (same k below ∙ sym (get_or-map-range_with_len g a n k (a + k) d below refl)))
 
 -- of one side, where the bits are all the same
 pub one_side : {A : Type 0} (v : Option (List Bool)) (bits : List Bool) (ls rs : List (List A)) (b : Bool) (a n : ℕ) → ((k : ℕ) → k < n → slice_index_or bits (a + k) false ≡ b) → rows_from (row_under v (if b then ls else rs)) a n ≡ rows_from (row_chosen v bits ls rs) a n
@@ -174,15 +161,6 @@ module _ {A : Type 0} (v : Option (List Bool)) (os : List ℕ) (xs : List A) (so
       let rest = bytes_under bits (i + 1) (omega (arith, inside)) (next b bits i agree) in
       λ t. first t ++ rest t
 
-  items_under : (bits : List Bool) (i : ℕ) → i + length bits < length os → Agree bits i → valid_items bits os i ≡ total (rows_from (row_under v rows) i (length bits))
-  items_under [] i inside agree = refl
-  items_under (b ∷ bits) i inside agree =
-      let long = row_long b i (omega (arith, inside)) (here b bits i agree) in
-      let rest = items_under bits (i + 1) (omega (arith, inside)) (next b bits i agree) in
-      let cons = sum_by-cons length (row_under v rows i) (rows_from (row_under v rows) (i + 1) (length bits)) in
-      let all : valid_length b os i + valid_items bits os (i + 1) ≡ total (row_under v rows i ∷ rows_from (row_under v rows) (i + 1) (length bits)) = omega (arith, long, rest, cons) in
-      all
-
 -- those from one on, under their part of a validity
 module _ {A : Type 0} (validity : List Bool) (os : List ℕ) (xs : List A) (sound : IsOffsets os) (within : last_of os ≤ length xs) (start count : ℕ) (part : start + count < length os) (covered : start + count ≤ length validity) where
   abbrev bits : List Bool
@@ -205,7 +183,10 @@ module _ {A : Type 0} (validity : List Bool) (os : List ℕ) (xs : List A) (soun
 
   pub valid_total : valid_items bits os start ≡ total (rows_from (row_under (Some validity) (pieces os xs)) start count)
   valid_total =
-      items_under (Some validity) os xs sound within bits start (omega (arith, part, many)) agree ∙ ap (λ n. total (rows_from (row_under (Some validity) (pieces os xs)) start n)) many
+      let rows = rows_from (row_under (Some validity) (pieces os xs)) start (length bits) in
+      let inside : start + length bits < length os = omega (arith, part, many) in
+      let all = ap length (bytes_under (Some validity) os xs sound within bits start inside agree) in
+      sym (length-valid_values os xs sound within bits start inside) ∙ (all ∙ (sym (concatenated_length rows) ∙ (sum-map length rows ∙ ap (λ n. total (rows_from (row_under (Some validity) (pieces os xs)) start n)) many)))
 
 -- or without one
 module _ {A : Type 0} (os : List ℕ) (xs : List A) (sound : IsOffsets os) (within : last_of os ≤ length xs) where

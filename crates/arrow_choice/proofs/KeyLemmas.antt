@@ -1,8 +1,7 @@
 -- Arrays that hold no dictionary: no row of theirs is crowded, and none are to be joined.
-use Rattle.arrow_choice.proofs.Common.{arith, ◌≡◌, ◌+◌, ℕ, ℤ, inl, inr, suc, List, [], ◌∷◌, ◌++◌, Option, Some, None, map, refl, ap, sym, subst, ◌∙◌, slice_index, All-cons, PhysicalType, ArrowType, ArrowFields, PlainType, plain, list, struct, union, dictionary, extension, field, no_fields, more_fields, from_fields, type_in, mapped, small, large, fixed_size, null, physical_type_of, plain_physical_type, Slot, kind_in, kind_of, layout_of, any_array_type, dictionary_kind, CrowdedAmong, CrowdedRow, CrowdedPart, CrowdedVariant, Unjoined, UnjoinedBy, UnjoinedPart, child_at, child_of, Layout, Layouts, flat, listed, fixed, fielded, sparse, dense, keyed, no_layouts, more_layouts, to_layouts, field_ids, type_of_layout, field_types, item_type, UnionParts, union_layout, union_layout_by, list_shape, plain_shape, shape_in, types_of_layouts, AnyArray, Primitive, Utf8, LargeUtf8, Binary, LargeBinary, FixedSizeBinary, FixedSizeList, Struct, Union, Map, Dictionary, AreOfOneType, first_type, CannotJoin, DoNotFit, CannotChoose, ChosenDoNotFit, HasNoDictionary, HasNoKeys, HaveNoDictionary, HaveNoKeys}
-use Rattle.std.specs.List.{All}
+use Rattle.arrow_choice.proofs.Common.{All, arith, ◌≡◌, ◌+◌, ℕ, ℤ, inl, inr, suc, List, [], ◌∷◌, ◌++◌, Option, Some, None, map, refl, ap, sym, subst, ◌∙◌, slice_index, All-cons, PhysicalType, ArrowType, ArrowFields, PlainType, plain, list, struct, union, dictionary, extension, field, no_fields, small, more_fields, from_fields, type_in, null, physical_type_of, plain_physical_type, Slot, kind_in, kind_of, layout_of, any_array_type, dictionary_kind, CrowdedAmong, CrowdedRow, CrowdedPart, CrowdedVariant, Unjoined, UnjoinedBy, UnjoinedPart, child_at, child_of, Layout, Layouts, flat, listed, fixed, fielded, sparse, dense, keyed, no_layouts, more_layouts, to_layouts, field_ids, type_of_layout, field_types, item_type, UnionParts, union_layout, union_layout_by, list_shape, plain_shape, shape_in, types_of_layouts, AnyArray, FixedSizeList, Struct, Union, Map, Dictionary, AreOfOneType, first_type, CannotJoin, DoNotFit, CannotChoose, ChosenDoNotFit, HasNoDictionary, HasNoKeys, HaveNoDictionary, HaveNoKeys, get_or, length, ◌<◌, get_or-map, length-map, All-map}
 use Rattle.arrow_types.specs.declared.datatypes.physical_type.PhysicalType.TheVariants as physical
-use Rattle.arrow_arrays.specs.declared.array.any.AnyArray.TheVariants.{Null, Boolean, List as ListOf}
+use Rattle.arrow_arrays.specs.declared.array.any.AnyArray.TheVariants.{List as ListOf}
 
 mutual
   uncrowded : (before : List Layout) (l : Layout) (i : ℕ) → HasNoKeys l → CrowdedRow before l i → ⊥
@@ -82,13 +81,9 @@ plain_is_none _ = tt
 is_none : (t : ArrowType) → HasNoDictionary t → NoDictionary (physical_type_of t)
 is_none (plain p) none = plain_is_none p
 is_none (list small f) none = tt
-is_none (list large f) none = tt
-is_none (list (fixed_size s) f) none = tt
-is_none (list (mapped sorted) f) none = tt
-is_none (struct fs) none = tt
-is_none (union mode ids fs) none = tt
 is_none (dictionary keys ordered t) none = none
 is_none (extension name metadata t) none = is_none t none
+is_none t none = tt
 
 other_kind : (p : PhysicalType) → NoDictionary p → kind_in p ≡ dictionary_kind → ⊥
 other_kind (physical.Dictionary keys) none is = none
@@ -96,14 +91,6 @@ other_kind _ none is = cc
 
 -- an array without children, as each is but for lists of any form, maps, structs, unions and dictionaries
 pub flat_has_none : (array : AnyArray) → HasNoDictionary (any_array_type array) → kind_in (physical_type_of (any_array_type array)) ≡ kind_of array → ((p : _) → array ≡ ListOf p → ⊥) → ((p : _) → array ≡ FixedSizeList p → ⊥) → ((p : _) → array ≡ Map p → ⊥) → ((p : _) → array ≡ Struct p → ⊥) → ((p : _) → array ≡ Union p → ⊥) → HasNoKeys (layout_of array)
-flat_has_none (Null p) none kind no_list no_fixed no_map no_struct no_union = tt
-flat_has_none (Boolean p) none kind no_list no_fixed no_map no_struct no_union = tt
-flat_has_none (Primitive p) none kind no_list no_fixed no_map no_struct no_union = tt
-flat_has_none (Utf8 p) none kind no_list no_fixed no_map no_struct no_union = tt
-flat_has_none (LargeUtf8 p) none kind no_list no_fixed no_map no_struct no_union = tt
-flat_has_none (Binary p) none kind no_list no_fixed no_map no_struct no_union = tt
-flat_has_none (LargeBinary p) none kind no_list no_fixed no_map no_struct no_union = tt
-flat_has_none (FixedSizeBinary p) none kind no_list no_fixed no_map no_struct no_union = tt
 flat_has_none (ListOf p) none kind no_list no_fixed no_map no_struct no_union = absurd (no_list p refl)
 flat_has_none (FixedSizeList p) none kind no_list no_fixed no_map no_struct no_union = absurd (no_fixed p refl)
 flat_has_none (Struct p) none kind no_list no_fixed no_map no_struct no_union = absurd (no_struct p refl)
@@ -111,15 +98,14 @@ flat_has_none (Union p) none kind no_list no_fixed no_map no_struct no_union = a
 flat_has_none (Map p) none kind no_list no_fixed no_map no_struct no_union = absurd (no_map p refl)
 flat_has_none (Dictionary p) none kind no_list no_fixed no_map no_struct no_union =
     absurd (other_kind (physical_type_of (any_array_type (Dictionary p))) (is_none (any_array_type (Dictionary p)) none) kind)
+flat_has_none array none kind no_list no_fixed no_map no_struct no_union = tt
 
 -- the items of a list whose type holds none hold none
 pub items_have_none : (t : ArrowType) → HasNoDictionary t → shape_in t ≡ list_shape → HasNoDictionary (item_type t)
 items_have_none (plain p) none shape = cc (plain_shape p)
 items_have_none (list form (field name t nullable)) none shape = none
-items_have_none (struct fs) none shape = cc
-items_have_none (union mode ids fs) none shape = cc
-items_have_none (dictionary keys ordered t) none shape = cc
 items_have_none (extension name metadata t) none shape = items_have_none t none shape
+items_have_none t none shape = cc
 
 each_has_none : (fs : ArrowFields) → HaveNoDictionary fs → All HasNoDictionary (map type_in (from_fields fs))
 each_has_none no_fields none = λ k d within. absurd (omega (arith, within))
@@ -128,23 +114,17 @@ each_has_none (more_fields (field name t nullable) fs) none =
 
 -- and so do the fields of a struct or a union
 pub fields_have_none : (t : ArrowType) → HasNoDictionary t → All HasNoDictionary (field_types t)
-fields_have_none (plain p) none = λ k d within. absurd (omega (arith, within))
-fields_have_none (list form f) none = λ k d within. absurd (omega (arith, within))
 fields_have_none (struct fs) none = each_has_none fs none
 fields_have_none (union mode ids fs) none = each_has_none fs none
-fields_have_none (dictionary keys ordered t) none = λ k d within. absurd (omega (arith, within))
 fields_have_none (extension name metadata t) none = fields_have_none t none
-
-children_by : (arrays : List AnyArray) → All HasNoDictionary (map any_array_type arrays) → All (λ child. HasNoDictionary (any_array_type child) → HasNoKeys (layout_of child)) arrays → All HasNoKeys (map layout_of arrays)
-children_by [] none each = λ k d within. absurd (omega (arith, within))
-children_by (x ∷ arrays) none each =
-    All-cons HasNoKeys (layout_of x) (map layout_of arrays) (each 0 x (omega arith) (none 0 (plain null) (omega arith))) (children_by arrays (λ k d within. none (suc k) d (omega (arith, within))) (λ k d within. each (suc k) d (omega (arith, within))))
+fields_have_none t none = λ k d within. absurd (omega (arith, within))
 
 -- children of such fields, each of which holds none if its type does
 pub children_have_none : (t : ArrowType) (arrays : List AnyArray) (children : List Layout) → HasNoDictionary t → map layout_of arrays ≡ children → map type_of_layout children ≡ field_types t → All (λ child. HasNoDictionary (any_array_type child) → HasNoKeys (layout_of child)) arrays → HaveNoKeys (to_layouts children)
 children_have_none t arrays children none same fields each =
     let types : map any_array_type arrays ≡ field_types t = sym (types_of_layouts arrays) ∙ (ap (map type_of_layout) same ∙ fields) in
-    all_have_none children (subst (All HasNoKeys) same (children_by arrays (subst (All HasNoDictionary) (sym types) (fields_have_none t none)) each))
+    let each_none = λ (k : ℕ) (d : AnyArray) (within : k < length arrays). subst HasNoDictionary (ap (λ ts. get_or ts k (any_array_type d)) (sym types) ∙ get_or-map any_array_type arrays k d (any_array_type d) within) (fields_have_none t none k (any_array_type d) (omega (arith, within, ap length types, length-map arrays any_array_type))) in
+    all_have_none children (subst (All HasNoKeys) same (All-map HasNoKeys layout_of arrays (λ k d within. each k d within (each_none k d within))))
 
 union_by : (t : ArrowType) (types : List ℤ) (child_rows : Option (List ℕ)) (start : ℕ) (children : List Layout) → HaveNoKeys (to_layouts children) → HasNoKeys (union_layout_by t types child_rows start children)
 union_by t types None start children none = none
@@ -155,10 +135,10 @@ pub union_has_none : (p : UnionParts) → HaveNoKeys (to_layouts p.children) →
 union_has_none p none = union_by p.arrow_type p.types p.child_rows p.start p.children none
 
 all_of_type : {A : Type 0} (f : A → AnyArray) (t : ArrowType) (arrays : List A) → HasNoDictionary t → All (λ x. HasNoDictionary (any_array_type (f x)) → HasNoKeys (layout_of (f x))) arrays → All (λ l. type_of_layout l ≡ t) (map (λ x. layout_of (f x)) arrays) → All HasNoKeys (map (λ x. layout_of (f x)) arrays)
-all_of_type f t [] none each types = λ k d within. absurd (omega (arith, within))
-all_of_type f t (x ∷ arrays) none each types =
-    let here = subst HasNoDictionary (sym (types 0 (layout_of (f x)) (omega arith))) none in
-    All-cons HasNoKeys (layout_of (f x)) (map (λ y. layout_of (f y)) arrays) (each 0 x (omega arith) here) (all_of_type f t arrays none (λ k d within. each (suc k) d (omega (arith, within))) (λ k d within. types (suc k) d (omega (arith, within))))
+all_of_type f t arrays none each types =
+    All-map HasNoKeys (λ x. layout_of (f x)) arrays (λ k d within.
+    let here = types k (layout_of (f d)) (omega (arith, within, length-map arrays (λ x. layout_of (f x)))) in
+    each k d within (subst HasNoDictionary (sym here ∙ ap type_of_layout (get_or-map (λ x. layout_of (f x)) arrays k d (layout_of (f d)) within)) none))
 
 -- arrays of one type that hold none, if their type does, can't stand one behind the other only where the rows do not fit
 pub rows_alone : {A : Type 0} (f : A → AnyArray) (arrays : List A) → All (λ x. HasNoDictionary (any_array_type (f x)) → HasNoKeys (layout_of (f x))) arrays → AreOfOneType (map (λ x. layout_of (f x)) arrays) → CannotJoin (map (λ x. layout_of (f x)) arrays) → HasNoDictionary (first_type (map (λ x. layout_of (f x)) arrays)) → DoNotFit (map (λ x. layout_of (f x)) arrays)

@@ -1,6 +1,6 @@
 -- Ranges of rows, each with a side: no list of them has fewer members than there are rows that do not come right behind the row
 -- before them on its side, and a walk that ends a range where the side turns has as many.
-use Rattle.arrow_choice.proofs.Common.{arith, ◌≡◌, ◌+◌, ◌<◌, ◌≤◌, ℕ, zero, suc, Bool, true, false, Option, Some, None, List, [], ◌∷◌, ◌++◌, length, map, replicate, if◌then◌else◌, refl, ap, sym, subst, ◌∙◌, append_assoc, ◌==◌, ◌&&◌, slice_get, nat_tests, append-nil, length-append, length-map, map-append, IsShortest, IsShortestOfSides, named_sides, true_rows}
+use Rattle.arrow_choice.proofs.Common.{arith, ◌≡◌, ◌+◌, ◌<◌, ◌≤◌, ℕ, zero, suc, Bool, true, false, Option, Some, None, List, [], ◌∷◌, ◌++◌, length, map, replicate, if◌then◌else◌, refl, ap, sym, subst, ◌∙◌, append_assoc, ◌==◌, ◌&&◌, slice_get, nat_tests, append-nil, length-append, length-map, map-append, IsShortest, IsShortestOfSides, named_sides, true_rows, map-id, map-map}
 use Rattle.arrow_types.specs.Ranges.{named, rows_from}
 
 -- ---- rows that have a label: a kept row 0 and a dropped one none, or a row of a predicate its side
@@ -152,12 +152,8 @@ true_on_side i (false ∷ mask) = true_on_side (suc i) mask
 -- rows of side 0 and rows without one are told by each other
 same_rows : (xs ys : List ℕ) → ◌≡◌ {A = List (ℕ × ℕ)} (map (λ row. (0, row)) xs) (map (λ row. (0, row)) ys) → xs ≡ ys
 same_rows xs ys same =
-    let back : (zs : List ℕ) → map (λ (q : ℕ × ℕ). q.1) (map (λ row. (0, row)) zs) ≡ zs = row_back in
+    let back = λ (zs : List ℕ). map-map (λ (q : ℕ × ℕ). q.1) (λ row. (0, row)) zs ∙ map-id zs in
     sym (back xs) ∙ (ap (map (λ (q : ℕ × ℕ). q.1)) same ∙ back ys)
-  where
-    row_back : (zs : List ℕ) → map (λ (q : ℕ × ℕ). q.1) (map (λ row. (0, row)) zs) ≡ zs
-    row_back [] = refl
-    row_back (z ∷ zs) = ap (λ rest. z ∷ rest) (row_back zs)
 
 pub plain_named : (rs : List (ℕ × ℕ)) (mask : List Bool) → named_sides (map on_side rs) ≡ labelled 0 (map kept_label mask) → named rs ≡ true_rows 0 mask
 plain_named rs mask same =

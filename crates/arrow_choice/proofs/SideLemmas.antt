@@ -1,30 +1,22 @@
 -- Rows of a predicate by words of 64, and in runs.
-use Rattle.arrow_choice.proofs.Common.{arith, ◌≡◌, ◌+◌, ◌-◌, ◌*◌, ◌/◌, ◌%◌, ◌^◌, ◌<◌, ◌≤◌, ℕ, zero, suc, Bool, true, false, Option, Some, None, List, [], ◌∷◌, ◌++◌, length, map, replicate, drop, get_or, refl, ap, sym, subst, inl, inr, ◌∙◌, w64, not, if◌then◌else◌, ◌==◌, ◌&&◌, bit_and, slice_get, IfSome, bit_at, bit_not, cases_lt, not-false, not-true, drop-drop, ext_get_or, get_or-drop, get_or-map, get_or-replicate, get_or-take, length-map, length-replicate, length-take, take-append-drop, and_le_l, slice_get_within, get_or_from_slice_get, IsShortestOfSides, named_sides, masked, valid_at, Slot, Null, Boolean, sliced, IsLowRun, bit_at-shr, and_each, and_not_each, not_each, FitsRows, length-masked, row_at, truth_slot, side_of, sides_from, AreRowsOf, IsRunIn, IsRunTo, TakesRun, is_truth, truth_by}
-use Rattle.std.proofs.lemmas.List.{length-drop}
+use Rattle.arrow_choice.proofs.Common.{length-drop, arith, ◌≡◌, ◌+◌, ◌-◌, ◌*◌, ◌/◌, ◌%◌, ◌^◌, ◌<◌, ◌≤◌, ℕ, zero, suc, Bool, true, false, Option, Some, None, List, [], ◌∷◌, ◌++◌, length, map, replicate, drop, get_or, refl, ap, sym, subst, inl, inr, ◌∙◌, w64, not, if◌then◌else◌, ◌==◌, ◌&&◌, bit_and, slice_get, IfSome, bit_at, bit_not, cases_lt, not-false, not-true, drop-drop, ext_get_or, get_or-drop, get_or-map, get_or-replicate, get_or-take, length-map, length-replicate, length-take, take-append-drop, and_le_l, slice_get_within, get_or_from_slice_get, IsShortestOfSides, named_sides, masked, valid_at, Slot, Null, Boolean, sliced, IsLowRun, bit_at-shr, and_each, and_not_each, not_each, FitsRows, truth_slot, side_of, sides_from, AreRowsOf, IsRunIn, IsRunTo, TakesRun, is_truth, truth_by, bit_within}
+use Rattle.arrow_choice.proofs.ChosenLemmas.{long_slots, truth_at}
 use Rattle.arrow_choice.proofs.RangeLemmas.{NamesUpTo, all_named, all_shortest, labelled, names_run}
 
 -- ---- a row by two bits
 
 truth_is : (truth : Option Bool) (valid value : Bool) → is_truth truth valid value ≡ true → truth_by valid value ≡ truth_slot truth
-truth_is None true value is = cc
 truth_is None false value is = refl
 truth_is (Some true) true true is = refl
-truth_is (Some true) true false is = cc
-truth_is (Some true) false value is = cc
-truth_is (Some false) true true is = cc
 truth_is (Some false) true false is = refl
-truth_is (Some false) false value is = cc
+truth_is truth valid value is = cc
 
 truth_is_not : (truth : Option Bool) (valid value : Bool) → is_truth truth valid value ≡ false → side_of (truth_by valid value) ≡ side_of (truth_slot truth) → ⊥
 truth_is_not None true true other same = omega (arith, same)
-truth_is_not None true false other same = omega (arith, same)
 truth_is_not None false value other same = cc
 truth_is_not (Some true) true true other same = cc
-truth_is_not (Some true) true false other same = omega (arith, same)
-truth_is_not (Some true) false value other same = omega (arith, same)
-truth_is_not (Some false) true true other same = omega (arith, same)
 truth_is_not (Some false) true false other same = cc
-truth_is_not (Some false) false value other same = omega (arith, same)
+truth_is_not truth valid value other same = omega (arith, same)
 
 -- the rows that are not true, not false, and not null
 pub others_true : (valid values k : ℕ) → valid < 2 ^ 64 → k < 64 → (bit_at (bit_not w64 (bit_and valid values)) k == 1) ≡ not ((bit_at valid k == 1) && (bit_at values k == 1))
@@ -65,23 +57,13 @@ pub only_null : (v b : Bool) → (if v then Boolean b else Null) ≡ Null → v 
 only_null true b is = absurd (cc)
 only_null false b is = refl
 
--- a bit of a validity that has one for each row
-pub valid_within : (v : Option (List Bool)) (n i : ℕ) → FitsRows v n → i < n → IfSome v (λ bits. i < length bits)
-valid_within None n i fits below = tt
-valid_within (Some bits) n i fits below = omega (arith, fits, below)
-
 pub rows_of_words : (v : Option (List Bool)) (bits : List Bool) (j valid values : ℕ) → FitsRows v (length bits) → ((k : ℕ) → k < 64 → IfSome v (λ bits. 64 * j + k < length bits) → (bit_at valid k == 1) ≡ valid_at v (64 * j + k)) → ((k : ℕ) → k < 64 → (bit_at values k == 1) ≡ get_or bits (64 * j + k) false) → AreRowsOf (masked v (map Boolean bits)) j valid values
-rows_of_words v bits j valid values fits marks reads =
-    let long = length-map bits Boolean in
-    let fits_slots : FitsRows v (length (map Boolean bits)) = subst (FitsRows v) (sym long) fits in
-    let all = length-masked v (map Boolean bits) fits_slots in
-    record {
-      each = λ k below within.
-          let i = 64 * j + k in
-          let stored : i < length bits = omega (arith, within, all, long) in
-          let value : get_or (map Boolean bits) i Null ≡ Boolean (get_or bits i false) = get_or-map Boolean bits i false Null stored in
-          row_at v (map Boolean bits) i fits_slots (omega (arith, stored, long)) ∙ (λ t. if sym (marks k below (valid_within v (length bits) i fits stored)) t then (value ∙ ap Boolean (sym (reads k below))) t else Null);
-    }
+rows_of_words v bits j valid values fits marks reads = record {
+  each = λ k below within.
+      let i = 64 * j + k in
+      let stored : i < length bits = omega (arith, within, long_slots Boolean v bits fits) in
+      truth_at v bits i fits stored ∙ (λ t. if sym (marks k below (bit_within v (length bits) i fits stored)) t then Boolean (sym (reads k below) t) else Null);
+}
 
 -- ---- runs of rows
 
@@ -89,28 +71,30 @@ rows_of_words v bits j valid values fits marks reads =
 abbrev pub AreTruths : List Slot → Option Bool → ℕ → ℕ → Type 0
 AreTruths ps truth start end = (i : ℕ) → start ≤ i → i < end → get_or ps i Null ≡ truth_slot truth
 
--- as many more as the words go on with
-pub truths_more : (ps : List Slot) (truth : Option Bool) (start end place valid values n count : ℕ) → start ≤ end → place ≡ end % 64 → AreTruths ps truth start end → AreRowsOf ps (end / 64) valid values → IsRunIn valid values truth place n → count ≤ n → end + count ≤ length ps → AreTruths ps truth start (end + count)
-truths_more ps truth start end place valid values n count order is so_far rows run fewer within i from below =
-    elim (cases_lt i end) as (λ _. get_or ps i Null ≡ truth_slot truth) [
-      | inl before ↦ so_far i from before
-      | inr after ↦
-          let k = place + (i - end) in
-          let at : 64 * (end / 64) + k ≡ i = omega (arith, is, after) in
-          let inside : k < place + n = omega (arith, after, below, fewer) in
-          ap (λ q. get_or ps q Null) (sym at) ∙ (rows.each k (omega (arith, inside, run.within)) (omega (arith, at, below, within)) ∙ run.alike k (omega arith) inside)
-    ]
+module _ {ps : List Slot} {truth : Option Bool} {place valid values n : ℕ} (end : ℕ) (is : place ≡ end % 64) (rows : AreRowsOf ps (end / 64) valid values) (run : IsRunIn valid values truth place n) (count : ℕ) (within : end + count ≤ length ps) where
+  -- as many more as the words go on with
+  pub truths_more : (start : ℕ) → start ≤ end → AreTruths ps truth start end → count ≤ n → AreTruths ps truth start (end + count)
+  truths_more start order so_far fewer i from below =
+      elim (cases_lt i end) as (λ _. get_or ps i Null ≡ truth_slot truth) [
+        | inl before ↦ so_far i from before
+        | inr after ↦
+            let k = place + (i - end) in
+            let at : 64 * (end / 64) + k ≡ i = omega (arith, is, after) in
+            let inside : k < place + n = omega (arith, after, below, fewer) in
+            ap (λ q. get_or ps q Null) (sym at) ∙ (rows.each k (omega (arith, inside, run.within)) (omega (arith, at, below, within)) ∙ run.alike k (omega arith) inside)
+      ]
 
--- the row behind them
-pub truths_end : (ps : List Slot) (truth : Option Bool) (end place valid values n : ℕ) → place ≡ end % 64 → AreRowsOf ps (end / 64) valid values → IsRunIn valid values truth place n → place + n < 64 → end + n < length ps → side_of (get_or ps (end + n) Null) ≡ side_of (truth_slot truth) → ⊥
-truths_end ps truth end place valid values n is rows run short within same =
-    let at : 64 * (end / 64) + (place + n) ≡ end + n = omega (arith, is) in
-    let row : get_or ps (end + n) Null ≡ truth_by (bit_at valid (place + n) == 1) (bit_at values (place + n) == 1) = ap (λ q. get_or ps q Null) (sym at) ∙ rows.each (place + n) short (omega (arith, at, within)) in
-    run.ends short (ap side_of (sym row) ∙ same)
+  -- the row behind them
+  pub truths_end : n ≡ count → place + count < 64 → end + count < length ps → side_of (get_or ps (end + count) Null) ≡ side_of (truth_slot truth) → ⊥
+  truths_end all short more same =
+      let at : 64 * (end / 64) + (place + n) ≡ end + count = omega (arith, is, all) in
+      let in_word : place + n < 64 = omega (arith, all, short) in
+      let row : get_or ps (end + count) Null ≡ truth_by (bit_at valid (place + n) == 1) (bit_at values (place + n) == 1) = ap (λ q. get_or ps q Null) (sym at) ∙ rows.each (place + n) in_word (omega (arith, at, more)) in
+      run.ends in_word (ap side_of (sym row) ∙ same)
 
 -- the first row is in the run
-pub run_to : (ps : List Slot) (truth : Option Bool) (start end : ℕ) → start ≤ end → end ≤ length ps → start < length ps → get_or ps start Null ≡ truth_slot truth → AreTruths ps truth start end → (end < length ps → side_of (get_or ps end Null) ≡ side_of (truth_slot truth) → ⊥) → IsRunTo ps truth start end
-run_to ps truth start end order within inside first alike ends = record {
+pub run_to : {ps : List Slot} {truth : Option Bool} {start end : ℕ} → start ≤ end → end ≤ length ps → start < length ps → get_or ps start Null ≡ truth_slot truth → AreTruths ps truth start end → (end < length ps → side_of (get_or ps end Null) ≡ side_of (truth_slot truth) → ⊥) → IsRunTo ps truth start end
+run_to {ps} {truth} {start} {end} order within inside first alike ends = record {
   some = elim (cases_lt start end) as (λ _. start < end) [
     | inl before ↦ before
     | inr after ↦

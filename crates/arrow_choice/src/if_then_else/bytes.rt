@@ -181,6 +181,7 @@ fn append_run<O: Offset>(
 }
 
 // The same where no row is null: one copy.
+#[tactic(auto, using(crate::proofs::ChosenRuns::run_total, crate::proofs::Common::passed_on))]
 fn append_all<O: Offset>(
     offsets: &mut Offsets<O>,
     bytes: &mut Vec<u8>,
@@ -205,6 +206,7 @@ fn append_all<O: Offset>(
 }
 
 // The same under a validity: a copy for each run of valid rows.
+#[tactic(auto, using(crate::proofs::ChosenRuns::valid_total, crate::proofs::Common::passed_on))]
 fn append_valid<O: Offset>(
     offsets: &mut Offsets<O>,
     bytes: &mut Vec<u8>,

@@ -135,6 +135,7 @@ impl Word {
 }
 
 // The rows that are not so, of 64 that are valid where a bit of the one word is set, and have the values of the other.
+#[tactic(auto, using(crate::proofs::SideLemmas::others_true, crate::proofs::SideLemmas::others_false))]
 fn others(truth: Option<bool>, valid: u64, values: u64) -> u64
     ensures { (k : ℕ) → k < 64 → (bit_at result k == 1)
         ≡ not (is_truth truth (bit_at valid k == 1) (bit_at values k == 1)) }

@@ -120,6 +120,7 @@ fn chosen_word(bits: &Bitmap, left: &Bitmap, right: &Bitmap, j: usize) -> u64
 }
 
 // Each bit of the left word where one is set, and of the right one where it is not.
+#[tactic(auto, using(crate::proofs::ChosenLemmas::either_each))]
 fn either_word(word: u64, left: u64, right: u64) -> u64
     ensures { (k : ℕ) → k < 64 → (bit_at result k == 1)
         ≡ (if bit_at word k == 1 then bit_at left k == 1 else bit_at right k == 1) }

@@ -1,5 +1,4 @@
-use Rattle.arrow_choice.proofs.Common.{◌≡◌, ◌+◌, ◌*◌, map, take, Fits, boolean_rows, any_array_rows, any_array_type, layout_of, depth, depth_of_all, to_layouts, struct_layout, chosen_columns}
-use Rattle.std.specs.List.{All}
+use Rattle.arrow_choice.proofs.Common.{All, ◌≡◌, ◌+◌, ◌*◌, map, take, Fits, boolean_rows, any_array_rows, any_array_type, layout_of, depth, depth_of_all, to_layouts, struct_layout, chosen_columns}
 use Rattle.arrow_choice.proofs.if_then_else.+choose.Given as goal
 
 -- each call goes to less deep arrays, or comes nearer to some

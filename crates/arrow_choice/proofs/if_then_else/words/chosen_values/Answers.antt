@@ -1,5 +1,4 @@
-use Rattle.arrow_choice.proofs.Common.{◌≡◌, ◌+◌, ◌-◌, ◌*◌, ◌++◌, ◌∙◌, arith, ap, append_assoc, drop, sym, length-take, sliced, chosen_by}
-use Rattle.std.proofs.lemmas.List.{length-drop}
+use Rattle.arrow_choice.proofs.Common.{length-drop, ◌≡◌, ◌+◌, ◌-◌, ◌*◌, ◌++◌, ◌∙◌, arith, ap, append_assoc, drop, sym, length-take, sliced, chosen_by}
 use Rattle.arrow_choice.proofs.ChosenLemmas.{chosen_by-from, part_chosen}
 use Rattle.arrow_choice.proofs.if_then_else.words.chosen_values.Goals as goal
 
