@@ -1,6 +1,5 @@
 -- Rows by index: what is stored by index, under the validity by index.
-use Rattle.arrow_take.proofs.Common.{arith, ◌≡◌, ◌/◌, ◌^◌, ◌==◌, ℕ, suc, ◌<◌, ℤ, pos, negsuc, Bool, true, false, not, Option, Some, None, List, [], ◌∷◌, ◌++◌, ◌+◌, ◌≤◌, length, map, take, take-add, get_or, nat_eq, bit_and, replicate, if◌then◌else◌, refl, ap, sym, subst, ◌∙◌, append_assoc, IfSome, slice_get, slice_index_or, option_map, unwrap_or, bit_at, All, get_or-replicate, get_or_default, length-map, length-replicate, map-append, take_all, map-map, shr_and_one, get_or_from_slice_get, slice_get-get_or, slice_get-map, slice_get_read, slice_get_within, ArrowType, gather, gathered, mask, masked, valid_at, Slot, Null, Boolean, Number, DayTime, MonthDayNano, Bytes, Text, Items, Dict, Variant, null_slot, slice_get-mask, take_at_read, sliced, FitsRows, IsValue, bit_within, length-masked, row_at, slot_of_row, AreKeys, IsKey, key_in, null_row, number_row, MarksTaken, is_taken_valid, named_bit, picked, valid_index, each_key}
-use Rattle.arrow_types.specs.Slot.{Parts as fields}
+use Rattle.arrow_take.proofs.Common.{arith, ◌≡◌, ◌/◌, ◌^◌, ◌==◌, ℕ, suc, ◌<◌, ℤ, pos, Bool, true, false, Option, Some, None, List, [], ◌∷◌, ◌++◌, ◌+◌, ◌≤◌, length, map, take, take-add, get_or, nat_eq, bit_and, replicate, if◌then◌else◌, refl, ap, sym, subst, ◌∙◌, append_assoc, IfSome, slice_get, slice_index_or, option_map, unwrap_or, bit_at, All, get_or_default, length-map, map-append, take_all, map-map, shr_and_one, slice_get-get_or, slice_get-map, slice_get_read, ArrowType, gather, gathered, mask, masked, valid_at, Slot, Null, Number, null_slot, slice_get-mask, take_at_read, sliced, FitsRows, IsValue, bit_within, length-masked, row_at, slot_of_row, AreKeys, IsKey, key_in, null_row, number_row, MarksTaken, is_taken_valid, named_bit, picked, valid_index, drop, get_or-drop, get_or-map, get_or-take, length-drop, length-take, map_constant, nil_from_length, same_lists, splat_is_map, ◌-◌, length-sliced, word_of, word_more, bits_of_word, low_bits, bit_or, from_bool, ◌%◌, ◌*◌, not, each_key}
 
 -- functions that agree on each member
 pub map-agree : {A B : Type 0} (P : A → Type 0) (f g : A → B) → ((x : A) → P x → f x ≡ g x) → (xs : List A) → All P xs → map f xs ≡ map g xs
@@ -18,16 +17,7 @@ row_by xs t (Some n) = unwrap_or (slice_get xs n) (null_slot t)
 pub by_key : (xs : List Slot) (t : ArrowType) (s : Slot) → gathered xs t s ≡ row_by xs t (key_in s)
 by_key xs t Null = refl
 by_key xs t (Number (pos n)) = refl
-by_key xs t (Number (negsuc n)) = refl
-by_key xs t (Boolean b) = refl
-by_key xs t (DayTime days ms) = refl
-by_key xs t (MonthDayNano months days ns) = refl
-by_key xs t (Bytes bytes) = refl
-by_key xs t (Text bytes) = refl
-by_key xs t (Items slots) = refl
-by_key xs t (fields slots) = refl
-by_key xs t (Dict slot) = refl
-by_key xs t (Variant id slot) = refl
+by_key xs t s = refl
 
 -- what is read by index of rows that are changed one by one
 row_by-map : (h : Slot → Slot) (xs : List Slot) (t u : ArrowType) → h (null_slot t) ≡ null_slot u → (key : Option ℕ) → h (row_by xs t key) ≡ row_by (map h xs) u key
@@ -69,16 +59,12 @@ module _ (xs : List Slot) (t : ArrowType) (f : Slot → Slot) (none : null_slot 
   row_taken (Some bits) fits stores =
       each_key (length xs) _ (sym none) (λ n within. row_under bits fits stores n within (slice_index_or bits n false) refl)
 
-  row_valid : Stores None xs f → (s : Slot) → IsKey (length xs) s → IsValue s → f s ≡ gathered xs t s
-  row_valid stores =
-      each_key (length xs) (λ s. IsValue s → f s ≡ gathered xs t s) (λ value. absurd (cc)) (λ n within value. sym (ap (λ o. unwrap_or o (null_slot t)) (stores n within refl)))
-
   -- under the validity by index these are the rows by index
   pub rows_taken : (v taken : Option (List Bool)) (indices : List Slot) → FitsRows v (length xs) → Stores v xs f → AreKeys (length xs) indices → MarksTaken v indices taken → masked taken (map f indices) ≡ gather (masked v xs) indices t
   rows_taken v (Some bits) indices fits stores keys marks =
       ap (λ bs. mask bs (map f indices)) marks ∙ (mask-map (is_taken_valid v) f indices ∙ map-agree (IsKey (length xs)) _ _ (row_taken v fits stores) indices keys)
   rows_taken None None indices fits stores keys marks =
-      map-agree (λ s. IsKey (length xs) s × IsValue s) f _ (λ s p. row_valid stores s p.0 p.1) indices (λ k d within. (keys k d within, marks.1 k d within))
+      map-agree (λ s. IsKey (length xs) s × IsValue s) f _ (λ s p. ap (λ b. if not b then f s else Null) (sym p.1) ∙ row_taken None fits stores s p.0) indices (λ k d within. (keys k d within, marks.1 k d within))
   rows_taken (Some bits) None indices fits stores keys marks = absurd (cc)
 
 -- the validity by index has a bit for each index
@@ -96,52 +82,34 @@ pub null_is_none : (v : Option (List Bool)) → is_taken_valid v Null ≡ false
 null_is_none None = refl
 null_is_none (Some bits) = refl
 
-valid_rows : (v : Option (List Bool)) (nulls : List Bool) (ys : List Slot) → length nulls ≡ length ys → mask (map (is_taken_valid v) (mask nulls ys)) ys ≡ map (valid_index v) (mask nulls ys)
-valid_rows v [] [] same = refl
-valid_rows v [] (y ∷ ys) same = absurd (omega (arith, same))
-valid_rows v (b ∷ nulls) [] same = absurd (omega (arith, same))
-valid_rows v (true ∷ nulls) (y ∷ ys) same =
-    ap (λ xs. valid_index v y ∷ xs) (valid_rows v nulls ys (omega (arith, same)))
-valid_rows v (false ∷ nulls) (y ∷ ys) same =
-    let none = null_is_none v in
-    let rest = valid_rows v nulls ys (omega (arith, same)) in
-    rw none (ap (λ xs. Null ∷ xs) rest)
+-- what is stored of an index, under the validity by index
+index_stays : (v : Option (List Bool)) (b : Bool) (y : Slot) → (if is_taken_valid v (if b then y else Null) then y else Null) ≡ valid_index v (if b then y else Null)
+index_stays v true y = refl
+index_stays v false y = rw (null_is_none v) refl
 
--- where no index is null, each is itself
-unmasked : (nulls : List Bool) (ys : List Slot) → length nulls ≡ length ys → All IsValue (mask nulls ys) → ys ≡ mask nulls ys
-unmasked [] [] same values = refl
-unmasked [] (y ∷ ys) same values = absurd (omega (arith, same))
-unmasked (b ∷ nulls) [] same values = absurd (omega (arith, same))
-unmasked (true ∷ nulls) (y ∷ ys) same values =
-    ap (λ xs. y ∷ xs) (unmasked nulls ys (omega (arith, same)) (λ k d within. values (suc k) d (omega (arith, within))))
-unmasked (false ∷ nulls) (y ∷ ys) same values =
-    let first : IsValue Null = values 0 Null (omega arith) in
-    absurd (cc)
+value_stays : (b : Bool) (y : Slot) → IsValue (if b then y else Null) → y ≡ valid_index None (if b then y else Null)
+value_stays true y value = rw value refl
+value_stays false y value = absurd (cc)
 
-all_stored : (nulls : Option (List Bool)) (ys : List Slot) → FitsRows nulls (length ys) → All IsValue (masked nulls ys) → ys ≡ masked nulls ys
-all_stored None ys fits values = refl
-all_stored (Some bits) ys fits values = unmasked bits ys fits values
-
-values_stay : (s : Slot) → IsValue s → s ≡ valid_index None s
-values_stay s value = rw value refl
-
-map-stays : (indices : List Slot) → All IsValue indices → indices ≡ map (valid_index None) indices
-map-stays [] values = refl
-map-stays (s ∷ indices) values =
-    let first = values_stay s (values 0 s (omega arith)) in
-    let rest = map-stays indices (λ k d within. values (suc k) d (omega (arith, within))) in
-    λ i. first i ∷ rest i
-
--- what is stored of the indices, under the validity by index
-masked_itself : (v : Option (List Bool)) (ys : List Slot) → mask (map (is_taken_valid v) ys) ys ≡ map (valid_index v) ys
-masked_itself v [] = refl
-masked_itself v (y ∷ ys) = ap (λ xs. valid_index v y ∷ xs) (masked_itself v ys)
+row_stays : (v nulls taken : Option (List Bool)) (ys : List Slot) → FitsRows nulls (length ys) → MarksTaken v (masked nulls ys) taken → (i : ℕ) → i < length ys → (if valid_at taken i then get_or ys i Null else Null) ≡ valid_index v (get_or (masked nulls ys) i Null)
+row_stays v nulls None ys fits marks i within =
+    let row = row_at nulls ys i fits within in
+    let value = marks.1 i Null (omega (arith, within, length-masked nulls ys fits)) in
+    value_stays (valid_at nulls i) (get_or ys i Null) (subst IsValue row value) ∙ (λ j. valid_index (sym marks.0 j) (sym row j))
+row_stays v nulls (Some bits) ys fits marks i within =
+    let row = row_at nulls ys i fits within in
+    let bit = ap (λ bs. get_or bs i true) marks ∙ get_or-map (is_taken_valid v) (masked nulls ys) i Null true (omega (arith, within, length-masked nulls ys fits)) in
+    ap (λ b. if b then get_or ys i Null else Null) (bit ∙ ap (is_taken_valid v) row) ∙ (index_stays v (valid_at nulls i) (get_or ys i Null) ∙ ap (valid_index v) (sym row))
 
 pub indices_valid : (v nulls taken : Option (List Bool)) (ys : List Slot) → FitsRows nulls (length ys) → MarksTaken v (masked nulls ys) taken → masked taken ys ≡ map (valid_index v) (masked nulls ys)
-indices_valid v None (Some bits) ys fits marks = ap (λ bs. mask bs ys) marks ∙ masked_itself v ys
-indices_valid v (Some nulls) (Some bits) ys fits marks = ap (λ bs. mask bs ys) marks ∙ valid_rows v nulls ys fits
-indices_valid v nulls None ys fits marks =
-    all_stored nulls ys fits marks.1 ∙ (map-stays (masked nulls ys) marks.1 ∙ ap (λ w. map (valid_index w) (masked nulls ys)) (sym marks.0))
+indices_valid v nulls taken ys fits marks =
+    let long = length-masked nulls ys fits in
+    let fits_too = subst (FitsRows taken) long (fits_taken v taken (masked nulls ys) marks) in
+    let same = length-masked taken ys fits_too in
+    same_lists _ _ (same ∙ (sym long ∙ sym (length-map (masked nulls ys) (valid_index v)))) (λ i d within.
+    let here : i < length ys = omega (arith, within, same) in
+    let read = get_or-map (valid_index v) (masked nulls ys) i Null d (omega (arith, here, long)) in
+    get_or_default (masked taken ys) i d Null within ∙ (row_at taken ys i fits_too here ∙ (row_stays v nulls taken ys fits marks i here ∙ sym read)))
 
 -- the row of an index that was read
 module _ {I : Type 0} (slot : I → Slot) (number : I → ℤ) (is : (x : I) → slot x ≡ Number (number x)) (v : Option (List Bool)) (keys : List I) (i : ℕ) (fits : FitsRows v (length keys)) (within : i < length keys) where
@@ -181,21 +149,25 @@ gives_more f old done new indices i place count here more so_far =
 pub gives_all : {A : Type 0} (f : Slot → A) (old done : List A) (indices : List Slot) (i : ℕ) → length indices ≤ i → done ≡ old ++ map f (take i indices) → done ≡ old ++ map f indices
 gives_all f old done indices i all so_far = so_far ∙ ap (λ is. old ++ map f is) (take_all i indices all)
 
+-- one of what is read behind the first rows, of what more rows give
+pub read_behind : {A : Type 0} (f : Slot → A) (rows : List Slot) (items : List A) (row n k : ℕ) (d : A) → items ≡ map f (take n rows) → k < length (take (length items - row) (drop row items)) → (row + k < length rows) × (get_or (take (length items - row) (drop row items)) k d ≡ f (get_or rows (row + k) Null))
+read_behind f rows items row n k d are within =
+    let long = length-take (length items - row) (drop row items) in
+    let among : row + k < length (take n rows) = omega (arith, within, long, length-drop row items, ap length are, length-map (take n rows) f) in
+    let first = get_or-take (length items - row) (drop row items) k d (omega (arith, within, long)) ∙ get_or-drop row items k d in
+    let next = get_or-map f (take n rows) (row + k) Null d among ∙ ap f (get_or-take n rows (row + k) Null (omega (arith, among, length-take n rows))) in
+    (omega (arith, among, length-take n rows), first ∙ (ap (λ xs. get_or xs (row + k) d) are ∙ next))
+
 pub nil_of : {A : Type 0} (xs : List A) → length xs ≡ 0 → xs ≡ []
-nil_of [] none = refl
-nil_of (x ∷ xs) none = absurd (omega (arith, none))
+nil_of = nil_from_length
 
 -- what nulls give where there is nothing to name
 pub picked_none : {A : Type 0} (spare : A) (indices : List Slot) → replicate (length indices) spare ≡ map (picked [] spare) indices
-picked_none spare [] = refl
-picked_none spare (s ∷ indices) = ap (λ xs. spare ∷ xs) (picked_none spare indices)
+picked_none spare indices = splat_is_map indices (length indices) spare refl
 
 pub no_bits : (indices : List Slot) → AreKeys 0 indices → replicate (length indices) false ≡ map (named_bit []) indices
-no_bits [] keys = refl
-no_bits (s ∷ indices) keys =
-    let first = each_key 0 (λ s. false ≡ named_bit [] s) refl (λ n none. absurd (omega (arith, none))) s (keys 0 s (omega arith)) in
-    let rest = no_bits indices (λ k d within. keys (suc k) d (omega (arith, within))) in
-    λ i. first i ∷ rest i
+no_bits indices keys =
+    splat_is_map indices (length indices) false refl ∙ map-agree (IsKey 0) (λ s. false) (named_bit []) (each_key 0 (λ s. false ≡ named_bit [] s) refl (λ n none. absurd (omega (arith, none)))) indices keys
 
 -- as many rows as indices that are stored
 pub length-masked_slots : {I : Type 0} (slot : I → Slot) (v : Option (List Bool)) (keys : List I) → FitsRows v (length keys) → length (masked v (map slot keys)) ≡ length keys
@@ -213,19 +185,21 @@ pub length-gather : (xs indices : List Slot) (t : ArrowType) → length (gather 
 length-gather xs indices t = length-map indices (gathered xs t)
 
 -- as many nulls as indices
-null_by_key : (n : ℕ) (t : ArrowType) → null_slot t ≡ Null → (key : Option ℕ) → Null ≡ row_by (replicate n Null) t key
-null_by_key n t none None = sym none
-null_by_key n t none (Some k) =
-    let read : (o : Option Slot) → slice_get (replicate n Null) k ≡ o → Null ≡ unwrap_or o (null_slot t) = elim [
-      | None ↦ λ is. sym none
-      | (Some x) ↦ λ is. let within : k < n = omega (arith, slice_get_within (replicate n Null) k x is, length-replicate n Null) in
-          sym (get_or-replicate n k Null x within) ∙ get_or_from_slice_get (replicate n Null) k x x is
-    ] in
-    read (slice_get (replicate n Null) k) refl
-
 pub nulls_taken : (n : ℕ) (t : ArrowType) → null_slot t ≡ Null → (indices : List Slot) → replicate (length indices) Null ≡ gather (replicate n Null) indices t
-nulls_taken n t none [] = refl
-nulls_taken n t none (s ∷ indices) =
-    let first = null_by_key n t none (key_in s) ∙ sym (by_key (replicate n Null) t s) in
-    let rest = nulls_taken n t none indices in
-    λ i. first i ∷ rest i
+nulls_taken n t none indices =
+    let xs = replicate n Null in
+    splat_is_map (gather xs indices t) (length indices) Null (length-gather xs indices t) ∙ (gather-map (λ s. Null) xs t t (sym none) indices ∙ ap (λ ys. gather ys indices t) (map_constant (λ s. Null) n Null))
+
+-- bits that the indices name, as a word: one more, and all
+pub word_next : (bits : List Bool) (rows : List Slot) (start k word : ℕ) (b : Bool) → start + k < length rows → k < 64 → b ≡ named_bit bits (get_or rows (start + k) Null) → word ≡ word_of (map (named_bit bits) (sliced rows start k)) → bit_or word (from_bool b * 2 ^ k % 18446744073709551616) ≡ word_of (map (named_bit bits) (sliced rows start (k + 1)))
+word_next bits rows start k word b within few is so_far =
+    let part = drop start rows in
+    let below : k < length part = omega (arith, within, length-drop start rows) in
+    let long : length (map (named_bit bits) (take k part)) ≡ k = omega (arith, below, length-map (take k part) (named_bit bits), length-take k part) in
+    let read = is ∙ ap (named_bit bits) (sym (get_or-drop start rows k Null)) in
+    word_more (map (named_bit bits) (take k part)) b word k long few so_far ∙ ap word_of (gives_next (named_bit bits) [] (map (named_bit bits) (take k part)) part k b below read refl)
+
+pub word_whole : (bits : List Bool) (rows : List Slot) (start k count word : ℕ) → start + count ≤ length rows → k ≡ count → word ≡ word_of (map (named_bit bits) (sliced rows start k)) → low_bits word count ≡ map (named_bit bits) (sliced rows start count)
+word_whole bits rows start k count word within whole is =
+    let long = length-map (sliced rows start count) (named_bit bits) ∙ length-sliced rows start count within in
+    bits_of_word (map (named_bit bits) (sliced rows start count)) word count (is ∙ ap (λ n. word_of (map (named_bit bits) (sliced rows start n))) whole) long

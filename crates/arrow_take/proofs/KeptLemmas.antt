@@ -10,18 +10,18 @@ front true x xs ys = refl
 front false x xs ys = refl
 
 pub kept-more : {A : Type 0} (bits : List Bool) (xs : List A) (i : ℕ) (b : Bool) (x : A) → i < length bits → i < length xs → get_or bits i b ≡ b → get_or xs i x ≡ x → kept (take (i + 1) bits) (take (i + 1) xs) ≡ kept (take i bits) (take i xs) ++ one_kept b x
-kept-more [] xs i b x low high bit is = absurd (omega (arith, low))
-kept-more (c ∷ bits) [] i b x low high bit is = absurd (omega (arith, high))
 kept-more (c ∷ bits) (y ∷ xs) zero b x low high bit is =
     λ j. if bit j then is j ∷ [] else []
 kept-more (c ∷ bits) (y ∷ xs) (suc i) b x low high bit is =
     let next = kept-more bits xs i b x (omega (arith, low)) (omega (arith, high)) bit is in
     let at : suc i + 1 ≡ suc (i + 1) = omega arith in
     ap (λ n. kept (take n (c ∷ bits)) (take n (y ∷ xs))) at ∙ (ap (λ zs. if c then y ∷ zs else zs) next ∙ front c y (kept (take i bits) (take i xs)) (one_kept b x))
+kept-more bits xs i b x low high bit is = absurd (omega (arith, low, high))
 
-as_number : (b : Bool) → bool_byte b ≡ cond b 1 0
-as_number true = refl
-as_number false = refl
+-- a bit as a number
+pub byte_of : (b : Bool) → bool_byte b ≡ cond b 1 0
+byte_of true = refl
+byte_of false = refl
 
 -- a value that is written, and counted where it is kept
 pub kept_written : {A : Type 0} (b : Bool) (own done : List A) (count : ℕ) (x : A) → count < length own → take count own ≡ done → take (count + cond b 1 0) (set own count x) ≡ done ++ one_kept b x
@@ -35,37 +35,27 @@ pub one_more : (b : Bool) → cond b 1 0 ≤ 1
 one_more true = omega arith
 one_more false = omega arith
 
--- a bit as a number
-pub byte_of : (bit b : Bool) → bit ≡ b → bool_byte bit ≡ cond b 1 0
-byte_of bit b is = ap bool_byte is ∙ as_number b
-
 pub kept-map : {A B : Type 0} (f : A → B) (bits : List Bool) (xs : List A) → map f (kept bits xs) ≡ kept bits (map f xs)
-kept-map f [] xs = refl
-kept-map f (b ∷ bits) [] = refl
 kept-map f (true ∷ bits) (x ∷ xs) = ap (λ ys. f x ∷ ys) (kept-map f bits xs)
 kept-map f (false ∷ bits) (x ∷ xs) = kept-map f bits xs
+kept-map f bits xs = refl
 
 kept_as_many : {A B : Type 0} (bits : List Bool) (xs : List A) (ys : List B) → length xs ≡ length ys → length (kept bits xs) ≡ length (kept bits ys)
-kept_as_many [] xs ys same = refl
-kept_as_many (b ∷ bits) [] [] same = refl
 kept_as_many (b ∷ bits) [] (y ∷ ys) same = absurd (omega (arith, same))
 kept_as_many (b ∷ bits) (x ∷ xs) [] same = absurd (omega (arith, same))
 kept_as_many (true ∷ bits) (x ∷ xs) (y ∷ ys) same =
     ap suc (kept_as_many bits xs ys (omega (arith, same)))
 kept_as_many (false ∷ bits) (x ∷ xs) (y ∷ ys) same = kept_as_many bits xs ys (omega (arith, same))
+kept_as_many bits xs ys same = refl
 
 -- rows that are kept under a validity have what is kept of it
 kept-mask : (bits v : List Bool) (xs : List Slot) → length v ≡ length xs → mask (kept bits v) (kept bits xs) ≡ kept bits (mask v xs)
-kept-mask [] v xs long = refl
-kept-mask (b ∷ bits) [] [] long = refl
 kept-mask (b ∷ bits) [] (x ∷ xs) long = absurd (omega (arith, long))
 kept-mask (b ∷ bits) (w ∷ v) [] long = absurd (omega (arith, long))
 kept-mask (true ∷ bits) (w ∷ v) (x ∷ xs) long =
     ap (λ ys. (if w then x else Null) ∷ ys) (kept-mask bits v xs (omega (arith, long)))
 kept-mask (false ∷ bits) (w ∷ v) (x ∷ xs) long = kept-mask bits v xs (omega (arith, long))
-
-pub kept-masked : (bits v : List Bool) (xs : List Slot) → length v ≡ length xs → masked (Some (kept bits v)) (kept bits xs) ≡ kept bits (masked (Some v) xs)
-kept-masked bits v xs long = kept-mask bits v xs long
+kept-mask bits v xs long = refl
 
 -- an array of what is kept of the values and the validity of another
 pub kept_fits : {A : Type 0} (bits : List Bool) (v taken : Option (List Bool)) (values items : List A) → taken ≡ option_map (kept bits) v → items ≡ kept bits values → FitsRows v (length values) → FitsRows taken (length items)
@@ -77,7 +67,7 @@ pub kept_rows : {A : Type 0} (slot : A → Slot) (bits : List Bool) (v : Option 
 kept_rows slot bits None values taken items fits is are =
     (λ j. masked (is j) (map slot (are j))) ∙ kept-map slot bits values
 kept_rows slot bits (Some v) values taken items fits is are =
-    (λ j. masked (is j) (map slot (are j))) ∙ (ap (masked (Some (kept bits v))) (kept-map slot bits values) ∙ kept-masked bits v (map slot values) fits)
+    (λ j. masked (is j) (map slot (are j))) ∙ (ap (masked (Some (kept bits v))) (kept-map slot bits values) ∙ kept-mask bits v (map slot values) fits)
 
 -- places that are kept where an id is, of rows that are those places
 first_of : (told : Bool) (col : List Slot) (u : ArrowType) (w o : Slot) (ks ds : List Slot) → (told ≡ true → w ≡ gathered col u o) → map (gathered col u) ks ≡ ds → map (gathered col u) (if told then o ∷ ks else ks) ≡ (if told then w ∷ ds else ds)
@@ -98,7 +88,6 @@ all_first P true x xs here rest = All-cons P x xs (here refl) rest
 all_first P false x xs here rest = rest
 
 pub kept_all : (P : Slot → Type 0) (bits : List Bool) (xs : List Slot) → ((i : ℕ) → i < length xs → get_or bits i false ≡ true → P (get_or xs i Null)) → All P (kept bits xs)
-kept_all P [] xs each = All-nil P
-kept_all P (b ∷ bits) [] each = All-nil P
 kept_all P (b ∷ bits) (x ∷ xs) each =
     all_first P b x (kept bits xs) (λ told. each 0 (omega arith) told) (kept_all P bits xs (λ i within told. each (suc i) (omega (arith, within)) told))
+kept_all P bits xs each = All-nil P

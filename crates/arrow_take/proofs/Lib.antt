@@ -3,6 +3,7 @@ pub mod AnswerLemmas
 pub mod DenseRows
 pub mod IndexLemmas
 pub mod KeptLemmas
+pub mod MadeUnions
 pub mod RankLemmas
 pub mod SpanLemmas
 pub mod SparseRows

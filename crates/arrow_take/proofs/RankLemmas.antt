@@ -1,14 +1,10 @@
 -- How many rows before each have its type id: one row more, counted by id.
-use Rattle.arrow_take.proofs.Common.{arith, ◌≡◌, ◌+◌, ◌<◌, ◌≤◌, ◌^◌, ◌⊎◌, inl, inr, ℕ, ℤ, pos, negsuc, Bool, true, false, List, [], ◌∷◌, ◌++◌, length, map, get_or, set, take, refl, ap, sym, subst, ◌∙◌, nat_abs, count_by, range_with_len, int_eq, Decides-int_eq, ints, get_or-set_same, get_or-set_other, map-append, take_all, map-range_with_len_more, count_by_more_no, count_by_more_yes, IsTypeId, not_told, before_or_same, AreFew, rank_at}
+use Rattle.arrow_take.proofs.Common.{arith, ◌≡◌, ◌+◌, ◌<◌, ◌≤◌, ◌^◌, ℕ, ℤ, pos, negsuc, Bool, true, false, List, [], ◌∷◌, ◌++◌, length, map, get_or, set, take, refl, ap, sym, subst, ◌∙◌, nat_abs, count_by, range_with_len, int_eq, Decides-int_eq, ints, get_or-set_other, map-append, take_all, map-range_with_len_more, count_by_more_no, count_by_more_yes, IsTypeId, AreFew, rank_at, get_or-set_at}
 
 -- a type id as a place of a list
 pub id_placed : (id : ℤ) → IsTypeId id → (id ≡ pos (nat_abs id)) × (nat_abs id < 128)
 id_placed (pos n) is = (refl, omega (arith, ints, is.1))
 id_placed (negsuc n) is = absurd (omega (arith, ints, is.0))
-
-other_number : (k j : ℕ) → (k ≡ j → ⊥) → int_eq (pos k) (pos j) ≡ false
-other_number k j differ =
-    not_told (int_eq (pos k) (pos j)) (λ told. differ (omega (arith, ints, (Decides-int_eq (pos k) (pos j)).0 told)))
 
 module _ (types : List ℤ) (i : ℕ) (within : i < length types) where
   abbrev id : ℤ
@@ -36,20 +32,16 @@ module _ (types : List ℤ) (i : ℕ) (within : i < length types) where
     pub rank_is : get_or counts j 0 ≡ rank_at types i
     rank_is = each j small ∙ ap (λ z. count_by (int_eq z) (take i types)) (sym typed)
 
-    counts_by : (n k : ℕ) → n ≡ get_or counts j 0 → k < 128 → (k < j) ⊎ ((k ≡ j) ⊎ (j < k)) → get_or (set counts j (n + 1)) k 0 ≡ count_by (int_eq (pos k)) (take (i + 1) types)
-    counts_by n k is few (inl less) =
-        let other : int_eq (pos k) id ≡ false = ap (int_eq (pos k)) typed ∙ other_number k j (λ same. omega (arith, less, same)) in
-        get_or-set_other counts j k (n + 1) 0 (λ same. omega (arith, less, same)) ∙ (each k few ∙ sym (count_by_more_no (int_eq (pos k)) types i (pos 0) within other))
-    counts_by n k is few (inr (inl same)) =
-        let own : int_eq (pos k) id ≡ true = (Decides-int_eq (pos k) id).1 (ap pos same ∙ sym typed) in
-        let here : get_or (set counts j (n + 1)) k 0 ≡ n + 1 = ap (λ h. get_or (set counts j (n + 1)) h 0) same ∙ get_or-set_same counts j (n + 1) 0 (omega (arith, small, long)) in
-        here ∙ ((omega (arith, is, each k few, ap (λ h. get_or counts h 0) same)) ∙ sym (count_by_more_yes (int_eq (pos k)) types i (pos 0) within own))
-    counts_by n k is few (inr (inr more)) =
-        let other : int_eq (pos k) id ≡ false = ap (int_eq (pos k)) typed ∙ other_number k j (λ same. omega (arith, more, same)) in
-        get_or-set_other counts j k (n + 1) 0 (λ same. omega (arith, more, same)) ∙ (each k few ∙ sym (count_by_more_no (int_eq (pos k)) types i (pos 0) within other))
+    counts_by : (n k : ℕ) → n ≡ get_or counts j 0 → k < 128 → (b : Bool) → int_eq (pos k) id ≡ b → get_or (set counts j (n + 1)) k 0 ≡ count_by (int_eq (pos k)) (take (i + 1) types)
+    counts_by n k is few true told =
+        let same : k ≡ j = omega (arith, ints, (Decides-int_eq (pos k) id).0 told ∙ typed) in
+        get_or-set_at counts j k (n + 1) 0 same (omega (arith, small, long)) ∙ (omega (arith, is, each k few, ap (λ h. get_or counts h 0) same) ∙ sym (count_by_more_yes (int_eq (pos k)) types i (pos 0) within told))
+    counts_by n k is few false told =
+        let other : k ≡ j → ⊥ = λ same. (let own = (Decides-int_eq (pos k) id).1 (ap pos same ∙ sym typed) in cc) in
+        get_or-set_other counts j k (n + 1) 0 other ∙ (each k few ∙ sym (count_by_more_no (int_eq (pos k)) types i (pos 0) within told))
 
     pub counts_next : (n : ℕ) → n ≡ get_or counts j 0 → (k : ℕ) → k < 128 → get_or (set counts j (n + 1)) k 0 ≡ count_by (int_eq (pos k)) (take (i + 1) types)
-    counts_next n is k few = counts_by n k is few (before_or_same k j)
+    counts_next n is k few = counts_by n k is few (int_eq (pos k) id) refl
 
 -- all rows
 pub all_few : (types : List ℤ) (i : ℕ) → length types ≤ i → ((other : ℤ) → count_by (int_eq other) (take i types) ≤ 2 ^ 31) → AreFew types

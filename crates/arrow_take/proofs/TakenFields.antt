@@ -1,5 +1,5 @@
 -- Structs by index: each column by index, under the validity by index.
-use Rattle.arrow_take.proofs.Common.{arith, ◌≡◌, ℕ, ◌<◌, ◌^◌, pos, Bool, true, false, Option, Some, None, List, [], ◌∷◌, length, map, get_or, replicate, if◌then◌else◌, refl, ap, sym, subst, ◌∙◌, slice_index_or, unwrap_or, All, get_or-map, length-map, All-map, get_or_from_slice_get, slice_get-get_or, slice_get_within, map-map, ArrowType, Fits, part_in, gather, gathered, masked, valid_at, Slot, Slots, Null, Number, more_slots, no_slots, null_slot, to_slots, FitsRows, any_array_rows, any_array_type, layout_of, AreKeys, IsKey, across, columns_of, rows, stacked, struct_items, to_layouts, FitsColumns, HaveRows, IsStruct, StructParts, row_count, row_of, struct_rows, AnyArray, columns_of-to_layouts, length-struct_rows, struct_row_null, struct_row_valid, MarksTaken, SomeDoNotFit, is_taken_valid, taken_rows, valid_index, column_long, column_of_fits, columns_fit, first_long, part_at, some_column, each_key}
+use Rattle.arrow_take.proofs.Common.{arith, ◌≡◌, ℕ, ◌<◌, ◌^◌, pos, Bool, true, false, Option, Some, None, List, [], ◌∷◌, length, map, get_or, if◌then◌else◌, refl, ap, sym, subst, ◌∙◌, slice_index_or, unwrap_or, All, get_or-map, length-map, All-map, get_or_from_slice_get, slice_get-get_or, slice_get_within, map-map, ArrowType, Fits, part_in, gather, gathered, masked, valid_at, Slot, Slots, Null, Number, more_slots, no_slots, null_slot, to_slots, FitsRows, any_array_rows, any_array_type, layout_of, AreKeys, IsKey, across, columns_of, rows, stacked, struct_items, to_layouts, FitsColumns, HaveRows, IsStruct, StructParts, row_count, row_of, struct_rows, AnyArray, columns_of-to_layouts, length-struct_rows, struct_row_null, struct_row_valid, MarksTaken, SomeDoNotFit, is_taken_valid, taken_rows, valid_index, column_long, column_of_fits, columns_fit, first_long, part_at, some_column, splat_is_map, each_key}
 use Rattle.arrow_types.specs.Slot.{Parts as fields}
 use Rattle.arrow_take.proofs.IndexLemmas.{Stores, fits_taken, length-gather, map-agree, named_valid, null_is_none, rows_taken}
 
@@ -8,12 +8,8 @@ stacked-map : (a : Slot → Slot) (b : Slot → Slots) (indices : List Slot) →
 stacked-map a b [] = refl
 stacked-map a b (s ∷ indices) = ap (λ rs. more_slots (a s) (b s) ∷ rs) (stacked-map a b indices)
 
-no_columns : (indices : List Slot) → replicate (length indices) no_slots ≡ map (λ s. no_slots) indices
-no_columns [] = refl
-no_columns (s ∷ indices) = ap (λ rs. no_slots ∷ rs) (no_columns indices)
-
 across-map : {A : Type 0} (h : A → Slot → Slot) (columns : List A) (indices : List Slot) → across (length indices) (map (λ c. map (h c) indices) columns) ≡ map (λ s. to_slots (map (λ c. h c s) columns)) indices
-across-map h [] indices = no_columns indices
+across-map h [] indices = splat_is_map indices (length indices) no_slots refl
 across-map h (c ∷ columns) indices =
     ap (stacked (map (h c) indices)) (across-map h columns indices) ∙ stacked-map (h c) (λ s. to_slots (map (λ d. h d s) columns)) indices
 
@@ -66,14 +62,10 @@ module _ (p : StructParts) (columns : List AnyArray) (held : IsStruct p) (childr
   abbrev stored : Slot → Slot
   stored s = fields (to_slots (map (λ c. by_index c s) columns))
 
-  -- an index of a valid row is itself
-  index_stays : (n : ℕ) → n < count → valid_at v n ≡ true → valid_index v (Number (pos n)) ≡ Number (pos n)
-  index_stays n within valid =
-      ap (λ b. if b then Number (pos n) else Null) (sym (named_valid v n count held.fits.1 within) ∙ valid)
-
-  index_null : (n : ℕ) → n < count → valid_at v n ≡ false → valid_index v (Number (pos n)) ≡ Null
-  index_null n within unset =
-      ap (λ b. if b then Number (pos n) else Null) (sym (named_valid v n count held.fits.1 within) ∙ unset)
+  -- an index of a valid row is itself, and another one is null
+  index_is : (n : ℕ) → n < count → (b : Bool) → valid_at v n ≡ b → valid_index v (Number (pos n)) ≡ (if b then Number (pos n) else Null)
+  index_is n within b is =
+      ap (λ b. if b then Number (pos n) else Null) (sym (named_valid v n count held.fits.1 within) ∙ is)
 
   -- what a column has at a place
   read_column : (n : ℕ) → n < count → (k : ℕ) (d : AnyArray) → k < length columns → gathered (any_array_rows (get_or columns k d)) (any_array_type (get_or columns k d)) (Number (pos n)) ≡ slice_index_or (any_array_rows (get_or columns k d)) n Null
@@ -82,7 +74,7 @@ module _ (p : StructParts) (columns : List AnyArray) (held : IsStruct p) (childr
 
   row_stored : (n : ℕ) → n < count → valid_at v n ≡ true → row_of n p.children ≡ stored (Number (pos n))
   row_stored n within valid =
-      let stays = ap (λ s. fields (to_slots (map (λ c. gathered (any_array_rows c) (any_array_type c) s) columns))) (index_stays n within valid) in
+      let stays = ap (λ s. fields (to_slots (map (λ c. gathered (any_array_rows c) (any_array_type c) s) columns))) (index_is n within true valid) in
       let each = map-agree (λ c. gathered (any_array_rows c) (any_array_type c) (Number (pos n)) ≡ slice_index_or (any_array_rows c) n Null) (λ c. slice_index_or (any_array_rows c) n Null) (λ c. gathered (any_array_rows c) (any_array_type c) (Number (pos n))) (λ c is. sym is) columns (read_column n within) in
       ap (λ ls. fields (to_slots (map (λ l. slice_index_or (rows l) n Null) ls))) (sym children) ∙ (ap (λ ss. fields (to_slots ss)) (map-map (λ l. slice_index_or (rows l) n Null) layout_of columns ∙ each) ∙ sym stays)
 
@@ -108,7 +100,7 @@ module _ (p : StructParts) (columns : List AnyArray) (held : IsStruct p) (childr
   part_stored u f d has is n within true valid =
       ap (part_in f u) (struct_row_valid p n held within valid ∙ row_stored n within valid) ∙ (part_at (map (λ c. by_index c (Number (pos n))) columns) f ∙ get_or-map (λ c. by_index c (Number (pos n))) columns f d Null has)
   part_stored u f d has is n within false unset =
-      ap (part_in f u) (struct_row_null p n held within unset) ∙ (ap null_slot (sym is) ∙ sym (ap (gathered (any_array_rows (get_or columns f d)) (any_array_type (get_or columns f d))) (index_null n within unset)))
+      ap (part_in f u) (struct_row_null p n held within unset) ∙ (ap null_slot (sym is) ∙ sym (ap (gathered (any_array_rows (get_or columns f d)) (any_array_type (get_or columns f d))) (index_is n within false unset)))
 
   part_taken : (u : ArrowType) (f : ℕ) (d : AnyArray) → f < length columns → any_array_type (get_or columns f d) ≡ u → (s : Slot) → IsKey (length (struct_rows p)) s → part_in f u (gathered (struct_rows p) p.arrow_type s) ≡ by_index (get_or columns f d) s
   part_taken u f d has is =
@@ -123,20 +115,6 @@ module _ (p : StructParts) (columns : List AnyArray) (held : IsStruct p) (childr
   fields_fit counted each =
       columns_fit p columns held children (gather (struct_rows p) indices p.arrow_type) (omega (arith, counted, length-map indices (gathered (struct_rows p) p.arrow_type))) (λ f d has. subst (Fits (any_array_type (get_or columns f d))) (sym (column_taken (any_array_type (get_or columns f d)) f d has refl)) (each f d has))
 
-  -- and each column does where they do
-  pub fields_pass : SomeDoNotFit (map (valid_index v) indices) columns → Fits p.arrow_type (gather (struct_rows p) indices p.arrow_type) → ⊥
-  fields_pass (k, c, read, over) fits =
-      let has = slice_get_within columns k c read in
-      let at = get_or_from_slice_get columns k c c read in
-      let column = column_of_fits p columns held children (gather (struct_rows p) indices p.arrow_type) k c has fits in
-      let here = subst (Fits (any_array_type (get_or columns k c))) (column_taken (any_array_type (get_or columns k c)) k c has refl) column in
-      over (subst (λ e. Fits (any_array_type e) (taken_rows (map (valid_index v) indices) e)) at here)
-
-  -- the indices whose row is valid name rows of each column
-  pub columns_inside : All (λ c. AreKeys (length (any_array_rows c)) (map (valid_index v) indices)) columns
-  columns_inside =
-      λ k d within. subst (λ n. AreKeys n (map (valid_index v) indices)) (long ∙ sym (column_long p columns held children k d within)) (valid_keys v (length (struct_rows p)) indices keys)
-
   -- the columns by index are of one length
   pub taken_fits : (taken : List AnyArray) (validity : Option (List Bool)) → map any_array_rows taken ≡ map (taken_rows (map (valid_index v) indices)) columns → MarksTaken v indices validity → FitsColumns (map layout_of taken) validity
   taken_fits taken validity are marks =
@@ -146,3 +124,45 @@ module _ (p : StructParts) (columns : List AnyArray) (held : IsStruct p) (childr
       let enough : 0 < length (map rows (map layout_of taken)) = omega (arith, ap length same, length-map columns (taken_rows (map (valid_index v) indices)), some) in
       let count = first_long (map rows (map layout_of taken)) (length indices) enough all in
       (subst (λ n. HaveRows n (map layout_of taken)) (sym count) (all_of (λ c. length c ≡ length indices) rows (map layout_of taken) all), subst (FitsRows validity) (sym count) (fits_taken v validity indices marks))
+
+-- a struct that indices name rows of, its columns, the indices of these, and a validity by index
+pub record TakesFields (p : StructParts) (columns : List AnyArray) (indices valid : List Slot) (validity : Option (List Bool)) : Type 0 where
+  pub held : IsStruct p
+  pub children : map layout_of columns ≡ p.children
+  pub none : null_slot p.arrow_type ≡ Null
+  pub keys : AreKeys (length (struct_rows p)) indices
+  pub valid_are : valid ≡ map (valid_index p.validity) indices
+  pub marks : MarksTaken p.validity indices validity
+
+module _ {p : StructParts} {columns : List AnyArray} {indices valid : List Slot} {validity : Option (List Bool)} (takes : TakesFields p columns indices valid validity) where
+  -- these name rows of each column
+  pub columns_inside : All (λ c. AreKeys (length (any_array_rows c)) valid) columns
+  columns_inside =
+      λ k d within. subst (λ n. AreKeys n valid) (length-struct_rows p takes.held ∙ sym (column_long p columns takes.held takes.children k d within)) (subst (AreKeys (length (struct_rows p))) (sym takes.valid_are) (valid_keys p.validity (length (struct_rows p)) indices takes.keys))
+
+  -- each column fits where the structs by index do
+  pub fields_pass : SomeDoNotFit valid columns → Fits p.arrow_type (gather (struct_rows p) indices p.arrow_type) → ⊥
+  fields_pass (k, c, read, over) fits =
+      let has = slice_get_within columns k c read in
+      let at = get_or_from_slice_get columns k c c read in
+      let column = column_of_fits p columns takes.held takes.children (gather (struct_rows p) indices p.arrow_type) k c has fits in
+      let rows = column_taken p columns takes.held takes.children takes.none indices takes.keys (any_array_type (get_or columns k c)) k c has refl ∙ ap (λ is. taken_rows is (get_or columns k c)) (sym takes.valid_are) in
+      over (subst (λ e. Fits (any_array_type e) (taken_rows valid e)) at (subst (Fits (any_array_type (get_or columns k c))) rows column))
+
+  -- and they where each column does
+  pub struct_fits : length indices < 2 ^ 64 → All (λ c. Fits (any_array_type c) (taken_rows valid c)) columns → Fits p.arrow_type (gather (struct_rows p) indices p.arrow_type)
+  struct_fits counted each =
+      fields_fit p columns takes.held takes.children takes.none indices takes.keys counted (subst (λ is. All (λ c. Fits (any_array_type c) (taken_rows is c)) columns) takes.valid_are each)
+
+  -- what the columns by index give
+  module _ (taken : List AnyArray) (are : map any_array_rows taken ≡ map (taken_rows valid) columns) where
+    by_index_are : map any_array_rows taken ≡ map (taken_rows (map (valid_index p.validity) indices)) columns
+    by_index_are = are ∙ ap (λ is. map (taken_rows is) columns) takes.valid_are
+
+    pub struct_taken : masked validity (struct_items (columns_of (to_layouts (map layout_of taken)))) ≡ gather (struct_rows p) indices p.arrow_type
+    struct_taken =
+        fields_taken p columns takes.held takes.children takes.none indices takes.keys taken validity by_index_are takes.marks
+
+    pub taken_columns_fit : FitsColumns (map layout_of taken) validity
+    taken_columns_fit =
+        taken_fits p columns takes.held takes.children takes.none indices takes.keys taken validity by_index_are takes.marks

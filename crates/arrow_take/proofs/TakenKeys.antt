@@ -1,15 +1,11 @@
 -- Dictionaries by index: their keys by index, over the same values.
-use Rattle.arrow_take.proofs.Common.{◌≡◌, ℕ, Option, Some, None, List, [], ◌∷◌, map, get_or, refl, ap, sym, subst, ◌∙◌, slice_get, unwrap_or, All-map, get_or_from_slice_get, slice_get_within, map-map, ArrowType, null, plain, gather, gathered, Slot, Null, null_slot, AreKeys, IsKey, key_in, keys_in, keyed_item}
+use Rattle.arrow_take.proofs.Common.{◌≡◌, ℕ, Option, Some, None, List, map, get_or, refl, ap, sym, subst, ◌∙◌, slice_get, unwrap_or, All-map, get_or_from_slice_get, slice_get_within, map-map, ArrowType, null, plain, gather, gathered, Slot, Null, null_slot, AreKeys, IsKey, key_in, keys_in, keyed_item, map_fixed}
 use Rattle.arrow_take.proofs.IndexLemmas.{by_key, gather-map, row_by}
 
 -- rows by index, where the null slot of the type is null
 pub gather_null : (xs : List Slot) (t : ArrowType) → null_slot t ≡ Null → (indices : List Slot) → gather xs indices t ≡ gather xs indices (plain null)
-gather_null xs t none [] = refl
-gather_null xs t none (s ∷ indices) =
-    let here : (key : Option ℕ) → row_by xs t key ≡ row_by xs (plain null) key = elim [ None ↦ none | (Some n) ↦ ap (unwrap_or (slice_get xs n)) none ] in
-    let first = by_key xs t s ∙ (here (key_in s) ∙ sym (by_key xs (plain null) s)) in
-    let rest = gather_null xs t none indices in
-    λ i. first i ∷ rest i
+gather_null xs t none indices =
+    sym (map_fixed (λ s. s) (gather xs indices t) (λ k d within. refl)) ∙ (gather-map (λ s. s) xs t (plain null) none indices ∙ ap (λ ys. gather ys indices (plain null)) (map_fixed (λ s. s) xs (λ k d within. refl)))
 
 -- the rows of a dictionary by index are those of its keys by index
 pub keyed_taken : (xs keys indices : List Slot) (t : ArrowType) → null_slot t ≡ Null → map (keyed_item xs) (keys_in (gather keys indices (plain null))) ≡ gather (map (keyed_item xs) (keys_in keys)) indices t

@@ -1,7 +1,7 @@
 -- Dense unions by index: what each field has of the rows that are named, by their places in its child.
-use Rattle.arrow_take.proofs.Common.{arith, ◌≡◌, ◌+◌, ◌<◌, ◌≤◌, ◌⊎◌, inl, inr, ℕ, ℤ, pos, negsuc, Bool, false, true, if◌then◌else◌, ◌++◌, Some, None, Option, List, [], ◌∷◌, length, map, get_or, refl, ap, sym, subst, ◌∙◌, IfSome, unwrap_or, int_eq, Decides-int_eq, get_or-map, get_or_append_left, get_or_default, length-map, eq-or-lt_of_le, get_or-append_seam, slice_get-get_or, Dense, ArrowType, null, plain, gather, gathered, masked, valid_at, Slot, Null, Number, Variant, id_at, null_slot, FitsRows, length-masked, row_at, AnyArray, any_array_rows, any_array_type, layout_of, AreKeys, IsKey, key_in, Layout, depth, depth_of_all, field_ids, rows, to_layouts, type_of_layout, field_types, mode_in, IsKnown, UnionParts, mode_by, row_in, rows_of_field, union_rows, depth_at, field_rows, field_part, part_of_id, variant_type, ids_apart, null_variant, AreApart, ArePlaces, HasUnionParts, IsPlace, NamesPart, NamesRows, kept, taken_id, have_id}
+use Rattle.arrow_take.proofs.Common.{arith, ◌≡◌, ◌+◌, ◌<◌, ◌≤◌, ◌⊎◌, inl, inr, ℕ, ℤ, pos, negsuc, Bool, false, true, if◌then◌else◌, ◌++◌, Some, None, Option, List, [], ◌∷◌, length, map, get_or, refl, ap, sym, subst, ◌∙◌, IfSome, unwrap_or, int_eq, Decides-int_eq, get_or-map, get_or_append_left, get_or_default, length-map, eq-or-lt_of_le, get_or-append_seam, slice_get-get_or, Dense, ArrowType, gather, gathered, masked, valid_at, Slot, Null, Number, Variant, id_at, null_slot, FitsRows, length-masked, row_at, AnyArray, layout_of, AreKeys, IsKey, key_in, Layout, field_ids, rows, mode_in, UnionParts, mode_by, row_in, rows_of_field, union_rows, field_part, part_of_id, variant_type, ArePlaces, IsPlace, NamesPart, NamesRows, kept, taken_id, have_id}
 use Rattle.arrow_take.proofs.KeptLemmas.{kept_all, kept_gathered}
-use Rattle.arrow_take.proofs.TakenVariants.{union_depth}
+use Rattle.arrow_take.proofs.TakenVariants.{IsField, TakesUnion, apart, none_stored}
 
 -- a union without offsets has no places to name
 pub if_dense : (child_rows : Option (List ℕ)) (A : Type 0) → A → IfSome child_rows (λ _. A)
@@ -48,41 +48,29 @@ are_places p mode count v stored raw same fits keys numbers each =
     let fits_raw : FitsRows v (length raw) = subst (FitsRows v) (sym same) fits in
     (mode, length-masked v raw fits_raw ∙ (same ∙ sym long), λ i within. (let inside : i < length stored = omega (arith, within, long) in let number = numbers i inside in let row = row_at v stored i fits inside in subst (λ y. IsPlace p (key_in y) (get_or (masked v raw) i Null)) (sym row) (subst (IsPlace p (key_in (if valid_at v i then get_or stored i Null else Null))) (sym (row_at v raw i fits_raw (omega (arith, inside, same)))) (under_bit p count (valid_at v i) (get_or stored i Null) (get_or raw i Null) number.0 number.1 (subst (IsKey count) row (keys i Null within)) (subst (λ y. IfSome (key_in y) (λ n. IsPlace p (Some n) (get_or raw i Null))) row (each i inside))))))
 
-module _ (p : UnionParts) (held : HasUnionParts p) where
+-- the rows that indices name, by their places
+module _ {p : UnionParts} {indices : List Slot} {types : List ℤ} (takes : TakesUnion p indices types) (places : List Slot) (are : ArePlaces p indices (Some places)) where
   abbrev t : ArrowType
   t = p.arrow_type
 
-  abbrev xs : List Slot
-  xs = union_rows p
+  abbrev row_of : Slot → Slot
+  row_of = gathered (union_rows p) t
 
   abbrev id_of : ℕ → ℤ
   id_of f = id_at (field_ids t) f
 
-  as_many : length p.children ≡ length (field_types t)
-  as_many = sym (length-map p.children type_of_layout) ∙ ap length held.fields
-
-  apart : AreApart (field_ids t) (length p.children)
-  apart = subst (AreApart (field_ids t)) (sym as_many) (ids_apart t held.kind)
-
-  none_stored : null_slot t ≡ Variant (id_of 0) (null_slot (variant_type t 0))
-  none_stored = null_variant t held.kind.1 (omega (arith, held.some, as_many))
-
-  row_stored : (n : ℕ) → n < length p.types → gathered xs t (Number (pos n)) ≡ get_or xs n Null
-  row_stored n within =
-      ap (λ o. unwrap_or o (null_slot t)) (slice_get-get_or xs n Null (omega (arith, within, held.long)))
-
-  -- a row that an index names: its id is known, and if it is that of field f, its place names it there
+  -- a row that an index names: if its id is that of field f, its place names it there
   abbrev IsNamed : Slot → Slot → Type 0
   IsNamed s o =
-      (w : Slot) × (gathered xs t s ≡ Variant (taken_id p s) w) × IsKnown (field_ids t) (length p.children) (taken_id p s) × ((f : ℕ) → f < length p.children → int_eq (id_of f) (taken_id p s) ≡ true → (w ≡ gathered (rows_of_field p.children f) (variant_type t f) o) × IsKey (length (rows_of_field p.children f)) o)
+      (w : Slot) × (row_of s ≡ Variant (taken_id p s) w) × ((f : ℕ) → f < length p.children → int_eq (id_of f) (taken_id p s) ≡ true → (w ≡ gathered (rows_of_field p.children f) (variant_type t f) o) × IsKey (length (rows_of_field p.children f)) o)
 
   of_field : (id : ℤ) (f g : ℕ) → f < length p.children → g < length p.children → id_of g ≡ id → int_eq (id_of f) id ≡ true → g ≡ f
   of_field id f g within inside same told =
-      apart g f inside within (same ∙ sym ((Decides-int_eq (id_of f) id).0 told))
+      apart takes.held g f (omega (arith, inside, length-map p.children rows)) (omega (arith, within, length-map p.children rows)) (same ∙ sym ((Decides-int_eq (id_of f) id).0 told))
 
   none_named : (o : Slot) → o ≡ Null → IsNamed Null o
   none_named o is =
-      (null_slot (variant_type t 0), none_stored, (0, held.some, refl), λ f within told. (let same : 0 ≡ f = of_field (id_of 0) f 0 within held.some refl told in ((λ j. gathered (rows_of_field p.children (same j)) (variant_type t (same j)) Null) ∙ ap (gathered (rows_of_field p.children f) (variant_type t f)) (sym is), subst (IsKey (length (rows_of_field p.children f))) (sym is) tt)))
+      (null_slot (variant_type t 0), none_stored takes.held, λ f within told. (let same : 0 ≡ f = of_field (id_of 0) f 0 within takes.held.some refl told in ((λ j. gathered (rows_of_field p.children (same j)) (variant_type t (same j)) Null) ∙ ap (gathered (rows_of_field p.children f) (variant_type t f)) (sym is), subst (IsKey (length (rows_of_field p.children f))) (sym is) tt)))
 
   row_named : (n : ℕ) (o : Slot) → n < length p.types → IsPlace p (Some n) o → IsNamed (Number (pos n)) o
   row_named n o within place =
@@ -92,62 +80,33 @@ module _ (p : UnionParts) (held : HasUnionParts p) where
       let inside = place.3 in
       let here = place.5 in
       let id : id_of g ≡ taken_id p (Number (pos n)) = place.4 ∙ get_or_default p.types n (pos 0) (id_of 0) within in
-      (row_in p.children g j, row_stored n within ∙ (place.6 ∙ ap (λ k. Variant k (row_in p.children g j)) (sym place.4 ∙ id)), (g, inside, id), λ f among told. (let same : g ≡ f = of_field (taken_id p (Number (pos n))) f g among inside id told in (sym (ap (λ q. unwrap_or q (null_slot (variant_type t g))) (slice_get-get_or (rows_of_field p.children g) j Null here)) ∙ ((λ k. gathered (rows_of_field p.children (same k)) (variant_type t (same k)) (Number (pos j))) ∙ ap (gathered (rows_of_field p.children f) (variant_type t f)) (sym is)), subst (IsKey (length (rows_of_field p.children f))) (sym is) (subst (λ k. j < length (rows_of_field p.children k)) same here))))
+      let read = ap (λ q. unwrap_or q (null_slot t)) (slice_get-get_or (union_rows p) n Null (omega (arith, within, takes.held.long))) in
+      (row_in p.children g j, read ∙ (place.6 ∙ ap (λ k. Variant k (row_in p.children g j)) (sym place.4 ∙ id)), λ f among told. (let same : g ≡ f = of_field (taken_id p (Number (pos n))) f g among inside id told in (sym (ap (λ q. unwrap_or q (null_slot (variant_type t g))) (slice_get-get_or (rows_of_field p.children g) j Null here)) ∙ ((λ k. gathered (rows_of_field p.children (same k)) (variant_type t (same k)) (Number (pos j))) ∙ ap (gathered (rows_of_field p.children f) (variant_type t f)) (sym is)), subst (IsKey (length (rows_of_field p.children f))) (sym is) (subst (λ k. j < length (rows_of_field p.children k)) same here))))
 
   each_named : (s o : Slot) → IsKey (length p.types) s → IsPlace p (key_in s) o → IsNamed s o
   each_named Null o key place = none_named o place
   each_named (Number (pos n)) o key place = row_named n o key place
-  each_named (Number (negsuc n)) o key place = absurd key
-  each_named _ o key place = absurd key
+  each_named s o key place = absurd key
 
-  module _ (indices : List Slot) (keys : AreKeys (length p.types) indices) (places : List Slot) (are : ArePlaces p indices (Some places)) where
-    named : (i : ℕ) → i < length indices → IsNamed (get_or indices i Null) (get_or places i Null)
-    named i within =
-        each_named (get_or indices i Null) (get_or places i Null) (keys i Null within) (are.2 i within)
+  named : (i : ℕ) → i < length indices → IsNamed (get_or indices i Null) (get_or places i Null)
+  named i within =
+      each_named (get_or indices i Null) (get_or places i Null) (takes.keys i Null within) (are.2 i within)
 
-    abbrev made : List Slot
-    made = gather xs indices t
-
-    -- each row has a known id
-    pub all_placed : (types : List ℤ) → types ≡ map (taken_id p) indices → (i : ℕ) → i < length made → (w : Slot) × (get_or made i Null ≡ Variant (get_or types i (pos 0)) w) × IsKnown (field_ids t) (length (field_types t)) (get_or types i (pos 0))
-    all_placed types types_are i within =
-        let inside : i < length indices = omega (arith, within, length-map indices (gathered xs t)) in
-        let row = named i inside in
-        let type : get_or types i (pos 0) ≡ taken_id p (get_or indices i Null) = ap (λ zs. get_or zs i (pos 0)) types_are ∙ get_or-map (taken_id p) indices i Null (pos 0) inside in
-        (row.0, get_or-map (gathered xs t) indices i Null Null inside ∙ (row.1 ∙ ap (λ k. Variant k row.0) (sym type)), subst (λ n. IsKnown (field_ids t) n (get_or types i (pos 0))) as_many (subst (IsKnown (field_ids t) (length p.children)) (sym type) row.2))
-
-    -- the indices of a field's own rows
-    module _ (f : ℕ) (within : f < length p.children) (types : List ℤ) (types_are : types ≡ map (taken_id p) indices) where
-      abbrev own : List Slot
-      own = kept (have_id (id_of f) types) places
-
-      abbrev col : List Slot
-      col = rows_of_field p.children f
-
-      own_gathered : gather col own (variant_type t f) ≡ field_part t f made
-      own_gathered =
-          ap (λ zs. map (gathered col (variant_type t f)) (kept (map (int_eq (id_of f)) zs) places)) types_are ∙ (kept_gathered (id_of f) col (variant_type t f) (gathered xs t) (taken_id p) indices places are.1 (λ i inside. (let row = named i inside in (row.0, row.1, λ told. (row.3 f within told).0))) ∙ sym (ap (λ m. part_of_id m (id_of f) (variant_type t f) made) are.0))
-
-      own_inside : AreKeys (length col) own
-      own_inside =
-          kept_all (IsKey (length col)) (have_id (id_of f) types) places (λ i among told.
-          let inside : i < length indices = omega (arith, among, are.1) in
-          let typed : i < length types = omega (arith, inside, ap length types_are, length-map indices (taken_id p)) in
-          let type : get_or types i (pos 0) ≡ taken_id p (get_or indices i Null) = ap (λ zs. get_or zs i (pos 0)) types_are ∙ get_or-map (taken_id p) indices i Null (pos 0) inside in
-          let bit : int_eq (id_of f) (taken_id p (get_or indices i Null)) ≡ true = ap (int_eq (id_of f)) (sym type) ∙ (sym (get_or-map (int_eq (id_of f)) types i (pos 0) false typed) ∙ told) in
-          ((named i inside).3 f within bit).1)
-
-      -- name what it has of the rows in its child
-      pub places_name : (fields : List AnyArray) → map layout_of fields ≡ p.children → (a : AnyArray) → a ≡ get_or fields f a → f < length fields → (q : AnyArray) → layout_of q ≡ layout_of a → NamesPart p indices f q own
-      places_name fields children a read among q same =
-          let col_is : rows_of_field p.children f ≡ any_array_rows q = ap (λ ls. rows_of_field ls f) (sym children) ∙ (field_rows fields f a among read ∙ ap rows (sym same)) in
-          let here : get_or p.children f (layout_of a) ≡ layout_of q = ap (λ ls. get_or ls f (layout_of a)) (sym children) ∙ (get_or-map layout_of fields f a (layout_of a) among ∙ (ap layout_of (sym read) ∙ sym same)) in
-          let type : any_array_type q ≡ variant_type t f = ap type_of_layout (sym here) ∙ (sym (get_or-map type_of_layout p.children f (layout_of a) (plain null) within) ∙ ap (λ us. get_or us f (plain null)) held.fields) in
-          record {
-            inside = subst (λ c. AreKeys (length c) own) col_is own_inside;
-            array_type = type;
-            rows = (λ j. gather (sym col_is j) own (type j)) ∙ own_gathered;
-            less_deep =
-                let deep = depth_at layout_of fields f a among in
-                omega (arith, ap depth same, ap (λ x. depth (layout_of x)) read, deep, ap (λ ls. depth_of_all (to_layouts ls)) children, union_depth p.arrow_type p.types p.child_rows p.start p.children);
-          }
+  -- the indices of a field's own rows name what it has of the rows in its child
+  pub places_name : (f : ℕ) (q : AnyArray) → IsField p f (layout_of q) → NamesPart p indices f q (kept (have_id (id_of f) types) places)
+  places_name f q field =
+      let own = kept (have_id (id_of f) types) places in
+      let col = rows_of_field p.children f in
+      let gathers : gather col own (variant_type t f) ≡ field_part t f (gather (union_rows p) indices t) = ap (λ zs. map (gathered col (variant_type t f)) (kept (map (int_eq (id_of f)) zs) places)) takes.types_are ∙ (kept_gathered (id_of f) col (variant_type t f) row_of (taken_id p) indices places are.1 (λ i inside. (let row = named i inside in (row.0, row.1, λ told. (row.2 f field.within told).0))) ∙ sym (ap (λ m. part_of_id m (id_of f) (variant_type t f) (gather (union_rows p) indices t)) are.0)) in
+      let inside : AreKeys (length col) own = kept_all (IsKey (length col)) (have_id (id_of f) types) places (λ i among told.
+      let within : i < length indices = omega (arith, among, are.1) in
+      let typed : i < length types = omega (arith, within, ap length takes.types_are, length-map indices (taken_id p)) in
+      let type : get_or types i (pos 0) ≡ taken_id p (get_or indices i Null) = ap (λ zs. get_or zs i (pos 0)) takes.types_are ∙ get_or-map (taken_id p) indices i Null (pos 0) within in
+      let bit : int_eq (id_of f) (taken_id p (get_or indices i Null)) ≡ true = ap (int_eq (id_of f)) (sym type) ∙ (sym (get_or-map (int_eq (id_of f)) types i (pos 0) false typed) ∙ told) in
+      ((named i within).2 f field.within bit).1) in
+      record {
+        inside = subst (λ c. AreKeys (length c) own) field.column inside;
+        array_type = field.child_type;
+        rows = (λ j. gather (sym field.column j) own (field.child_type j)) ∙ gathers;
+        less_deep = field.less_deep;
+      }

@@ -1,7 +1,7 @@
 -- Bytes of a fixed size by index: the rows, one behind the other, and that they fit where their bytes can be counted.
-use Rattle.arrow_take.proofs.Common.{arith, ◌≡◌, ◌+◌, ◌-◌, ◌*◌, ◌/◌, ◌%◌, ℕ, suc, ◌<◌, ◌≤◌, ◌^◌, Bool, Option, List, [], ◌∷◌, ◌++◌, length, map, take, drop, get_or, replicate, refl, ap, sym, subst, ◌∙◌, append_assoc, IfSome, option_map, All, concat, append-nil, drop-replicate, length-append, length-map, length-replicate, length-take-le, map-append, take-replicate, take_all, All-map, All-take, concat-append, slice_get-get_or, slice_get-map, map-map, mul-le-mul_right, drop-append-add, drop-append_seam, take-append_seam, ArrowType, Fits, physical_type_of, gather, masked, Slot, Null, Bytes, take_at_read, sliced, length-sliced, FitsBytes, FixedParts, fixed_row_bytes, fixed_size_in, fixed_slots, FitsRows, Parts, rows_by, chunks, chunk_at, length-fixed_slots, length-masked, AreKeys, IsKey, key_in, bytes_fit, whole_product, fits_counted, is_counted, null_of_counted, MarksTaken, taken_row, each_key}
+use Rattle.arrow_take.proofs.Common.{arith, ◌≡◌, ◌+◌, ◌-◌, ◌*◌, ◌/◌, ◌%◌, ℕ, suc, ◌<◌, ◌≤◌, ◌^◌, Bool, Option, List, [], ◌∷◌, ◌++◌, length, map, take, drop, get_or, replicate, refl, ap, sym, subst, ◌∙◌, append_assoc, IfSome, option_map, All, concat, append-nil, drop-replicate, length-append, length-map, length-replicate, length-take-le, take-replicate, take_all, All-map, All-take, concat-append, slice_get-map, map-map, mul-le-mul_right, drop-append-add, drop-append_seam, take-append_seam, ArrowType, Fits, physical_type_of, gather, masked, Slot, Null, Bytes, sliced, length-sliced, FitsBytes, FixedParts, fixed_row_bytes, fixed_size_in, fixed_slots, FitsRows, Parts, rows_by, chunks, chunk_at, length-fixed_slots, length-masked, AreKeys, IsKey, key_in, bytes_fit, whole_product, fits_counted, is_counted, null_of_counted, MarksTaken, taken_row, each_key}
 use Rattle.arrow_types.specs.declared.datatypes.physical_type.PhysicalType.TheVariants as physical
-use Rattle.arrow_take.proofs.IndexLemmas.{Stores, fits_taken, length-gather, rows_taken}
+use Rattle.arrow_take.proofs.IndexLemmas.{Stores, fits_taken, gives_next, length-gather, rows_taken}
 
 -- rows of so many bytes, one behind the other
 chunks_of_rows : (size : ℕ) (rows : List (List ℕ)) → All (λ row. length row ≡ size) rows → chunks (length rows) size (concat rows) ≡ rows
@@ -23,10 +23,8 @@ length-rows size (row ∷ rows) all =
 -- the rows of the indices so far, and of one more
 rows_next : (f : Slot → List ℕ) (indices : List Slot) (i : ℕ) (row : List ℕ) → i < length indices → row ≡ f (get_or indices i Null) → concat (map f (take i indices)) ++ row ≡ concat (map f (take (i + 1) indices))
 rows_next f indices i row within is =
-    let next = take_at_read indices i _ (slice_get-get_or indices i Null within) in
-    let all = ap concat (ap (map f) next ∙ map-append f (take i indices) (get_or indices i Null ∷ [])) in
-    let last = concat-append (map f (take i indices)) (f (get_or indices i Null) ∷ []) ∙ ap (λ bs. concat (map f (take i indices)) ++ bs) (append-nil (f (get_or indices i Null))) in
-    ap (λ bs. concat (map f (take i indices)) ++ bs) is ∙ sym (all ∙ last)
+    let next = gives_next f [] (map f (take i indices)) indices i row within is refl in
+    ap (λ bs. concat (map f (take i indices)) ++ bs) (sym (append-nil row)) ∙ (sym (concat-append (map f (take i indices)) (row ∷ [])) ∙ ap concat next)
 
 -- what a loop over the indices has: the rows of those so far, and zeros for the others
 abbrev pub RowsUpTo : ℕ → List ℕ → List Slot → ℕ → List ℕ → Type 0

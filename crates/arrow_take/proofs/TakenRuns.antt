@@ -1,5 +1,5 @@
 -- Runs of indices, and the rows that they name.
-use Rattle.arrow_take.proofs.Common.{arith, ◌≡◌, ◌+◌, ℕ, zero, suc, ◌<◌, ◌≤◌, pos, Some, None, List, [], ◌∷◌, ◌++◌, length, take, drop, get_or, replicate, refl, ap, sym, ◌∙◌, unwrap_or, map-append, take-append-drop, map-range_with_len_more, slice_get-get_or, ArrowType, gather, gathered, Slot, Null, Number, null_slot, drop_at_read, sliced, sliced-cut, one_row, AreKeys, IsKey, key_in, run_of, each_key}
+use Rattle.arrow_take.proofs.Common.{arith, ◌≡◌, ◌+◌, ℕ, zero, suc, ◌<◌, ◌≤◌, pos, Option, Some, None, IfSome, List, [], ◌∷◌, ◌++◌, length, take, drop, get_or, replicate, refl, ap, sym, ◌∙◌, unwrap_or, map-append, take-append-drop, map-range_with_len_more, slice_get-get_or, ArrowType, gather, gathered, Slot, Null, Number, null_slot, drop_at_read, sliced, sliced-cut, one_row, AreKeys, IsKey, key_in, run_of, each_key}
 
 -- the rows of a run of places
 rows_of_places : (xs : List Slot) (t : ArrowType) (start count : ℕ) → start + count ≤ length xs → gather xs (run_of (Some start) count) t ≡ sliced xs start count
@@ -63,9 +63,11 @@ module _ (xs indices : List Slot) (t : ArrowType) (row count : ℕ) where
       ap (λ is. gather xs is t) (sym (take-append-drop (row + count) indices)) ∙ (map-append (gathered xs t) (take (row + count) indices) (drop (row + count) indices) ∙ ap (λ ys. ys ++ gather xs (drop (row + count) indices) t) (gather_more more is))
 
 -- what a run appends
-pub run_appends : (xs indices : List Slot) (t : ArrowType) (row count start : ℕ) → sliced indices row count ≡ run_of (Some start) count → start + count ≤ length xs → gather xs (sliced indices row count) t ≡ sliced xs start count
-run_appends xs indices t row count start run within =
-    ap (λ is. gather xs is t) run ∙ rows_of_places xs t start count within
+abbrev pub rows_of_run : List Slot → ArrowType → Option ℕ → ℕ → List Slot
+rows_of_run xs t None count = replicate count (null_slot t)
+rows_of_run xs t (Some start) count = sliced xs start count
 
-pub run_of_nulls : (xs indices : List Slot) (t : ArrowType) (row count : ℕ) → sliced indices row count ≡ run_of None count → gather xs (sliced indices row count) t ≡ replicate count (null_slot t)
-run_of_nulls xs indices t row count run = ap (λ is. gather xs is t) run ∙ rows_of_nulls xs t count
+pub run_appends : (xs indices : List Slot) (t : ArrowType) (row count : ℕ) (place : Option ℕ) → sliced indices row count ≡ run_of place count → IfSome place (λ start. start + count ≤ length xs) → gather xs (sliced indices row count) t ≡ rows_of_run xs t place count
+run_appends xs indices t row count None run within = ap (λ is. gather xs is t) run ∙ rows_of_nulls xs t count
+run_appends xs indices t row count (Some start) run within =
+    ap (λ is. gather xs is t) run ∙ rows_of_places xs t start count within

@@ -114,7 +114,7 @@ impl<'a, T: NativeType, I: Index> ByIndex<I> for Values<'a, T> {
 }
 
 // Appends what the indices name, 64 of them at a time. There is room for it.
-fn append_named<S: ByIndex<I>, I: Index>(
+pub(super) fn append_named<S: ByIndex<I>, I: Index>(
     taken: &mut Vec<S::Item>,
     source: &S,
     stored: &[I],

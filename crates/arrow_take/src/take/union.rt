@@ -1,7 +1,7 @@
 //! Unions by index: the type ids, and each field by the indices of its own rows. Where these have no room for the places of
 //! a dense union's rows, runs of rows are appended to a growable.
 
-ghost use Rattle.std.specs.Prelude.{◌≡◌, ◌<◌, ◌&&◌, [], ◌∷◌, Err, Some, length, map, option_copied, option_map, slice_index_or, IfErr, IfOk, IfSome, IsOkUnless};
+ghost use Rattle.std.specs.Prelude.{◌≡◌, ◌<◌, ◌&&◌, [], ◌∷◌, Err, Some, length, map, option_copied, option_map, slice_index_or, IfErr, IfOk, IsOkUnless};
 ghost use Rattle.std.specs.Ordering.{int_eq};
 ghost use Rattle.arrow_types.specs.declared.error.Error.{Error};
 ghost use Rattle.arrow_types.specs.declared.datatypes.physical_type.PhysicalType.TheVariants as physical;
@@ -11,6 +11,7 @@ ghost use Rattle.arrow_types.specs.TypeOf.{type_of};
 ghost use Rattle.arrow_memory.specs.Grown.{IsGrowthError};
 ghost use Rattle.arrow_flat.specs.Faults.{IsCarriedAs};
 ghost use Rattle.arrow_flat.specs.Parts.{FitsRows, rows_by};
+ghost use Rattle.arrow_arrays.specs.KeyedParts.{key_in};
 ghost use Rattle.arrow_arrays.specs.Layout.{field_ids};
 ghost use Rattle.arrow_arrays.specs.TypeParts.{field_types};
 ghost use Rattle.arrow_arrays.specs.UnionParts.{union_layout, union_rows};
@@ -22,7 +23,7 @@ ghost use Rattle.arrow_take.specs.DenseUnions.{ArePlaces, CanName, HasUnionParts
 
 use crate::take::append::append_taken;
 use crate::take::dense::{can_name, own_places, take_offsets, take_places};
-use crate::take::indices::index_at;
+use crate::take::indices::{ByIndex, append_named};
 use crate::validity::is_valid;
 use arrow_arrays::array::{AnyArray, UnionArray};
 use arrow_flat::array::PrimitiveArray;
@@ -135,20 +136,32 @@ fn take_types<I: Index>(
     let first = id_of_field(values.data_type(), 0);
     let (stored, validity) = (indices.values().as_slice(), indices.validity());
     let mut taken = Vec::with_capacity(alloc, stored.len())?;
-    for row in 0..stored.len() {
-        taken.push_reserved(type_at(types, first, index_at(stored, validity, row)));
-    }
+    append_named(&mut taken, &TypeIds { types, first }, stored, validity);
     Ok(taken)
 }
 
-// The type id at a place, and another one where there is no place.
-fn type_at(types: &[i8], first: i8, place: Option<usize>) -> i8
-    requires { IfSome place (λ n. n < length types.now) }
-    ensures { result ≡ id_or first types.now place }
-{
-    match place {
-        None => first,
-        Some(n) => types[n],
+/// The type ids of rows, and another one for a null index.
+#[derive(Drop)]
+struct TypeIds<'a> {
+    types: &'a [i8],
+    first: i8,
+}
+
+impl<'a, I: Index> ByIndex<I> for TypeIds<'a> {
+    type Item = i8;
+
+    ghost count = { λ s. length s.types.now };
+
+    ghost named = { λ s index. id_or s.first s.types.now (key_in index) };
+
+    ghost holds = { λ s. Unit {0} };
+
+    fn at(&self, index: I, is_valid: bool) -> i8 {
+        if is_valid {
+            self.types[index.to_usize()]
+        } else {
+            self.first
+        }
     }
 }
 

@@ -1,11 +1,16 @@
-use Rattle.arrow_take.proofs.Common.{◌≡◌, ◌+◌, ◌<◌, ◌^◌, ◌∙◌, [], ◌∷◌, Err, arith, ap, length, map, refl, rules, subst, sym, option_map, All, length-append, length-map, take_all, All-more, All-same, slice_get_read, PhysicalType, Dense, IsTypeId, Fits, physical_type_of, gather, type_of, null_slot-no_union, rows_by, passed_on, any_array_rows, any_array_type, layout_of, AreKeys, depth, depth_of_all, to_layouts, type_of_layout, FitsColumns, IsStruct, struct_rows, field_types, mode_in, HoldsUnion, child_rows_of, union_rows, depth_at, type_of_structs, union_type, type_of_unions, MarksTaken, SomeDoNotFit, taken_rows, valid_index, HasPart, HaveParts, taken_id, ArePlaces, HasOffsets, HasUnionParts, SomeRankPasses, map-map, makes_next}
+use Rattle.arrow_take.proofs.Common.{◌≡◌, ◌+◌, ◌<◌, ◌∙◌, [], ◌∷◌, Err, arith, ap, length, map, refl, rules, subst, sym, option_map, All, length-append, length-map, take_all, All-more, All-same, slice_get_read, PhysicalType, Dense, IsTypeId, Fits, physical_type_of, gather, type_of, null_slot-no_union, rows_by, passed_on, any_array_rows, any_array_type, layout_of, AreKeys, depth, depth_of_all, to_layouts, type_of_layout, struct_rows, field_types, mode_in, HoldsUnion, child_rows_of, union_rows, depth_at, type_of_structs, union_type, type_of_unions, MarksTaken, taken_rows, valid_index, HasPart, HaveParts, ArePlaces, HasOffsets, HasUnionParts, SomeRankPasses, map-map, makes_next, ℕ}
 use Rattle.arrow_types.specs.declared.datatypes.physical_type.PhysicalType.TheVariants as physical
 use Rattle.arrow_take.proofs.AnswerLemmas.{passes_on}
-use Rattle.arrow_take.proofs.TakenFields.{columns_inside, fields_fit, fields_pass, fields_taken, taken_fits}
+use Rattle.arrow_take.proofs.DenseRows.{ranks_pass}
 use Rattle.arrow_take.proofs.IndexLemmas.{length-gather}
-use Rattle.arrow_take.proofs.SparseRows.{no_parts, parts_next}
-use Rattle.arrow_take.proofs.TakenUnions.{ids_counted, part_passes, part_taken, parts_pass, union_made, union_passes}
+use Rattle.arrow_take.proofs.MadeUnions.{MakesUnion, PartsOf}
+use Rattle.arrow_take.proofs.SparseRows.{parts_next}
+use Rattle.arrow_take.proofs.TakenFields.{TakesFields, columns_inside, fields_pass, struct_fits, struct_taken, taken_columns_fit}
+use Rattle.arrow_take.proofs.TakenUnions.{ids_counted, part_passes, parts_pass, union_made}
+use Rattle.arrow_take.proofs.TakenVariants.{TakesUnion, known_rows}
+use Rattle.arrow_take.proofs.take.+take.Given as given
 use Rattle.arrow_take.proofs.take.+take.Goals as goal
+use Rattle.arrow_take.proofs.take.+take.Goals.{structure::take-After-values, union::take_parts-In_ok-data_type, union::take_parts-In_ok-types}
 
 no_both : {p : PhysicalType} → p ≡ physical.Struct → p ≡ physical.Union → ⊥
 no_both one other = cc
@@ -78,72 +83,49 @@ structure::take_fields-returns-clause-fits g t c =
     let indices = rows_by (map g.I.NativeType.slot) c.args.indices.now in
     All-same (λ a. Fits (any_array_type a) (taken_rows indices a)) c.args.fields.now _ (sym (take_all c.loop-field.field-index c.args.fields.now (omega (arith, c.loop-field-test.false)))) c.loop-field.invariant.fits
 
-pub structure::take-take_fields-requires : goal.structure::take-take_fields-requires
-structure::take-take_fields-requires g t c κs within =
+-- what is known of a struct, once there are the indices of its columns and its validity
+known : (g : given.Over) (t : ℕ) (c : structure::take-After-values g t) → TakesFields c.args.values.now c.values.result.now (rows_by (map g.I.NativeType.slot) c.args.indices.now) (rows_by (map g.I.NativeType.slot) c.in_ok-valid.valid) c.in_ok-validity.validity
+known g t c =
     let p = c.args.values.now in
-    let columns = c.values.result.now in
     let indices = rows_by (map g.I.NativeType.slot) c.args.indices.now in
     let kind = type_of_structs (physical_type_of p.arrow_type) c.data_type.ensures.kind in
-    let held : IsStruct p = record { kind = (c.data_type.ensures.carried, kind); children = c.values.ensures.fields; some = c.values.ensures.some; fits = (c.values.ensures.lengths, c.validity.ensures.fits) } in
-    let none = null_slot-no_union p.arrow_type (λ is. no_both kind is) in
-    let valid : rows_by (map g.I.NativeType.slot) c.in_ok-valid.valid ≡ map (valid_index p.validity) indices = c.in_ok-valid.ensures.ok ∙ ap (λ v. map (valid_index v) indices) c.validity-2.ensures.same in
-    let inside = subst (λ is. All (λ a. AreKeys (length (any_array_rows a)) is) columns) (sym valid) (columns_inside p columns held c.values.ensures.same none indices c.requires.inside) in
+    record {
+      held = record { kind = (c.data_type.ensures.carried, kind); children = c.values.ensures.fields; some = c.values.ensures.some; fits = (c.values.ensures.lengths, c.validity.ensures.fits) };
+      children = c.values.ensures.same;
+      none = null_slot-no_union p.arrow_type (λ is. no_both kind is);
+      keys = c.requires.inside;
+      valid_are = c.in_ok-valid.ensures.ok ∙ ap (λ v. map (valid_index v) indices) c.validity-2.ensures.same;
+      marks = subst (λ v. MarksTaken v indices c.in_ok-validity.validity) c.validity.ensures.same c.in_ok-validity.ensures.ok;
+    }
+
+pub structure::take-take_fields-requires : goal.structure::take-take_fields-requires
+structure::take-take_fields-requires g t c κs within =
+    let inside = columns_inside (known g t (goal.at.structure::take-take_fields-requires g t c).After-values) in
     (omega (arith, c.decreases, ap (λ ls. depth_of_all (to_layouts ls)) c.values.ensures.same), (within, inside))
 
 pub structure::take-returns-in_err-fields-clause-overflow :
     goal.structure::take-returns-in_err-fields-clause-overflow
 structure::take-returns-in_err-fields-clause-overflow g t c overflows =
-    let p = c.args.values.now in
-    let columns = c.values.result.now in
-    let indices = rows_by (map g.I.NativeType.slot) c.args.indices.now in
-    let kind = type_of_structs (physical_type_of p.arrow_type) c.data_type.ensures.kind in
-    let held : IsStruct p = record { kind = (c.data_type.ensures.carried, kind); children = c.values.ensures.fields; some = c.values.ensures.some; fits = (c.values.ensures.lengths, c.validity.ensures.fits) } in
-    let none = null_slot-no_union p.arrow_type (λ is. no_both kind is) in
-    let valid : rows_by (map g.I.NativeType.slot) c.in_ok-valid.valid ≡ map (valid_index p.validity) indices = c.in_ok-valid.ensures.ok ∙ ap (λ v. map (valid_index v) indices) c.validity-2.ensures.same in
     let some = c.in_err-fields.ensures.overflow (ap Err (passed_on c.from_residual-in_err-fields.result _ _ c.from_residual-in_err-fields.ensures.1 overflows)) in
-    fields_pass p columns held c.values.ensures.same none indices c.requires.inside (subst (λ is. SomeDoNotFit is columns) valid some)
+    fields_pass (known g t (goal.at.structure::take-returns-in_err-fields-clause-overflow g t c).After-values) some
 
 pub structure::take-new-requires : goal.structure::take-new-requires
 structure::take-new-requires g t c =
-    let p = c.args.values.now in
-    let columns = c.values.result.now in
-    let indices = rows_by (map g.I.NativeType.slot) c.args.indices.now in
-    let kind = type_of_structs (physical_type_of p.arrow_type) c.data_type.ensures.kind in
-    let held : IsStruct p = record { kind = (c.data_type.ensures.carried, kind); children = c.values.ensures.fields; some = c.values.ensures.some; fits = (c.values.ensures.lengths, c.validity.ensures.fits) } in
-    let none = null_slot-no_union p.arrow_type (λ is. no_both kind is) in
-    let valid : rows_by (map g.I.NativeType.slot) c.in_ok-valid.valid ≡ map (valid_index p.validity) indices = c.in_ok-valid.ensures.ok ∙ ap (λ v. map (valid_index v) indices) c.validity-2.ensures.same in
-    let marks = subst (λ v. MarksTaken v indices c.in_ok-validity.validity) c.validity.ensures.same c.in_ok-validity.ensures.ok in
-    let are = c.in_ok-fields.ensures.rows ∙ ap (λ is. map (taken_rows is) columns) valid in
-    let same : type_of c.in_ok-data_type.data_type ≡ p.arrow_type = search rules in
-    let types : map type_of_layout (map layout_of c.in_ok-fields.fields.items) ≡ field_types p.arrow_type = map-map type_of_layout layout_of c.in_ok-fields.fields.items ∙ (c.in_ok-fields.ensures.types ∙ (sym (map-map type_of_layout layout_of columns) ∙ (ap (map type_of_layout) c.values.ensures.same ∙ held.children))) in
-    let fits : FitsColumns (map layout_of c.in_ok-fields.fields.items) c.in_ok-validity.validity = taken_fits p columns held c.values.ensures.same none indices c.requires.inside c.in_ok-fields.fields.items c.in_ok-validity.validity are marks in
-    (rw same held.kind, rw same types, fits)
+    let takes = known g t (goal.at.structure::take-new-requires g t c).After-values in
+    let same : type_of c.in_ok-data_type.data_type ≡ c.args.values.now.arrow_type = search rules in
+    let types : map type_of_layout (map layout_of c.in_ok-fields.fields.items) ≡ field_types c.args.values.now.arrow_type = map-map type_of_layout layout_of c.in_ok-fields.fields.items ∙ (c.in_ok-fields.ensures.types ∙ (sym (map-map type_of_layout layout_of c.values.result.now) ∙ (ap (map type_of_layout) takes.children ∙ takes.held.children))) in
+    (rw same takes.held.kind, rw same types, taken_columns_fit takes c.in_ok-fields.fields.items c.in_ok-fields.ensures.rows)
 
 pub structure::take-returns-clause-rows : goal.structure::take-returns-clause-rows
 structure::take-returns-clause-rows g t c =
-    let p = c.args.values.now in
-    let columns = c.values.result.now in
-    let indices = rows_by (map g.I.NativeType.slot) c.args.indices.now in
-    let kind = type_of_structs (physical_type_of p.arrow_type) c.data_type.ensures.kind in
-    let held : IsStruct p = record { kind = (c.data_type.ensures.carried, kind); children = c.values.ensures.fields; some = c.values.ensures.some; fits = (c.values.ensures.lengths, c.validity.ensures.fits) } in
-    let none = null_slot-no_union p.arrow_type (λ is. no_both kind is) in
-    let valid : rows_by (map g.I.NativeType.slot) c.in_ok-valid.valid ≡ map (valid_index p.validity) indices = c.in_ok-valid.ensures.ok ∙ ap (λ v. map (valid_index v) indices) c.validity-2.ensures.same in
-    let marks = subst (λ v. MarksTaken v indices c.in_ok-validity.validity) c.validity.ensures.same c.in_ok-validity.ensures.ok in
-    let are = c.in_ok-fields.ensures.rows ∙ ap (λ is. map (taken_rows is) columns) valid in
-    ap struct_rows c.new.ensures ∙ fields_taken p columns held c.values.ensures.same none indices c.requires.inside c.in_ok-fields.fields.items c.in_ok-validity.validity are marks
+    let takes = known g t (goal.at.structure::take-returns-clause-rows g t c).After-values in
+    ap struct_rows c.new.ensures ∙ struct_taken takes c.in_ok-fields.fields.items c.in_ok-fields.ensures.rows
 
 pub structure::take-returns-clause-fits : goal.structure::take-returns-clause-fits
 structure::take-returns-clause-fits g t c =
     let p = c.args.values.now in
-    let columns = c.values.result.now in
-    let indices = rows_by (map g.I.NativeType.slot) c.args.indices.now in
-    let kind = type_of_structs (physical_type_of p.arrow_type) c.data_type.ensures.kind in
-    let held : IsStruct p = record { kind = (c.data_type.ensures.carried, kind); children = c.values.ensures.fields; some = c.values.ensures.some; fits = (c.values.ensures.lengths, c.validity.ensures.fits) } in
-    let none = null_slot-no_union p.arrow_type (λ is. no_both kind is) in
-    let valid : rows_by (map g.I.NativeType.slot) c.in_ok-valid.valid ≡ map (valid_index p.validity) indices = c.in_ok-valid.ensures.ok ∙ ap (λ v. map (valid_index v) indices) c.validity-2.ensures.same in
     let same : c.new.result.arrow_type ≡ p.arrow_type = search rules in
-    let fits = subst (λ is. All (λ a. Fits (any_array_type a) (taken_rows is a)) columns) valid c.in_ok-fields.ensures.fits in
-    let fit = fields_fit p columns held c.values.ensures.same none indices c.requires.inside (omega (arith, c.len.ensures.rows)) fits in
+    let fit = struct_fits (known g t (goal.at.structure::take-returns-clause-fits g t c).After-values) (omega (arith, c.len.ensures.rows)) c.in_ok-fields.ensures.fits in
     subst (λ u. Fits u (struct_rows c.new.result)) (sym same) (subst (Fits p.arrow_type) (sym (structure::take-returns-clause-rows g t c)) fit)
 
 -- unions
@@ -171,21 +153,18 @@ pub union::take_field-returns-in_err-taken-clause-overflow :
     goal.union::take_field-returns-in_err-taken-clause-overflow
 union::take_field-returns-in_err-taken-clause-overflow g t c overflows =
     let over = c.in_err-taken.ensures.overflow (ap Err (passed_on c.from_residual-in_err-taken.result _ _ c.from_residual-in_err-taken.ensures.1 overflows)) in
-    part_passes c.args.values.now (rows_by (map g.I.NativeType.slot) c.args.indices.now) c.args.f _ _ c.in_ok-child.ensures.ok over
+    part_passes c.in_ok-child.ensures.ok over
 
 pub union::take_field-returns-clause-part : goal.union::take_field-returns-clause-part
 union::take_field-returns-clause-part g t c =
     let given = c.in_ok-taken.ensures in
-    part_taken c.args.values.now (rows_by (map g.I.NativeType.slot) c.args.indices.now) c.args.f _ _ c.in_ok-child.ensures.ok c.in_ok-taken.taken given.array_type given.rows given.fits
+    let names = c.in_ok-child.ensures.ok in
+    record { array_type = given.array_type ∙ names.array_type; rows = given.rows ∙ names.rows; fits = given.fits }
 
 pub union::take_fields-loop-f-init : goal.union::take_fields-loop-f-init
 union::take_fields-loop-f-init g t c =
-    let p = c.args.values.now in
-    let indices = rows_by (map g.I.NativeType.slot) c.args.indices.now in
-    record {
-      count = ap length c.in_ok-fields.ensures.items;
-      parts = no_parts p.arrow_type (gather (union_rows p) indices p.arrow_type) _ c.in_ok-fields.ensures.items;
-    }
+    let none = ap length c.in_ok-fields.ensures.items in
+    record { count = none; parts = λ f d within. absurd (omega (arith, within, none)) }
 
 pub union::take_fields-take_field-requires : goal.union::take_fields-take_field-requires
 union::take_fields-take_field-requires g t c κs within =
@@ -220,62 +199,50 @@ union::take_fields-returns-clause-count g t c =
     let fields = c.fields-count.result.now in
     omega (arith, c.loop-f.invariant.count, c.loop-f-test.false, length-map fields layout_of, ap length c.fields-count.ensures.same, ap length c.fields-count.ensures.fields, length-map p.children type_of_layout)
 
+-- what is known of a union, once there are the type ids of the rows
+takes : (g : given.Over) (t : ℕ) (c : union::take_parts-In_ok-types g t) → TakesUnion c.args.values.now (rows_by (map g.I.NativeType.slot) c.args.indices.now) c.in_ok-types.types.items
+takes g t c =
+    record { held = c.requires.union; keys = c.requires.inside; types_are = c.in_ok-types.ensures.ok }
+
 pub union::take_parts-take_offsets-requires : goal.union::take_parts-take_offsets-requires
 union::take_parts-take_offsets-requires g t c =
-    let p = c.args.values.now in
-    let slot = g.I.NativeType.slot in
-    let indices = rows_by (map slot) c.args.indices.now in
-    record { ids = subst (All IsTypeId) (sym c.deref.ensures.value) (ids_counted p c.requires.union indices c.requires.inside c.in_ok-types.types.items c.in_ok-types.ensures.ok (option_map (rows_by (map slot)) c.in_ok-places.places) c.in_ok-places.ensures.ok) }
+    record { ids = subst (All IsTypeId) (sym c.deref.ensures.value) (ids_counted (takes g t (goal.at.union::take_parts-take_offsets-requires g t c).In_ok-types)) }
 
 pub union::take_parts-take_fields-requires : goal.union::take_parts-take_fields-requires
 union::take_parts-take_fields-requires g t c κs within =
-    let p = c.args.values.now in
     let slot = g.I.NativeType.slot in
-    let indices = rows_by (map slot) c.args.indices.now in
-    let are = subst (λ o. ArePlaces p indices (option_map (rows_by (map slot)) o)) (sym c.as_ref.ensures.value) c.in_ok-places.ensures.ok in
+    let are = subst (λ o. ArePlaces c.args.values.now (rows_by (map slot) c.args.indices.now) (option_map (rows_by (map slot)) o)) (sym c.as_ref.ensures.value) c.in_ok-places.ensures.ok in
     (omega (arith, c.decreases), (within, (c.requires.union, (c.requires.inside, (c.deref-2.ensures.value ∙ c.in_ok-types.ensures.ok, are)))))
 
 pub union::take_parts-returns-in_err-offsets : goal.union::take_parts-returns-in_err-offsets
 union::take_parts-returns-in_err-offsets g t c =
-    let p = c.args.values.now in
-    let slot = g.I.NativeType.slot in
-    let indices = rows_by (map slot) c.args.indices.now in
-    let types : c.deref.result.now ≡ c.in_ok-types.types.items = c.deref.ensures.value in
-    record { answer = passes_on _ _ _ _ _ _ c.from_residual-in_err-offsets.ensures.1 (λ same. union_passes p c.requires.union indices c.requires.inside c.in_ok-types.types.items c.in_ok-types.ensures.ok (option_map (rows_by (map slot)) c.in_ok-places.places) c.in_ok-places.ensures.ok (subst (λ ids. (mode_in p.arrow_type ≡ Dense) × SomeRankPasses ids) types (c.in_err-offsets.ensures.overflow (ap Err same)))) c.in_err-offsets.ensures.others }
+    let known = known_rows (takes g t (goal.at.union::take_parts-returns-in_err-offsets g t c).In_ok-types) in
+    let over = subst (λ ids. (mode_in c.args.values.now.arrow_type ≡ Dense) × SomeRankPasses ids) c.deref.ensures.value in
+    record { answer = passes_on _ _ _ _ _ _ c.from_residual-in_err-offsets.ensures.1 (λ same. (let passes = over (c.in_err-offsets.ensures.overflow (ap Err same)) in ranks_pass known passes.0 passes.1)) c.in_err-offsets.ensures.others }
 
 pub union::take_parts-returns-in_err-fields : goal.union::take_parts-returns-in_err-fields
 union::take_parts-returns-in_err-fields g t c =
+    let known = known_rows (takes g t (goal.at.union::take_parts-returns-in_err-fields g t c).In_ok-types) in
+    record { answer = passes_on _ _ _ _ _ _ c.from_residual-in_err-fields.ensures.1 (λ same. parts_pass known (c.in_err-fields.ensures.overflow (ap Err same))) c.in_err-fields.ensures.others }
+
+-- the union that is made
+made : (g : given.Over) (t : ℕ) (c : union::take_parts-In_ok-data_type g t) → MakesUnion c.args.values.now.arrow_type (gather (union_rows c.args.values.now) (rows_by (map g.I.NativeType.slot) c.args.indices.now) c.args.values.now.arrow_type) c.in_ok-types-2.types c.in_ok-offsets.offsets c.in_ok-fields.fields.items
+made g t c =
     let p = c.args.values.now in
     let indices = rows_by (map g.I.NativeType.slot) c.args.indices.now in
-    record { answer = passes_on _ _ _ _ _ _ c.from_residual-in_err-fields.ensures.1 (λ same. parts_pass p c.requires.union indices c.requires.inside c.in_ok-types.types.items c.in_ok-types.ensures.ok (c.in_err-fields.ensures.overflow (ap Err same))) c.in_err-fields.ensures.others }
+    let takes : TakesUnion p indices c.in_ok-types-2.types = record { held = c.requires.union; keys = c.requires.inside; types_are = c.in_ok-types-2.ensures.ok ∙ c.in_ok-types.ensures.ok } in
+    let parts : PartsOf p.arrow_type (gather (union_rows p) indices p.arrow_type) c.in_ok-types-2.types c.in_ok-fields.fields.items = record { known = known_rows takes; count = c.in_ok-fields.ensures.count; have = c.in_ok-fields.ensures.parts } in
+    let offsets = subst (λ zs. HasOffsets (mode_in p.arrow_type) zs c.in_ok-offsets.offsets) (c.deref.ensures.value ∙ sym c.in_ok-types-2.ensures.ok) c.in_ok-offsets.ensures.ok in
+    union_made parts (omega (arith, c.len.ensures.rows, length-gather (union_rows p) indices p.arrow_type)) (mode_in p.arrow_type) c.in_ok-offsets.offsets refl offsets
 
 pub union::take_parts-new-requires : goal.union::take_parts-new-requires
 union::take_parts-new-requires g t c =
-    let p = c.args.values.now in
-    let slot = g.I.NativeType.slot in
-    let indices = rows_by (map slot) c.args.indices.now in
-    let made = gather (union_rows p) indices p.arrow_type in
-    let arrays = c.in_ok-fields.fields.items in
-    let ids = c.in_ok-types-2.types in
-    let types : ids ≡ map (taken_id p) indices = c.in_ok-types-2.ensures.ok ∙ c.in_ok-types.ensures.ok in
-    let same : type_of c.in_ok-data_type.data_type ≡ p.arrow_type = search rules in
-    let counted : length made < 2 ^ 64 = omega (arith, c.len.ensures.rows, length-gather (union_rows p) indices p.arrow_type) in
-    let offsets = subst (λ zs. HasOffsets (mode_in p.arrow_type) zs c.in_ok-offsets.offsets) (c.deref.ensures.value ∙ sym c.in_ok-types-2.ensures.ok) c.in_ok-offsets.ensures.ok in
-    let makes = union_made p c.requires.union indices c.requires.inside ids types arrays c.in_ok-fields.ensures.count c.in_ok-fields.ensures.parts counted (option_map (rows_by (map slot)) c.in_ok-places.places) c.in_ok-places.ensures.ok c.in_ok-offsets.offsets offsets in
-    subst (λ u. HoldsUnion u ids (map layout_of arrays) c.in_ok-offsets.offsets) (sym same) makes.holds
+    let same : type_of c.in_ok-data_type.data_type ≡ c.args.values.now.arrow_type = search rules in
+    subst (λ u. HoldsUnion u c.in_ok-types-2.types (map layout_of c.in_ok-fields.fields.items) c.in_ok-offsets.offsets) (sym same) (made g t (goal.at.union::take_parts-new-requires g t c).In_ok-data_type).holds
 
 pub union::take_parts-returns : goal.union::take_parts-returns
 union::take_parts-returns g t c =
-    let p = c.args.values.now in
-    let slot = g.I.NativeType.slot in
-    let indices = rows_by (map slot) c.args.indices.now in
-    let made = gather (union_rows p) indices p.arrow_type in
-    let arrays = c.in_ok-fields.fields.items in
-    let ids = c.in_ok-types-2.types in
-    let types : ids ≡ map (taken_id p) indices = c.in_ok-types-2.ensures.ok ∙ c.in_ok-types.ensures.ok in
-    let same : type_of c.in_ok-data_type.data_type ≡ p.arrow_type = search rules in
-    let counted : length made < 2 ^ 64 = omega (arith, c.len.ensures.rows, length-gather (union_rows p) indices p.arrow_type) in
-    let offsets = subst (λ zs. HasOffsets (mode_in p.arrow_type) zs c.in_ok-offsets.offsets) (c.deref.ensures.value ∙ sym c.in_ok-types-2.ensures.ok) c.in_ok-offsets.ensures.ok in
-    let makes = union_made p c.requires.union indices c.requires.inside ids types arrays c.in_ok-fields.ensures.count c.in_ok-fields.ensures.parts counted (option_map (rows_by (map slot)) c.in_ok-places.places) c.in_ok-places.ensures.ok c.in_ok-offsets.offsets offsets in
-    let are : union_rows c.new.result ≡ made = ap union_rows c.new.ensures ∙ ((λ i. union_rows (record { arrow_type = same i; types = ids; child_rows = child_rows_of c.in_ok-offsets.offsets; start = 0; children = map layout_of arrays })) ∙ makes.rows) in
-    record { answer = record { ok = record { array_type = ap (λ q. q.arrow_type) c.new.ensures ∙ same; rows = are; fits = makes.fits }; overflow = λ is. cc; others = tt } }
+    let same : type_of c.in_ok-data_type.data_type ≡ c.args.values.now.arrow_type = search rules in
+    let makes = made g t (goal.at.union::take_parts-returns g t c).In_ok-data_type in
+    let rows = ap union_rows c.new.ensures ∙ ((λ i. union_rows (record { arrow_type = same i; types = c.in_ok-types-2.types; child_rows = child_rows_of c.in_ok-offsets.offsets; start = 0; children = map layout_of c.in_ok-fields.fields.items })) ∙ makes.rows) in
+    record { answer = record { ok = record { array_type = ap (λ q. q.arrow_type) c.new.ensures ∙ same; rows = rows; fits = makes.fits }; overflow = λ is. cc; others = tt } }

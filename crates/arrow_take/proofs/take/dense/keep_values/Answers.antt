@@ -1,4 +1,4 @@
-use Rattle.arrow_take.proofs.Common.{◌≡◌, ◌+◌, ◌<◌, ◌∙◌, arith, ap, get_or, length, of_z, set, sym, take, to_z, w8, cond, int_eq, get_or-map, length-map, length-set, have_id}
+use Rattle.arrow_take.proofs.Common.{◌≡◌, ◌+◌, ◌<◌, ◌∙◌, arith, ap, get_or, length, of_z, set, sym, take, to_z, w8, bool_byte, cond, int_eq, get_or-map, length-map, length-set, have_id}
 use Rattle.arrow_take.proofs.KeptLemmas.{byte_of, kept-more, kept_written, one_more}
 use Rattle.arrow_take.proofs.take.dense.keep_values.Goals as goal
 
@@ -12,7 +12,7 @@ loop-row-preserved g c =
     let b = int_eq id (get_or types i id) in
     let typed : i < length types = omega (arith, c.loop-row-test.true, c.requires.lengths) in
     let room : c.loop-row.count < length c.loop-row.own.items = omega (arith, c.loop-row-test.true, c.loop-row.invariant.within, c.loop-row.invariant.long) in
-    let counted : c.from-count.result ≡ cond b 1 0 = c.from-count.ensures ∙ byte_of c.has_id.result b c.has_id.ensures in
+    let counted : c.from-count.result ≡ cond b 1 0 = c.from-count.ensures ∙ (ap bool_byte c.has_id.ensures ∙ byte_of b) in
     let written = kept_written b c.loop-row.own.items _ c.loop-row.count x room c.loop-row.invariant.items in
     let more = kept-more (have_id id types) values i b x (omega (arith, typed, length-map types (int_eq id))) c.loop-row-test.true (get_or-map (int_eq id) types i id b typed) (sym c.index-values-row.is) in
     record {

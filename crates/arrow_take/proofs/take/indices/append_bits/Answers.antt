@@ -1,4 +1,4 @@
-use Rattle.arrow_take.proofs.Common.{◌≡◌, ◌+◌, ◌*◌, ◌/◌, ◌++◌, ◌∙◌, arith, ap, length, map, take, take-add, sym, option_copied, map-append, take_all, masked, sliced, named_bit}
+use Rattle.arrow_take.proofs.Common.{◌≡◌, ◌*◌, ◌/◌, ◌++◌, ◌∙◌, arith, ap, map, take, take-add, sym, option_copied, map-append, take_all, masked, sliced, named_bit}
 use Rattle.arrow_take.proofs.IndexLemmas.{length-masked_slots}
 use Rattle.arrow_take.proofs.take.indices.append_bits.Goals as goal
 
