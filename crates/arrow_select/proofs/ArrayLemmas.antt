@@ -1,6 +1,5 @@
 -- Arrays that are given together: the type of each, and the rows of all.
-use Rattle.arrow_select.proofs.Common.{arith, ◌≡◌, ℕ, ◌<◌, List, [], ◌∷◌, Some, length, map, ap, sym, subst, ◌∙◌, slice_get, Contains, get_or-map, length-map, get_or_from_slice_get, ArrowType, Layout, type_of_layout, AreOfOneType, first_type}
-use Rattle.std.specs.List.{All}
+use Rattle.arrow_select.proofs.Common.{arith, ◌≡◌, ℕ, ◌<◌, List, [], ◌∷◌, Some, length, map, ap, sym, subst, ◌∙◌, slice_get, Contains, get_or-map, length-map, get_or_from_slice_get, ArrowType, Layout, type_of_layout, AreOfOneType, first_type, All}
 
 pub Contains-read : {A : Type 0} (xs : List A) (i : ℕ) (x : A) → slice_get xs i ≡ Some x → i < length xs → Contains xs x
 Contains-read xs i x read within = (i, within, get_or_from_slice_get xs i x x read)

@@ -1,18 +1,12 @@
 -- The shortest ranges of a mask behind another one: those of both, with two that touch made one.
-use Rattle.arrow_select.proofs.Common.{arith, ◌≡◌, ◌∙◌, ℕ, zero, suc, ◌+◌, ◌<◌, ◌≤◌, Bool, true, false, Some, None, List, [], ◌∷◌, ◌++◌, length, map, if◌then◌else◌, refl, ap, sym, append_assoc, ◌==◌, nat_tests, append-nil, length-append, length-map, map-append, All-cons, All-head, All-map, All-nil, All-tail, All-weaker, IsShortest, named, rows_from, true_rows, met, moved_ranges, with_range, IsRangesOf, cuts, cuts_on, goes_on, least, named_on_side, on_side, plain_shortest, shortest}
-use Rattle.std.specs.List.{All}
+use Rattle.arrow_select.proofs.Common.{arith, ◌≡◌, ◌∙◌, ℕ, zero, suc, ◌+◌, ◌<◌, ◌≤◌, Bool, true, false, Some, None, List, [], ◌∷◌, ◌++◌, length, map, if◌then◌else◌, refl, ap, sym, append_assoc, ◌==◌, nat_tests, append-nil, length-append, length-map, map-append, All-cons, All-head, All-map, All-nil, All-tail, All-weaker, IsShortest, named, rows_from, true_rows, met, moved_ranges, with_range, IsRangesOf, cuts, cuts_on, goes_on, least, named_on_side, on_side, plain_shortest, shortest, All, range-add, Decides-eqb, Decides-like, same_from_decides}
+use Rattle.arrow_select.proofs.RangedLemmas.{rows_range}
 
 -- ---- the rows that are named
 
 rows_more : (i n m : ℕ) → rows_from i (n + m) ≡ rows_from i n ++ rows_from (i + n) m
-rows_more i zero m =
-    let all : 0 + m ≡ m = omega arith in
-    let none : i ≡ i + 0 = omega arith in
-    ap (rows_from i) all ∙ ap (λ k. rows_from k m) none
-rows_more i (suc n) m =
-    let at : suc i + n ≡ i + suc n = omega arith in
-    let all : suc n + m ≡ suc (n + m) = omega arith in
-    ap (rows_from i) all ∙ ap (λ rows. i ∷ rows) (rows_more (suc i) n m ∙ ap (λ k. rows_from (suc i) n ++ rows_from k m) at)
+rows_more i n m =
+    rows_range i (n + m) ∙ (range-add i n m ∙ (λ t. sym (rows_range i n) t ++ sym (rows_range (i + n) m) t))
 
 named_with : (r : ℕ × ℕ) (qs : List (ℕ × ℕ)) → named (with_range r qs) ≡ rows_from r.0 r.1 ++ named qs
 named_with r [] = refl
@@ -151,18 +145,7 @@ tight_shortest rs tight =
 -- rows further on have as many cuts
 same_step : (k i j : ℕ) → goes_on (Some (0, k + i)) (0, k + j) ≡ goes_on (Some (0, i)) (0, j)
 same_step k i j =
-    let both : (b : Bool) → (suc i == j) ≡ b → goes_on (Some (0, k + i)) (0, k + j) ≡ b = elim [
-      | true ↦ λ is.
-          let at : suc i ≡ j = grind (arith, nat_tests, is) in
-          grind (arith, nat_tests, at)
-      | false ↦ λ is.
-          let off : suc (k + i) ≡ k + j → ⊥ = λ at.
-          let here : suc i ≡ j = omega (arith, at) in
-          grind (arith, nat_tests, is, here)
-          in
-          grind (arith, nat_tests, off)
-    ] in
-    both (suc i == j) refl
+    same_from_decides (suc (k + i) == k + j) (suc i == j) (Decides-eqb (suc (k + i)) (k + j)) (Decides-like (suc i == j) (λ (at : suc i ≡ j). omega (arith, at)) (λ (at : suc (k + i) ≡ k + j). omega (arith, at)) (Decides-eqb (suc i) j))
 
 cuts_moved : (k i : ℕ) (rows : List ℕ) → cuts (Some (0, k + i)) (sided (map (λ row. k + row) rows)) ≡ cuts (Some (0, i)) (sided rows)
 cuts_moved k i [] = refl

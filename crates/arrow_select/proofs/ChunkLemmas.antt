@@ -1,6 +1,5 @@
 -- Columns of one length, each by the same mask.
-use Rattle.arrow_select.proofs.Common.{arith, ◌≡◌, ◌+◌, ℕ, ◌<◌, Bool, List, [], ◌∷◌, ◌++◌, length, map, take, get_or, ap, sym, subst, ◌∙◌, count_by, get_or-map, length-map, map-append, All-map, get_or_from_slice_get, slice_get_within, Fits, take_at_read, length-select, any_array_rows, layout_of, Layout, rows, type_of_layout, AreColumns, HaveRows, AnyArray, slice_get-map_read, FirstDoesNotFit, selected_rows}
-use Rattle.std.specs.List.{All}
+use Rattle.arrow_select.proofs.Common.{arith, ◌≡◌, ◌+◌, ℕ, ◌<◌, Bool, List, [], ◌∷◌, ◌++◌, length, map, take, get_or, ap, sym, subst, ◌∙◌, count_by, get_or-map, length-map, map-append, All-map, get_or_from_slice_get, slice_get_within, Fits, take_at_read, length-select, any_array_rows, layout_of, Layout, rows, type_of_layout, AreColumns, HaveRows, AnyArray, slice_get-map_read, FirstDoesNotFit, selected_rows, All}
 
 -- each has so many rows, where all do
 pub column_long : (n : ℕ) (columns : List AnyArray) (i : ℕ) (item : AnyArray) → HaveRows n (map layout_of columns) → i < length columns → item ≡ get_or columns i item → n ≡ length (any_array_rows item)

@@ -1,16 +1,16 @@
 -- The names that many proofs cite, passed on from one place: of the standard library, and of the words of clauses. Declares nothing.
-pub use Rattle.std.proofs.Common.{All, Bool, Bor, Err, IfErr, IfOk, List, None, Ok, Option, Result, Some, [], ap, append_assoc, arith, bit_and, bit_or, cond, drop, drop-cons, false, flat_map, get_or, if◌then◌else◌, inl, inr, length, map, max, min, negsuc, of_z, pos, refl, replicate, rules, slice_index, subst, suc, sum_by, sym, take, to_z, true, unsigned_abs, w64, w8, zero, ℕ, ℤ, ◌%◌, ◌*◌, ◌++◌, ◌+◌, ◌-◌, ◌/◌, ◌<ℤ◌, ◌<◌, ◌^◌, ◌↔◌, ◌∙◌, ◌∷◌, ◌≡◌, ◌≤◌}
+pub use Rattle.std.proofs.Common.{All, Bool, Bor, Contains, Err, IfErr, IfOk, IfSome, List, None, Ok, OnOk, Option, Result, Some, [], ap, append_assoc, arith, bit_and, bit_or, cond, count_by, count_ones, drop, drop-cons, false, flat_map, get_or, if◌then◌else◌, inl, inr, int_eq, length, map, max, min, nat_eq, negsuc, of_z, option_copied, option_map, pos, refl, replicate, rules, slice_get, slice_index, slice_index_or, subst, suc, sum, sum_by, sym, take, to_z, true, unsigned_abs, unwrap_or, vec_capacity, vec_len, w64, w8, zero, ℕ, ℤ, ◌%◌, ◌*◌, ◌++◌, ◌+◌, ◌-◌, ◌/◌, ◌<ℤ◌, ◌<◌, ◌==◌, ◌^◌, ◌↔◌, ◌∙◌, ◌∷◌, ◌≡◌, ◌≤◌}
 pub use Rattle.std.proofs.Math.Nat.{add-mul, mod-eq_of_lt, mul-div_cancel, mul-le-mul_left, mul-mod_left, mul_comm, pow-le-pow_right}
-pub use Rattle.std.proofs.Math.Seq.{get_or-append_seam, take-append-add, take-suc}
+pub use Rattle.std.proofs.Math.Seq.{take-append-add, take-suc}
 pub use Rattle.std.proofs.lemmas.Bool.{cases_lt}
-pub use Rattle.std.proofs.lemmas.Bool.Decides.{nat_tests}
+pub use Rattle.std.proofs.lemmas.Bool.Decides.{Decides-eqb, Decides-like, nat_tests, same_from_decides}
 pub use Rattle.std.proofs.lemmas.Grind.{flat_map-append}
 pub use Rattle.std.proofs.lemmas.Int.{ints, to_z-of_z}
-pub use Rattle.std.proofs.lemmas.List.{append-nil, drop-append-le, drop-drop, drop_all, drop_at, get_or-drop, get_or-map, get_or-take, get_or_past, length-append, length-drop, length-map, length-replicate, length-take, map-append, replicate-append-replicate, same_lists, take-append-drop, take-take, take_all, take_at, take_min}
+pub use Rattle.std.proofs.lemmas.List.{append-nil, drop-append-le, drop-drop, drop_all, drop_at, get_or-map, get_or_past, length-append, length-drop, length-map, length-replicate, length-take, map-append, replicate-append-replicate, take-append-drop, take-take, take_all, take_at, take_min}
 pub use Rattle.std.proofs.lemmas.List.Concat.{flat_map-cons}
 pub use Rattle.std.proofs.lemmas.List.Elements.{All-append, All-cons, All-head, All-map, All-more, All-nil, All-push, All-same, All-tail, All-weaker}
-pub use Rattle.std.proofs.lemmas.List.Folds.{concat-append}
-pub use Rattle.std.proofs.lemmas.List.FromFn.{get_or-map-range_with_len, length-map-range_with_len}
+pub use Rattle.std.proofs.lemmas.List.Folds.{concat-append, length-flat_map-take}
+pub use Rattle.std.proofs.lemmas.List.FromFn.{get_or-map-range_with_len}
 pub use Rattle.std.proofs.lemmas.List.Sums.{count_by-le-length, sum-map, sum_by-append, sum_by-cons}
 pub use Rattle.std.proofs.lemmas.Nat.{and_le_l, and_le_r, ones_le_self, or_lt}
 pub use Rattle.std.proofs.lemmas.Nat.Bits.{bit_at-lt, bit_at-suc, bit_at-trailing_ones, bit_at-trailing_zeros, bit_at-zero, bit_at_above, bit_at_and, bit_at_lowest, bit_at_ones, bit_at_or, shr_and_one}
@@ -20,9 +20,6 @@ pub use Rattle.std.proofs.lemmas.Simd.{map-map, mask_l-lt}
 pub use Rattle.std.specs.Int.{bit_at, bit_not, from_bool, trailing_ones, trailing_zeros}
 pub use Rattle.std.specs.Int.Count.{trailing_of_zero}
 pub use Rattle.std.specs.List.{concat, range_with_len}
-pub use Rattle.std.specs.Ordering.{int_eq}
-pub use Rattle.std.specs.Prelude.{Contains, IfSome, OnOk, count_by, count_ones, nat_eq, option_copied, option_map, slice_get, slice_index_or, sum, unwrap_or, ◌==◌}
-pub use Rattle.std.specs.Vec.{vec_capacity, vec_len}
 pub use Rattle.arrow_arrays.proofs.ColumnLemmas.{only_memory}
 pub use Rattle.arrow_arrays.proofs.FaultLemmas.{failed}
 pub use Rattle.arrow_arrays.proofs.KeyLemmas.{each_key}
@@ -46,7 +43,6 @@ pub use Rattle.arrow_choice.proofs.RangeLemmas.{NamesUpTo, all_named, all_shorte
 pub use Rattle.arrow_choice.specs.Keys.{HasNoDictionary}
 pub use Rattle.arrow_flat.proofs.PartsLemmas.{length-masked}
 pub use Rattle.arrow_flat.proofs.PieceLemmas.{length-byte_slots, length-pieces, piece_at}
-pub use Rattle.arrow_flat.specs.AnyPrimitive.{any_type}
 pub use Rattle.arrow_flat.specs.ByteRows.{byte_slots, row_bytes}
 pub use Rattle.arrow_flat.specs.Faults.{IsCarriedAs}
 pub use Rattle.arrow_flat.specs.Parts.{FitsRows, IsValue, boolean_rows, rows_by}
@@ -82,7 +78,7 @@ pub use Rattle.arrow_memory.proofs.BitmapLemmas.{count_by-not}
 pub use Rattle.arrow_memory.proofs.OffsetLemmas.{at_most_last, offsets_rise}
 pub use Rattle.arrow_memory.proofs.RunLemmas.{AreAlike, alike_are}
 pub use Rattle.arrow_memory.proofs.SlicedLemmas.{length-sliced}
-pub use Rattle.arrow_memory.proofs.WordLemmas.{count_ones-word_of, length-low_bits, word_of-low_bits}
+pub use Rattle.arrow_memory.proofs.WordLemmas.{count_ones-word_of, length-low_bits, range-add, word_of-low_bits, low_bits_add}
 pub use Rattle.arrow_memory.specs.Bits.{both_bits}
 pub use Rattle.arrow_memory.specs.Ends.{ends_from}
 pub use Rattle.arrow_memory.specs.Grown.{IsGrowthError}
@@ -90,7 +86,7 @@ pub use Rattle.arrow_memory.specs.Offsets.{IsOffsets, last_of}
 pub use Rattle.arrow_memory.specs.Sliced.{sliced}
 pub use Rattle.arrow_memory.specs.Words.{low_bits, set_count, word_of}
 pub use Rattle.arrow_select.specs.Arrays.{rows_in, types_in}
-pub use Rattle.arrow_select.specs.Batches.{AreIndicesByBatch, chosen_by_batch, kept_by_batch, met, moved_by_batch, moved_index, moved_ranges, predicates_in, shifted_by_edge, taken_by_batch, with_range}
+pub use Rattle.arrow_select.specs.Batches.{AreIndicesByBatch, chosen_by_batch, kept_by_batch, met, moved_by_batch, moved_index, moved_ranges, shifted_by_edge, taken_by_batch, with_range}
 pub use Rattle.arrow_select.specs.Extended.{HasRowsAt, RefusesRange, extended, kept_among, ranged_among, with_kept, with_ranges}
 pub use Rattle.arrow_select.specs.Growing.{between}
 pub use Rattle.arrow_select.specs.Laws.{CanTakeByFields, IsStructOrUnion, RowsFit, dense_nulls, dense_rows, kept_columns, places_from, true_places}
@@ -108,7 +104,7 @@ pub use Rattle.arrow_take.specs.Spans.{IsSpanWithin, spanned}
 pub use Rattle.arrow_take.specs.SparseUnions.{HasPart, HaveParts, taken_id}
 pub use Rattle.arrow_take.specs.Taken.{AreIndices, AreTaken, CanTake, MarksTaken, is_taken_valid, named_bit, taken_rows, valid_index}
 pub use Rattle.arrow_types.proofs.FitsLemmas.{Fits-beginning, Fits-nil}
-pub use Rattle.arrow_types.proofs.RowsLemmas.{drop_at_read, select-nil, take_at_read}
+pub use Rattle.arrow_types.proofs.RowsLemmas.{drop_at_read, take_at_read}
 pub use Rattle.arrow_types.proofs.SelectLemmas.{chosen-append, gather-append, length-select, select-append}
 pub use Rattle.arrow_types.proofs.SlotLemmas.{from_slots-to_slots, null_slot-no_union}
 pub use Rattle.arrow_types.specs.ArrowType.{ArrowFields, ArrowType, ListForm, PlainType, binary, dictionary, extension, field, fixed_size, fixed_size_binary, from_fields, large, large_binary, large_utf8, list, mapped, more_fields, no_fields, null, plain, small, struct, type_in, union, utf8}
@@ -123,5 +119,5 @@ pub use Rattle.arrow_types.specs.TypeOf.{type_of}
 pub use Rattle.arrow_types.specs.declared.datatypes.UnionMode.TheVariants.{Dense, Sparse}
 pub use Rattle.arrow_types.specs.declared.datatypes.physical_type.PhysicalType.{PhysicalType}
 pub use Rattle.arrow_types.specs.declared.error.Error.{Error}
-pub use Rattle.arrow_types.specs.declared.error.Error.TheVariants.{Failed, InvalidArgumentError, NotYetImplemented, OutOfMemory, OutOfSpec, Overflow}
+pub use Rattle.arrow_types.specs.declared.error.Error.TheVariants.{Failed, OutOfMemory, Overflow}
 pub use mir.Val.{SFits}

@@ -1,29 +1,24 @@
 -- Rows of a bound array by ranges, which are those by the mask, and a growable that is extended by them, range after range.
-use Rattle.arrow_select.proofs.Common.{arith, ◌≡◌, ◌+◌, ◌<◌, ℕ, suc, Bool, true, Option, Some, None, List, [], ◌∷◌, ◌++◌, length, replicate, take, drop, drop-cons, get_or, Result, Err, refl, ap, sym, subst, ◌∙◌, length-append, replicate-append-replicate, take-append-drop, Error, Failed, Overflow, named, rows_from, true_rows, select, Slot, Null, sliced, Layout, rows, CannotHold, Grown, HasFailed, source_at, HasRowsAt, RefusesRange, extended, kept_among, ranged_among, with_kept, with_ranges, IsRangesOf}
-use Rattle.std.specs.Prelude.{flat_map}
+use Rattle.arrow_select.proofs.Common.{arith, ◌≡◌, ◌+◌, ◌<◌, ℕ, suc, Bool, true, Option, Some, None, List, [], ◌∷◌, ◌++◌, length, replicate, take, drop, drop-cons, get_or, Result, Err, refl, ap, sym, subst, ◌∙◌, length-append, replicate-append-replicate, take-append-drop, Error, Failed, Overflow, named, rows_from, true_rows, Null, Layout, rows, CannotHold, Grown, HasFailed, source_at, HasRowsAt, RefusesRange, extended, kept_among, ranged_among, with_kept, with_ranges, IsRangesOf, flat_map}
 use Rattle.arrow_select.proofs.FilterLemmas.{select_is}
 use Rattle.arrow_select.proofs.PlanLemmas.{length-true_rows}
 use Rattle.arrow_select.proofs.RangedLemmas.{length-rows_from, ranged_set}
 
 -- ---- rows by ranges
 
--- of a bound array they are those by the mask
-pub ranged_select : (ranges : List (ℕ × ℕ)) (mask : List Bool) (xs : List Slot) → named ranges ≡ true_rows 0 mask → length mask ≡ length xs → flat_map (λ (r : ℕ × ℕ). sliced xs r.0 r.1) ranges ≡ select mask xs
-ranged_select ranges mask xs names same =
-    ranged_set ranges mask xs names same ∙ sym (select_is mask xs)
-
--- and where no array is bound they are as many nulls
+-- where no array is bound they are as many nulls
 null_ranges : (ranges : List (ℕ × ℕ)) → flat_map (λ (r : ℕ × ℕ). replicate r.1 Null) ranges ≡ replicate (length (named ranges)) Null
 null_ranges [] = refl
 null_ranges (r ∷ ranges) =
     let long : r.1 + length (named ranges) ≡ length (named (r ∷ ranges)) = omega (arith, length-append (rows_from r.0 r.1) (named ranges), length-rows_from r.0 r.1) in
     ap (λ ys. replicate r.1 Null ++ ys) (null_ranges ranges) ∙ (replicate-append-replicate r.1 (length (named ranges)) Null ∙ ap (λ n. replicate n Null) long)
 
+-- and of a bound array they are those by the mask
 pub ranged_is_kept : (sources : Option (List Layout)) (i : ℕ) (ranges : List (ℕ × ℕ)) (mask : List Bool) → named ranges ≡ true_rows 0 mask → HasRowsAt sources i (length mask) → ranged_among sources i ranges ≡ kept_among sources i mask
 ranged_is_kept None i ranges mask names bound =
     null_ranges ranges ∙ ap (λ n. replicate n Null) (ap length names ∙ length-true_rows 0 mask)
 ranged_is_kept (Some layouts) i ranges mask names bound =
-    ranged_select ranges mask (rows (source_at layouts i)) names (sym bound.1)
+    ranged_set ranges mask (rows (source_at layouts i)) names (sym bound.1) ∙ sym (select_is mask (rows (source_at layouts i)))
 
 -- ---- a growable that is extended
 

@@ -1,10 +1,8 @@
 -- Items of fixed-size lists at which a mask of the rows is set, each bit for as many items, and the lists of those that are kept.
-use Rattle.arrow_select.proofs.Common.{arith, ◌≡◌, ◌*◌, ◌/◌, ◌%◌, ◌+◌, ◌<◌, ◌≤◌, ◌^◌, ℕ, zero, suc, Bool, true, false, Option, Some, None, List, [], ◌∷◌, ◌++◌, length, map, replicate, take, drop, refl, ap, sym, subst, ◌∙◌, option_map, slice_index_or, drop_at, length-append, length-drop, length-map, length-replicate, length-take, take-append-drop, take_at, flat_map-cons, add-mul, mul-div_cancel, mul-mod_left, mul_comm, ArrowType, null, plain, Fits, fixed_items_in, physical_type_of, mask, masked, select, Slot, Null, null_slot, from_slots-to_slots, FitsRows, length-chunks, chunks, length-masked, FitsItems, FixedListParts, fixed_list_rows, fixed_items, items_row, rows, item_type, list_size, shape_of, child_type, column_in, fits_sized, list_child_types, sized_column, nil_of, at_set, kept_rows_under}
-use Rattle.std.specs.List.{flat_map}
+use Rattle.arrow_select.proofs.Common.{arith, ◌≡◌, ◌*◌, ◌/◌, ◌%◌, ◌+◌, ◌<◌, ◌≤◌, ◌^◌, ℕ, zero, suc, Bool, true, false, Option, Some, None, List, [], ◌∷◌, ◌++◌, length, map, replicate, take, drop, refl, ap, sym, subst, ◌∙◌, option_map, slice_index_or, drop_at, length-append, length-drop, length-map, length-replicate, length-take, take-append-drop, take_at, flat_map-cons, add-mul, mul-div_cancel, mul-mod_left, mul_comm, ArrowType, null, plain, Fits, fixed_items_in, physical_type_of, mask, masked, select, Slot, Null, null_slot, from_slots-to_slots, FitsRows, length-chunks, chunks, length-masked, FitsItems, FixedListParts, fixed_list_rows, fixed_items, items_row, rows, item_type, list_size, shape_of, child_type, column_in, fits_sized, list_child_types, sized_column, nil_of, at_set, kept_rows_under, flat_map}
 use Rattle.arrow_types.specs.declared.datatypes.physical_type.PhysicalType.TheVariants as physical
 use Rattle.arrow_select.proofs.FilterLemmas.{at_set-mask, select_is, set_fits, set_rows}
-use Rattle.arrow_select.proofs.ItemLemmas.{set_run, unset_run}
-use Rattle.arrow_select.proofs.SetLemmas.{at_set-short}
+use Rattle.arrow_select.proofs.SetLemmas.{at_set-short, set_run, unset_run}
 
 -- rows under a run of bits
 valid_run : (n : ℕ) (bits : List Bool) (xs : List Slot) → n ≤ length xs → mask (replicate n true ++ bits) xs ≡ take n xs ++ mask bits (drop n xs)
@@ -18,10 +16,9 @@ null_run (suc n) bits [] within = absurd (omega (arith, within))
 null_run (suc n) bits (x ∷ xs) within = ap (λ ys. Null ∷ ys) (null_run n bits xs (omega (arith, within)))
 
 mask_twice : (bits : List Bool) (xs : List Slot) → mask bits (mask bits xs) ≡ mask bits xs
-mask_twice [] xs = refl
-mask_twice (b ∷ bits) [] = refl
 mask_twice (true ∷ bits) (x ∷ xs) = ap (λ ys. x ∷ ys) (mask_twice bits xs)
 mask_twice (false ∷ bits) (x ∷ xs) = ap (λ ys. Null ∷ ys) (mask_twice bits xs)
+mask_twice bits xs = refl
 
 -- rows of s items each
 module _ (s : ℕ) where
@@ -106,8 +103,6 @@ module _ (s : ℕ) where
   -- the bits of the items of rows that are kept
   set_each : (bits valid : List Bool) → length bits ≡ length valid → at_set (each bits) (each valid) ≡ each (at_set bits valid)
   set_each [] [] long = refl
-  set_each [] (v ∷ valid) long = absurd (omega (arith, long))
-  set_each (b ∷ bits) [] long = absurd (omega (arith, long))
   set_each (true ∷ bits) (v ∷ valid) long =
       let here = replicate s v in
       let rest = each valid in
@@ -119,6 +114,7 @@ module _ (s : ℕ) where
       let rest = each valid in
       let cut = (λ t. at_set (flat_map-cons (replicate s) false bits t) (flat_map-cons (replicate s) v valid t)) ∙ unset_run s (each bits) (here ++ rest) in
       cut ∙ (ap (at_set (each bits)) (drop_at here rest s (length-replicate s v)) ∙ set_each bits valid (omega (arith, long)))
+  set_each bits valid long = absurd (omega (arith, long))
 
   -- under a validity, or none
   stored_long : (v : Option (List Bool)) (n : ℕ) (xs : List Slot) → length xs ≡ n * s → FitsRows v n → length (masked (option_map each v) xs) ≡ n * s
@@ -144,8 +140,14 @@ pub each_fits : (s n count : ℕ) (v : Option (List Bool)) → FitsRows v n → 
 each_fits s n count None fits whole = tt
 each_fits s n count (Some valid) fits whole = each_long s valid ∙ (ap (λ k. k * s) fits ∙ whole)
 
+-- fixed-size lists, and a mask with a bit for each: as many items as lists of this size, and a bit of the validity for each list
+pub record HasLists (p : FixedListParts) (bits : List Bool) : Type 0 where
+  pub some : 0 < p.size
+  pub whole : length (rows p.child) ≡ length bits * p.size
+  pub fits : FitsRows p.validity (length bits)
+
 -- an array of the lists that are kept
-module _ (p : FixedListParts) (some : 0 < p.size) (bits : List Bool) (whole : length (rows p.child) ≡ length bits * p.size) (fits : FitsRows p.validity (length bits)) (items : List Slot) (are : items ≡ kept_rows_under (flat_map (replicate p.size) bits) (option_map (flat_map (replicate p.size)) p.validity) (rows p.child)) where
+module _ {p : FixedListParts} {bits : List Bool} (has : HasLists p bits) (items : List Slot) (are : items ≡ kept_rows_under (flat_map (replicate p.size) bits) (option_map (flat_map (replicate p.size)) p.validity) (rows p.child)) where
   abbrev stored : List Slot
   stored = masked (option_map (flat_map (replicate p.size)) p.validity) (rows p.child)
 
@@ -162,23 +164,23 @@ module _ (p : FixedListParts) (some : 0 < p.size) (bits : List Bool) (whole : le
   own = are ∙ select_is (flat_map (replicate p.size) bits) stored
 
   long : length stored ≡ length bits * p.size
-  long = stored_long p.size p.validity (length bits) (rows p.child) whole fits
+  long = stored_long p.size p.validity (length bits) (rows p.child) has.whole has.fits
 
   items_long : length items ≡ length kept * p.size
   items_long = ap length own ∙ kept_long p.size bits stored long
 
   count : length items / p.size ≡ length kept
-  count = ap (λ k. k / p.size) items_long ∙ mul-div_cancel (length kept) some
+  count = ap (λ k. k / p.size) items_long ∙ mul-div_cancel (length kept) has.some
 
   pieces_are : chunks (length items / p.size) p.size items ≡ kept
   pieces_are = (λ t. chunks (count t) p.size (own t)) ∙ kept_chunks p.size bits stored long
 
   valid_long : FitsRows valid (length kept)
   valid_long =
-      set_fits bits p.validity valid lists kept refl refl (sym (length-chunks (length bits) p.size stored)) (subst (FitsRows p.validity) (sym (length-chunks (length bits) p.size stored)) fits)
+      set_fits bits p.validity valid lists kept refl refl (sym (length-chunks (length bits) p.size stored)) (subst (FitsRows p.validity) (sym (length-chunks (length bits) p.size stored)) has.fits)
 
   pub fixed_few : length items ≤ length (rows p.child)
-  fixed_few = omega (arith, ap length own, at_set-short (flat_map (replicate p.size) bits) stored, long, whole)
+  fixed_few = omega (arith, ap length own, at_set-short (flat_map (replicate p.size) bits) stored, long, has.whole)
 
   -- as many items as rows of a size, and a bit for each row
   pub fixed_holds : FitsItems p.size (length items) valid
@@ -186,8 +188,8 @@ module _ (p : FixedListParts) (some : 0 < p.size) (bits : List Bool) (whole : le
 
   pub fixed_kept : masked valid (fixed_items p.size items) ≡ select bits (fixed_list_rows p)
   fixed_kept =
-      let all : length bits ≡ length (rows p.child) / p.size = sym (ap (λ k. k / p.size) whole ∙ mul-div_cancel (length bits) some) in
-      ap (λ ys. masked valid (map items_row ys)) pieces_are ∙ (set_rows items_row bits p.validity valid lists kept refl refl ∙ (ap (select bits) (shown_under p.size p.validity (length bits) (rows p.child) whole fits) ∙ ap (λ k. select bits (masked p.validity (map items_row (chunks k p.size (rows p.child))))) all))
+      let all : length bits ≡ length (rows p.child) / p.size = sym (ap (λ k. k / p.size) has.whole ∙ mul-div_cancel (length bits) has.some) in
+      ap (λ ys. masked valid (map items_row ys)) pieces_are ∙ (set_rows items_row bits p.validity valid lists kept refl refl ∙ (ap (select bits) (shown_under p.size p.validity (length bits) (rows p.child) has.whole has.fits) ∙ ap (λ k. select bits (masked p.validity (map items_row (chunks k p.size (rows p.child))))) all))
 
   -- they fit where the items do
   pub fixed_fit : physical_type_of p.arrow_type ≡ physical.FixedSizeList → list_size p.arrow_type ≡ p.size → null_slot (item_type p.arrow_type) ≡ Null → length items < 2 ^ 64 → length (select bits (fixed_list_rows p)) < 2 ^ 64 → Fits (item_type p.arrow_type) items → Fits p.arrow_type (select bits (fixed_list_rows p))
@@ -196,7 +198,7 @@ module _ (p : FixedListParts) (some : 0 < p.size) (bits : List Bool) (whole : le
       let rows_kept = select bits (fixed_list_rows p) in
       let child : child_type t 0 ≡ item_type t = ap (λ ts. slice_index_or ts 0 (plain null)) (list_child_types t (ap shape_of kind)) in
       let rows_are : masked valid (map items_row (chunks (length kept) p.size items)) ≡ rows_kept = ap (λ k. masked valid (map items_row (chunks k p.size items))) (sym count) ∙ fixed_kept in
-      let named : flat_map (fixed_items_in p.size (item_type t)) rows_kept ≡ items = ap (flat_map (fixed_items_in p.size (item_type t))) (sym rows_are) ∙ (ap (λ ys. flat_map (fixed_items_in p.size (item_type t)) (masked valid (map items_row (chunks (length kept) p.size ys)))) own ∙ (named_under p.size (item_type t) none p.validity bits (length kept) (rows p.child) fits valid_long (sym (ap length own) ∙ items_long) ∙ sym own)) in
+      let named : flat_map (fixed_items_in p.size (item_type t)) rows_kept ≡ items = ap (flat_map (fixed_items_in p.size (item_type t))) (sym rows_are) ∙ (ap (λ ys. flat_map (fixed_items_in p.size (item_type t)) (masked valid (map items_row (chunks (length kept) p.size ys)))) own ∙ (named_under p.size (item_type t) none p.validity bits (length kept) (rows p.child) has.fits valid_long (sym (ap length own) ∙ items_long) ∙ sym own)) in
       let column : column_in t 0 rows_kept ≡ items = sized_column t rows_kept kind ∙ ((λ i. flat_map (fixed_items_in (size i) (child i)) rows_kept) ∙ named) in
       let held : length rows_kept ≡ length kept = ap length (sym rows_are) ∙ (length-masked valid (map items_row (chunks (length kept) p.size items)) (subst (FitsRows valid) (sym (length-map _ items_row ∙ length-chunks (length kept) p.size items)) valid_long) ∙ (length-map _ items_row ∙ length-chunks (length kept) p.size items)) in
       let sized : list_size t * length rows_kept ≡ length items = (λ i. size i * held i) ∙ (mul_comm p.size (length kept) ∙ sym items_long) in

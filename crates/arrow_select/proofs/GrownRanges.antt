@@ -1,5 +1,5 @@
 -- A growable over one array that has no row yet, extended by the ranges of a mask: what it holds then, and why it refuses.
-use Rattle.arrow_select.proofs.Common.{◌≡◌, ℕ, Bool, false, true, List, ◌∷◌, ◌++◌, length, Result, Ok, Err, IfErr, Some, refl, ap, sym, subst, ◌∙◌, append_assoc, OnOk, flat_map-append, Error, Failed, InvalidArgumentError, NotYetImplemented, OutOfMemory, OutOfSpec, Overflow, Fits, Fits-beginning, Fits-nil, IsGrowthError, Layout, CannotHold, FitsItself, Grown, IsRefusal, bound_to, first_type, rows_among, HasAppended, refuses_whole, too_many_first, HasRowsAt, RefusesRange, kept_among, ranged_among, with_kept, with_ranges}
+use Rattle.arrow_select.proofs.Common.{◌≡◌, ℕ, Bool, false, true, List, ◌∷◌, ◌++◌, length, Result, Ok, Err, IfErr, Some, refl, ap, sym, subst, ◌∙◌, append_assoc, OnOk, flat_map-append, Error, Failed, OutOfMemory, Overflow, Fits, Fits-beginning, Fits-nil, IsGrowthError, Layout, CannotHold, FitsItself, Grown, IsRefusal, bound_to, first_type, rows_among, HasAppended, refuses_whole, too_many_first, HasRowsAt, RefusesRange, kept_among, ranged_among, with_kept, with_ranges}
 use Rattle.arrow_select.proofs.ExtendLemmas.{ranged_is_kept}
 
 module _ (layouts : List Layout) (old : Grown) (mask : List Bool) (bound : old ≡ bound_to layouts) where
@@ -34,13 +34,8 @@ module _ (layouts : List Layout) (old : Grown) (mask : List Bool) (bound : old �
   growth_alone new OutOfMemory is refuses = tt
   growth_alone new Failed is refuses =
       let had : false ≡ true = ap (λ g. g.failed) (sym bound) ∙ refuses.had_failed.0 refl in
-      absurd (not_both had)
-    where
-      not_both : false ≡ true → ⊥
-      not_both is = cc
-  growth_alone new (InvalidArgumentError fault) is refuses = absurd is
-  growth_alone new (NotYetImplemented case) is refuses = absurd is
-  growth_alone new (OutOfSpec part) is refuses = absurd is
+      absurd cc
+  growth_alone new e is refuses = absurd is
 
   pub grows_alone : (r : Result (Unit {0}) Error) (new : Grown) → IfErr r IsRefusal → IfErr r (RefusesRange mask 0 old new) → IfErr r IsGrowthError
   grows_alone (Ok x) new is refuses = tt

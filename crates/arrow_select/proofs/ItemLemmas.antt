@@ -1,26 +1,15 @@
 -- Items of lists at which a mask of the rows is set: a bit for each item, a run of rows at a time, and the lists of those that are kept.
-use Rattle.arrow_select.proofs.Common.{arith, ◌≡◌, ◌+◌, ◌-◌, ◌<◌, ◌≤◌, ◌^◌, ℕ, zero, suc, Bool, true, false, Option, Some, None, List, [], ◌∷◌, ◌++◌, length, map, replicate, take, drop, slice_index, refl, ap, sym, subst, ◌∙◌, append_assoc, option_map, drop-drop, length-append, length-map, length-replicate, replicate-append-replicate, ArrowType, plain, list, struct, union, dictionary, extension, field, small, large, fixed_size, mapped, Fits, IsCounted, all_items, items_in, physical_type_of, mask, masked, select, Slot, IsOffsets, last_of, offsets_rise, FitsRows, pieces, length-pieces, items_row, list_items, rows, ListParts, list_rows, item_type, ends_from, row_length, valid_values, IsListType, greatest_in, no_plain, all_kept, lists_fit, places_from, at_set, item_bits, item_mask}
+use Rattle.arrow_select.proofs.Common.{arith, ◌≡◌, ◌+◌, ◌-◌, ◌<◌, ◌≤◌, ◌^◌, ℕ, zero, suc, Bool, true, false, Option, Some, None, List, [], ◌∷◌, ◌++◌, length, map, replicate, take, drop, slice_index, refl, ap, sym, subst, ◌∙◌, append_assoc, option_map, drop-drop, length-append, length-map, length-replicate, replicate-append-replicate, ArrowType, plain, list, extension, field, Fits, IsCounted, all_items, items_in, physical_type_of, mask, masked, select, Slot, IsOffsets, last_of, offsets_rise, FitsRows, pieces, length-pieces, items_row, list_items, rows, ListParts, list_rows, item_type, ends_from, row_length, valid_values, IsListType, greatest_in, no_plain, all_kept, lists_fit, places_from, at_set, item_bits, item_mask, fixed_size}
 use Rattle.arrow_select.proofs.FilterLemmas.{select_is, set_rows}
 use Rattle.arrow_select.proofs.KeptLemmas.{Fits-kept}
 use Rattle.arrow_select.proofs.SetBytes.{kept_bits, kept_end, kept_items, kept_pieces}
-use Rattle.arrow_select.proofs.SetLemmas.{at_set-short, nil_at}
+use Rattle.arrow_select.proofs.SetLemmas.{at_set-short, set_run, unset_run}
 
 -- ---- members at which a run of bits is set
 
-pub set_run : {A : Type 0} (n : ℕ) (bits : List Bool) (xs : List A) → at_set (replicate n true ++ bits) xs ≡ take n xs ++ at_set bits (drop n xs)
-set_run zero bits xs = refl
-set_run (suc n) bits [] = sym (nil_at bits)
-set_run (suc n) bits (x ∷ xs) = ap (λ ys. x ∷ ys) (set_run n bits xs)
-
-pub unset_run : {A : Type 0} (n : ℕ) (bits : List Bool) (xs : List A) → at_set (replicate n false ++ bits) xs ≡ at_set bits (drop n xs)
-unset_run zero bits xs = refl
-unset_run (suc n) bits [] = sym (nil_at bits)
-unset_run (suc n) bits (x ∷ xs) = unset_run n bits xs
-
 none_set : {A : Type 0} (n : ℕ) (xs : List A) → at_set (replicate n false) xs ≡ []
-none_set zero xs = refl
-none_set (suc n) [] = refl
 none_set (suc n) (x ∷ xs) = none_set n xs
+none_set n xs = refl
 
 -- bits behind them that are not set count for nothing
 set_before : {A : Type 0} (bits : List Bool) (n : ℕ) (xs : List A) → at_set (bits ++ replicate n false) xs ≡ at_set bits xs
@@ -102,32 +91,20 @@ module _ (os : List ℕ) (sound : IsOffsets os) where
 
 -- a null list has no items
 items_masked : (bits : List Bool) (xs : List Slot) → all_items (mask bits xs) ≡ all_items (select bits xs)
-items_masked [] [] = refl
-items_masked [] (x ∷ xs) = refl
-items_masked (b ∷ bits) [] = refl
 items_masked (true ∷ bits) (x ∷ xs) = ap (λ ys. items_in x ++ ys) (items_masked bits xs)
 items_masked (false ∷ bits) (x ∷ xs) = items_masked bits xs
+items_masked bits xs = refl
 
 -- so lists that fit do so under a validity
 masked_fit : (t : ArrowType) (bits : List Bool) (xs : List Slot) → IsListType (physical_type_of t) → IsCounted (mask bits xs) → Fits t xs → Fits t (mask bits xs)
-masked_fit (list small (field name t nullable)) bits xs is counted fits =
-    let kept = Fits-kept (list small (field name t nullable)) bits xs fits in
+masked_fit (list (fixed_size s) (field name t nullable)) bits xs is counted fits = absurd is
+masked_fit (list form (field name t nullable)) bits xs is counted fits =
+    let kept = Fits-kept (list form (field name t nullable)) bits xs fits in
     let same = items_masked bits xs in
     (counted, omega (arith, kept.1, ap length same), subst (Fits t) (sym same) kept.2)
-masked_fit (list large (field name t nullable)) bits xs is counted fits =
-    let kept = Fits-kept (list large (field name t nullable)) bits xs fits in
-    let same = items_masked bits xs in
-    (counted, omega (arith, kept.1, ap length same), subst (Fits t) (sym same) kept.2)
-masked_fit (list (mapped sorted) (field name t nullable)) bits xs is counted fits =
-    let kept = Fits-kept (list (mapped sorted) (field name t nullable)) bits xs fits in
-    let same = items_masked bits xs in
-    (counted, omega (arith, kept.1, ap length same), subst (Fits t) (sym same) kept.2)
-masked_fit (list (fixed_size s) f) bits xs is counted fits = absurd is
 masked_fit (plain p) bits xs is counted fits = absurd (no_plain p is)
-masked_fit (struct fs) bits xs is counted fits = absurd is
-masked_fit (union mode ids fs) bits xs is counted fits = absurd is
-masked_fit (dictionary keys ordered t) bits xs is counted fits = absurd is
 masked_fit (extension name metadata t) bits xs is counted fits = masked_fit t bits xs is counted fits
+masked_fit t bits xs is counted fits = absurd is
 
 all_fit : (t : ArrowType) (v : Option (List Bool)) (xs : List Slot) → IsListType (physical_type_of t) → IsCounted (masked v xs) → Fits t xs → Fits t (masked v xs)
 all_fit t None xs is counted fits = fits

@@ -1,7 +1,7 @@
 -- Rows that a mask keeps of structs and of sparse unions: each field by itself, null where a row is not its own.
-use Rattle.arrow_select.proofs.Common.{arith, ◌≡◌, ◌+◌, ◌<◌, ◌≤◌, ◌^◌, ℕ, pos, Bool, true, false, Option, Some, None, List, [], ◌∷◌, ◌++◌, length, map, get_or, if◌then◌else◌, refl, ap, sym, subst, ◌∙◌, append_assoc, option_map, unwrap_or, int_eq, length-append, length-map, All-cons, All-map, All-nil, slice_get-get_or, map-map, get_or-append_seam, ArrowType, Fits, physical_type_of, null_slot-no_union, gather, gathered, mask, masked, select, Slot, Null, Number, id_at, null_slot, FitsRows, IsValue, length-masked, AnyArray, Kind, any_array_rows, any_array_type, kind_in, layout_of, union_kind, AreKeys, IsKey, columns_of, field_ids, rows, struct_items, to_layouts, FitsColumns, IsStruct, StructParts, struct_rows, UnionParts, union_rows, length-struct_rows, variant_type, places_from, true_places, KeptColumns, KeptUnder, at_set, kept_rows_under, HasPart, taken_id, IsSparse, have_id, MarksTaken, is_taken_valid, named_bit, taken_rows, valid_index, column_long, Stores, length-gather, map-agree, row_taken, fields_fit, fields_taken, taken_fits, field_taken, long, part, part_long}
-use Rattle.std.specs.List.{All}
+use Rattle.arrow_select.proofs.Common.{arith, ◌≡◌, ◌+◌, ◌<◌, ◌≤◌, ◌^◌, ℕ, pos, Bool, true, false, Option, Some, None, List, [], ◌∷◌, length, map, get_or, if◌then◌else◌, refl, ap, sym, subst, ◌∙◌, option_map, unwrap_or, int_eq, length-map, All-cons, All-map, All-nil, slice_get-get_or, map-map, ArrowType, Fits, physical_type_of, null_slot-no_union, gather, gathered, mask, masked, select, Slot, Null, Number, id_at, null_slot, FitsRows, IsValue, length-masked, AnyArray, Kind, any_array_rows, any_array_type, kind_in, layout_of, union_kind, AreKeys, IsKey, columns_of, field_ids, rows, struct_items, to_layouts, FitsColumns, IsStruct, StructParts, struct_rows, UnionParts, union_rows, length-struct_rows, variant_type, places_from, true_places, KeptColumns, KeptUnder, at_set, kept_rows_under, HasPart, taken_id, IsSparse, have_id, MarksTaken, is_taken_valid, named_bit, taken_rows, valid_index, column_long, Stores, length-gather, map-agree, row_taken, fields_fit, fields_taken, taken_fits, field_taken, long, part, part_long, All}
 use Rattle.arrow_select.proofs.LawLemmas.{selected_is_gathered}
+use Rattle.arrow_select.proofs.SetBytes.{set_by_place}
 
 -- the places at which a mask is true are those of rows
 places_below : (i n : ℕ) (mask : List Bool) → i + length mask ≤ n → AreKeys n (map (λ k. Number (pos k)) (places_from i mask))
@@ -15,20 +15,9 @@ pub places_named : (mask : List Bool) (n : ℕ) → length mask ≡ n → AreKey
 places_named mask n same = places_below 0 n mask (omega (arith, same))
 
 -- what is set of a list is what stands at these places
-set_behind : {A : Type 0} (before ys : List A) (mask : List Bool) (d : A) → length mask ≡ length ys → at_set mask ys ≡ map (λ n. get_or (before ++ ys) n d) (places_from (length before) mask)
-set_behind before [] [] d same = refl
-set_behind before (y ∷ ys) [] d same = absurd (omega (arith, same))
-set_behind before [] (b ∷ mask) d same = absurd (omega (arith, same))
-set_behind before (y ∷ ys) (b ∷ mask) d same =
-    let moved : (before ++ y ∷ []) ++ ys ≡ before ++ y ∷ ys = append_assoc before (y ∷ []) ys in
-    let count : length (before ++ y ∷ []) ≡ length before + 1 = length-append before (y ∷ []) in
-    let rest = set_behind (before ++ y ∷ []) ys mask d (omega (arith, same)) ∙ (λ i. map (λ n. get_or (moved i) n d) (places_from (count i) mask)) in
-    let first = sym (get_or-append_seam before y ys d) in
-    let by : (chosen : Bool) → at_set (chosen ∷ mask) (y ∷ ys) ≡ map (λ n. get_or (before ++ y ∷ ys) n d) (places_from (length before) (chosen ∷ mask)) = elim [ true ↦ (λ i. first i ∷ rest i) | false ↦ rest ] in
-    by b
-
-pub set_at_places : {A : Type 0} (ys : List A) (mask : List Bool) (d : A) → length mask ≡ length ys → at_set mask ys ≡ map (λ n. get_or ys n d) (places_from 0 mask)
-set_at_places ys mask d same = set_behind [] ys mask d same
+set_at_places : {A : Type 0} (ys : List A) (mask : List Bool) (d : A) → length mask ≡ length ys → at_set mask ys ≡ map (λ n. get_or ys n d) (places_from 0 mask)
+set_at_places ys mask d same =
+    set_by_place (λ n. get_or ys n d) ys mask 0 (λ n within. slice_get-get_or ys n d within) (omega (arith, same))
 
 -- rows that are kept under a validity
 under : (xs : List Slot) (u : ArrowType) (b : Bool) (s : Slot) → null_slot u ≡ Null → gathered xs u (if b then s else Null) ≡ (if b then gathered xs u s else Null)
@@ -48,9 +37,10 @@ kept_marks None kept mask is fits =
 kept_marks (Some bits) kept mask is fits =
     subst (MarksTaken (Some bits) (true_places mask)) (sym is) (set_at_places bits mask false (sym fits) ∙ sym (map-map (named_bit bits) (λ k. Number (pos k)) (places_from 0 mask)))
 
--- a type that is no union has a validity
-pub no_union : {k : Kind} (t : ArrowType) → kind_in (physical_type_of t) ≡ k → (k ≡ union_kind → ⊥) → null_slot t ≡ Null
-no_union t kind other = null_slot-no_union t (λ is. other (sym kind ∙ ap kind_in is))
+-- an array that is kept of one whose type is no union, which has a validity
+pub kept_of : {k : Kind} (mask : List Bool) (v : Option (List Bool)) (column kept : AnyArray) → kind_in (physical_type_of (any_array_type column)) ≡ k → (k ≡ union_kind → ⊥) → any_array_type kept ≡ any_array_type column → any_array_rows kept ≡ kept_rows_under mask v (any_array_rows column) → Fits (any_array_type kept) (any_array_rows kept) → KeptUnder mask v column kept
+kept_of mask v column kept kind other type are fit =
+    record { array_type = type; rows = are; fits = fit; null = null_slot-no_union (any_array_type column) (λ is. other (sym kind ∙ ap kind_in is)) }
 
 -- structs, each of whose fields is kept under their validity
 module _ (p : StructParts) (columns : List AnyArray) (held : IsStruct p) (children : map layout_of columns ≡ p.children) (none : null_slot p.arrow_type ≡ Null) (mask : List Bool) (same : length mask ≡ length (struct_rows p)) (kept : List AnyArray) (are : KeptColumns mask p.validity columns kept) where

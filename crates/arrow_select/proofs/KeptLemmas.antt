@@ -12,20 +12,18 @@ none_kept (y ∷ ys) zs mask = none_kept ys zs mask
 
 -- what lies inside rows that are kept is kept of what lies inside all
 flat_kept : (f : Slot → List Slot) (mask : List Bool) (xs : List Slot) → (inner : List Bool) × (flat_map f (select mask xs) ≡ select inner (flat_map f xs))
-flat_kept f [] xs = ([], refl)
-flat_kept f (b ∷ mask) [] = ([], refl)
 flat_kept f (true ∷ mask) (x ∷ xs) =
     let rest = flat_kept f mask xs in
     (replicate (length (f x)) true ++ rest.0, ap (λ ys. f x ++ ys) rest.1 ∙ sym (all_kept (f x) (flat_map f xs) rest.0))
 flat_kept f (false ∷ mask) (x ∷ xs) =
     let rest = flat_kept f mask xs in
     (replicate (length (f x)) false ++ rest.0, rest.1 ∙ sym (none_kept (f x) (flat_map f xs) rest.0))
+flat_kept f mask xs = ([], refl)
 
 pub map_kept : (f : Slot → Slot) (mask : List Bool) (xs : List Slot) → map f (select mask xs) ≡ select mask (map f xs)
-map_kept f [] xs = refl
-map_kept f (b ∷ mask) [] = refl
 map_kept f (true ∷ mask) (x ∷ xs) = ap (λ ys. f x ∷ ys) (map_kept f mask xs)
 map_kept f (false ∷ mask) (x ∷ xs) = map_kept f mask xs
+map_kept f mask xs = refl
 
 -- the rows of a dictionary that are kept are those of the keys that are kept, and these are keys
 pub keyed_kept : (values keys : List Slot) (mask : List Bool) → map (keyed_item values) (keys_in (select mask keys)) ≡ select mask (map (keyed_item values) (keys_in keys))
@@ -33,24 +31,21 @@ keyed_kept values keys mask =
     map-map (keyed_item values) key_in (select mask keys) ∙ (map_kept (λ s. keyed_item values (key_in s)) mask keys ∙ ap (select mask) (sym (map-map (keyed_item values) key_in keys)))
 
 pub keys_kept : (count : ℕ) (mask : List Bool) (keys : List Slot) → AreKeys count keys → AreKeys count (select mask keys)
-keys_kept count [] keys all = All-nil (IsKey count)
-keys_kept count (b ∷ mask) [] all = All-nil (IsKey count)
 keys_kept count (true ∷ mask) (key ∷ keys) all = All-cons (IsKey count) key (select mask keys) (All-head (IsKey count) key keys all) (keys_kept count mask keys (All-tail (IsKey count) key keys all))
 keys_kept count (false ∷ mask) (key ∷ keys) all = keys_kept count mask keys (All-tail (IsKey count) key keys all)
+keys_kept count mask keys all = All-nil (IsKey count)
 
 -- they are no more, and no longer together
 fewer_kept : (mask : List Bool) (xs : List Slot) → length (select mask xs) ≤ length xs
-fewer_kept [] xs = omega arith
-fewer_kept (b ∷ mask) [] = omega arith
 fewer_kept (true ∷ mask) (x ∷ xs) = omega (arith, fewer_kept mask xs)
 fewer_kept (false ∷ mask) (x ∷ xs) = omega (arith, fewer_kept mask xs)
+fewer_kept mask xs = omega arith
 
 sum_kept : (f : Slot → ℕ) (mask : List Bool) (xs : List Slot) → sum_by f (select mask xs) ≤ sum_by f xs
-sum_kept f [] xs = omega arith
-sum_kept f (b ∷ mask) [] = omega arith
 sum_kept f (true ∷ mask) (x ∷ xs) =
     omega (arith, sum_by-cons f x (select mask xs), sum_by-cons f x xs, sum_kept f mask xs)
 sum_kept f (false ∷ mask) (x ∷ xs) = omega (arith, sum_by-cons f x xs, sum_kept f mask xs)
+sum_kept f mask xs = omega arith
 
 counted_kept : (mask : List Bool) (xs : List Slot) → IsCounted xs → IsCounted (select mask xs)
 counted_kept mask xs h = omega (arith, h, fewer_kept mask xs)
@@ -77,10 +72,8 @@ dense_kept id mask xs =
     (inner.0, dense_flat id (select mask xs) ∙ (inner.1 ∙ ap (select inner.0) (sym (dense_flat id xs))))
 
 child_kept : (form : ListForm) (t : ArrowType) (mask : List Bool) (xs : List Slot) → (inner : List Bool) × (child_rows form t (select mask xs) ≡ select inner (child_rows form t xs))
-child_kept small t mask xs = flat_kept items_in mask xs
-child_kept large t mask xs = flat_kept items_in mask xs
 child_kept (fixed_size s) t mask xs = flat_kept (fixed_items_in s t) mask xs
-child_kept (mapped sorted) t mask xs = flat_kept items_in mask xs
+child_kept form t mask xs = flat_kept items_in mask xs
 
 fewer_items : (mask : List Bool) (xs : List Slot) → length (all_items (select mask xs)) ≤ length (all_items xs)
 fewer_items mask xs =
@@ -96,10 +89,8 @@ FitsPlain-kept (fixed_size_binary s) mask xs h = times_kept s mask xs h
 FitsPlain-kept _ mask xs h = tt
 
 FitsForm-kept : (form : ListForm) (mask : List Bool) (xs : List Slot) → FitsForm form xs → FitsForm form (select mask xs)
-FitsForm-kept small mask xs h = omega (arith, h, fewer_items mask xs)
-FitsForm-kept large mask xs h = omega (arith, h, fewer_items mask xs)
 FitsForm-kept (fixed_size s) mask xs h = times_kept s mask xs h
-FitsForm-kept (mapped sorted) mask xs h = omega (arith, h, fewer_items mask xs)
+FitsForm-kept form mask xs h = omega (arith, h, fewer_items mask xs)
 
 mutual
   pub Fits-kept : (t : ArrowType) (mask : List Bool) (xs : List Slot) → Fits t xs → Fits t (select mask xs)
@@ -133,3 +124,6 @@ mutual
         subst (Fits t) (sym inner.1) (Fits-kept t inner.0 (dense_part id xs) h.1),
         FitsDense-kept fs ids (suc i) mask xs h.2,
       )
+
+-- those that are laws of their own
+pub ruleset laws = (Fits-kept)

@@ -1,25 +1,12 @@
 -- The laws of rows that are selected, taken and joined.
-use Rattle.arrow_select.proofs.Common.{arith, ◌≡◌, ◌+◌, ◌-◌, ℕ, ◌≤◌, pos, Bool, true, false, Some, List, [], ◌∷◌, ◌++◌, length, map, take, drop, refl, ap, sym, subst, ◌∙◌, append_assoc, option_map, slice_get, unwrap_or, append-nil, length-append, length-drop, take-append-drop, take_all, slice_get-get_or, slice_get-map, map-map, ArrowType, gather, gathered, joined, mask_of, select, Slot, Null, Number, null_slot, sliced, AreKeys, IsKey, Layout, rows, RowsFit, kept_columns, places_from, true_places, each_key, map-agree}
-
--- the row behind others
-row_behind : (before xs : List Slot) (x : Slot) → slice_get (before ++ x ∷ xs) (length before) ≡ Some x
-row_behind [] xs x = refl
-row_behind (y ∷ before) xs x = row_behind before xs x
-
-gather_behind : (before xs : List Slot) (mask : List Bool) (t : ArrowType) → length mask ≡ length xs → select mask xs ≡ gather (before ++ xs) (map (λ n. Number (pos n)) (places_from (length before) mask)) t
-gather_behind before [] [] t same = refl
-gather_behind before (x ∷ xs) [] t same = absurd (omega (arith, same))
-gather_behind before [] (b ∷ mask) t same = absurd (omega (arith, same))
-gather_behind before (x ∷ xs) (b ∷ mask) t same =
-    let moved : (before ++ x ∷ []) ++ xs ≡ before ++ x ∷ xs = append_assoc before (x ∷ []) xs in
-    let count : length (before ++ x ∷ []) ≡ length before + 1 = length-append before (x ∷ []) in
-    let rest = gather_behind (before ++ x ∷ []) xs mask t (omega (arith, same)) ∙ (λ i. gather (moved i) (map (λ n. Number (pos n)) (places_from (count i) mask)) t) in
-    let first = ap (λ o. unwrap_or o (null_slot t)) (sym (row_behind before xs x)) in
-    let by : (chosen : Bool) → select (chosen ∷ mask) (x ∷ xs) ≡ gather (before ++ x ∷ xs) (map (λ n. Number (pos n)) (places_from (length before) (chosen ∷ mask))) t = elim [ true ↦ (λ i. first i ∷ rest i) | false ↦ rest ] in
-    by b
+use Rattle.arrow_select.proofs.Common.{arith, ◌≡◌, ◌-◌, ℕ, ◌≤◌, pos, Bool, Some, List, [], ◌∷◌, ◌++◌, length, map, take, drop, ap, sym, subst, ◌∙◌, append_assoc, option_map, slice_get, unwrap_or, append-nil, length-drop, take-append-drop, take_all, slice_get-get_or, slice_get-map, map-map, ArrowType, gather, gathered, joined, mask_of, select, Slot, Null, Number, null_slot, sliced, AreKeys, IsKey, Layout, rows, RowsFit, kept_columns, places_from, true_places, each_key, map-agree, ◌<◌}
+use Rattle.arrow_select.proofs.FilterLemmas.{select_is}
+use Rattle.arrow_select.proofs.SetBytes.{set_by_place}
 
 pub selected_is_gathered : (xs : List Slot) (mask : List Bool) (t : ArrowType) → length mask ≡ length xs → select mask xs ≡ gather xs (true_places mask) t
-selected_is_gathered xs mask t same = gather_behind [] xs mask t same
+selected_is_gathered xs mask t same =
+    let reads : (n : ℕ) → n < length xs → slice_get xs n ≡ Some (gathered xs t (Number (pos n))) = λ n within. slice_get-get_or xs n Null within ∙ ap Some (sym (ap (λ o. unwrap_or o (null_slot t)) (slice_get-get_or xs n Null within))) in
+    select_is mask xs ∙ (set_by_place (λ n. gathered xs t (Number (pos n))) xs mask 0 reads (omega (arith, same)) ∙ sym (map-map (gathered xs t) (λ n. Number (pos n)) (places_from 0 mask)))
 
 -- rows by index of rows by index
 pub gather-gather : (xs is js : List Slot) (t u : ArrowType) → null_slot u ≡ Null → AreKeys (length is) js → gather (gather xs is t) js t ≡ gather xs (gather is js u) t
@@ -51,3 +38,6 @@ pub columns_alike : (ps qs : List Slot) (columns others : List Layout) → qs �
 columns_alike ps qs columns others same same_rows =
     let of = λ (ps : List Slot) (columns : List Layout). map-map (select (mask_of ps)) rows columns in
     sym (of qs others) ∙ ((λ i. map (select (mask_of (same i))) (same_rows i)) ∙ of ps columns)
+
+-- those that are laws of their own
+pub ruleset laws = (joined-associative, joined-cut)

@@ -1,6 +1,5 @@
 -- The ranges of a mask: found in a walk over its runs, and the mask that they hold.
-use Rattle.arrow_select.proofs.Common.{arith, inl, inr, ◌≡◌, ◌+◌, ◌-◌, ◌<◌, ◌≤◌, ℕ, zero, suc, Bool, true, false, Option, Some, None, List, [], ◌∷◌, ◌++◌, length, map, replicate, drop, get_or, if◌then◌else◌, refl, ap, sym, subst, ◌∙◌, append_assoc, ◌==◌, count_by, nat_eq, slice_get, bit_at, cases_lt, nat_tests, append-nil, drop-drop, drop_all, get_or_past, map-append, replicate-append-replicate, take-append-drop, All-push, sum_by-cons, bit_at-zero, named, true_rows, AreAlike, alike_are, IsPlan, IsRangesOf, ended, mask_at, IsLowestRun, NamesUpTo, all_named, all_shortest, kept_label, names_past, names_run, on_side, plain_named, plain_shortest}
-use Rattle.std.specs.List.{All}
+use Rattle.arrow_select.proofs.Common.{arith, inl, inr, ◌≡◌, ◌+◌, ◌-◌, ◌<◌, ◌≤◌, ℕ, zero, suc, Bool, true, false, Option, Some, List, [], ◌∷◌, ◌++◌, length, map, replicate, drop, get_or, if◌then◌else◌, refl, ap, sym, subst, ◌∙◌, append_assoc, ◌==◌, count_by, nat_eq, slice_get, bit_at, cases_lt, nat_tests, append-nil, drop-drop, drop_all, get_or_past, map-append, replicate-append-replicate, take-append-drop, All-push, sum_by-cons, bit_at-zero, named, true_rows, AreAlike, alike_are, IsPlan, IsRangesOf, ended, mask_at, IsLowestRun, NamesUpTo, all_named, all_shortest, kept_label, names_past, names_run, on_side, plain_named, plain_shortest, All}
 
 -- ---- the mask that ranges hold
 
@@ -61,6 +60,14 @@ labels_cut : (mask : List Bool) (from to n : ℕ) (bit : Bool) → n ≡ to - fr
 labels_cut mask from to n bit count rises within alike =
     ap (map kept_label) (run_cut mask from to n bit count rises within alike) ∙ labels_of n bit (drop to mask)
 
+-- where no bit is set there is no label
+not_set : (mask : List Bool) (i : ℕ) → get_or mask i false ≡ false → slice_get (map kept_label (drop i mask)) 0 ≡ Some (Some 0) → ⊥
+not_set [] zero unset set = cc
+not_set [] (suc i) unset set = cc
+not_set (true ∷ mask) zero unset set = cc
+not_set (false ∷ mask) zero unset set = cc
+not_set (b ∷ mask) (suc i) unset set = not_set mask i unset set
+
 -- the ranges that are done, and the run that is under way: so many rows from the first on, with what is left of the mask behind them
 pub record OpensUpTo (ranges : List (ℕ × ℕ)) (first count : ℕ) (mask : List Bool) : Type 0 where
   pub upto : NamesUpTo (map on_side ranges) first (replicate count (Some 0) ++ map kept_label (drop (first + count) mask)) (map kept_label mask)
@@ -97,13 +104,13 @@ module _ (ranges : List (ℕ × ℕ)) (first count : ℕ) (mask : List Bool) (so
       All-push (λ (r : ℕ × ℕ). r.0 + r.1 ≤ length mask) ranges (first, suc n) so_far.within inside
 
   -- what lies behind it up to a place is passed
-  opens_at : (to : ℕ) → first + count ≤ to → to ≤ length mask → AreAlike mask (first + count) to false → (slice_get (map kept_label (drop (first + count) mask)) 0 ≡ Some (Some 0) → ⊥) → OpensUpTo (ranges ++ ended first count) to 0 mask
-  opens_at to rises within alike ends =
+  opens_at : (to : ℕ) → first + count ≤ to → to ≤ length mask → AreAlike mask (first + count) to false → get_or mask (first + count) false ≡ false → OpensUpTo (ranges ++ ended first count) to 0 mask
+  opens_at to rises within alike unset =
       let labels = map kept_label mask in
       let rs = map on_side (ranges ++ ended first count) in
       let gap = to - (first + count) in
       let left = labels_cut mask (first + count) to gap false refl rises within alike in
-      let behind = closed count (map kept_label (drop (first + count) mask)) ends so_far.upto in
+      let behind = closed count (map kept_label (drop (first + count) mask)) (not_set mask (first + count) unset) so_far.upto in
       let past = names_past rs (first + count) gap (map kept_label (drop to mask)) labels (subst (λ ls. NamesUpTo rs (first + count) ls labels) left behind) in
       let at : first + count + gap ≡ to = omega (arith, rises) in
       let here : to ≡ to + 0 = omega arith in
@@ -113,25 +120,14 @@ module _ (ranges : List (ℕ × ℕ)) (first count : ℕ) (mask : List Bool) (so
         inside = omega (arith, within);
       }
 
-none_behind : (gap : ℕ) (ls left : List (Option ℕ)) → 0 < gap → left ≡ replicate gap None ++ ls → slice_get left 0 ≡ Some (Some 0) → ⊥
-none_behind zero ls left some is set = omega (arith, some)
-none_behind (suc gap) ls left some is set =
-    let read : ◌≡◌ {A = Option (Option ℕ)} (slice_get left 0) (Some None) = ap (λ ls. slice_get ls 0) is in
-    cc
-
-none_left : (left : List (Option ℕ)) → left ≡ [] → slice_get left 0 ≡ Some (Some 0) → ⊥
-none_left left is set =
-    let read : ◌≡◌ {A = Option (Option ℕ)} (slice_get left 0) None = ap (λ ls. slice_get ls 0) is in
-    cc
-
 -- where no bit behind it is set, all is named
 pub opens_all : (ranges : List (ℕ × ℕ)) (first count : ℕ) (mask : List Bool) → OpensUpTo ranges first count mask → AreAlike mask (first + count) (length mask) false → IsRangesOf (ranges ++ ended first count) mask
 opens_all ranges first count mask so_far alike =
-    let gap = length mask - (first + count) in
-    let left = labels_cut mask (first + count) (length mask) gap false refl so_far.inside (omega arith) alike in
-    let end : drop (length mask) mask ≡ [] = drop_all (length mask) mask (omega arith) in
-    let ends : slice_get (map kept_label (drop (first + count) mask)) 0 ≡ Some (Some 0) → ⊥ = by_gap gap left end in
-    let all = opens_at ranges first count mask so_far (length mask) so_far.inside (omega arith) alike ends in
+    let unset : get_or mask (first + count) false ≡ false = elim (cases_lt (first + count) (length mask)) as (λ _. get_or mask (first + count) false ≡ false) [
+      | inl inside ↦ alike (first + count) (omega arith) inside
+      | inr past ↦ get_or_past mask (first + count) false past
+    ] in
+    let all = opens_at ranges first count mask so_far (length mask) so_far.inside (omega arith) alike unset in
     let at : drop (length mask + 0) mask ≡ [] = drop_all (length mask + 0) mask (omega arith) in
     let done = subst (λ bits. NamesUpTo (map on_side (ranges ++ ended first count)) (length mask) (map kept_label bits) (map kept_label mask)) at all.upto in
     record {
@@ -139,11 +135,6 @@ opens_all ranges first count mask so_far alike =
       shortest = plain_shortest (ranges ++ ended first count) (all_shortest (map on_side (ranges ++ ended first count)) (length mask) (map kept_label mask) done);
       within = all.within;
     }
-  where
-    by_gap : (gap : ℕ) → map kept_label (drop (first + count) mask) ≡ replicate gap None ++ map kept_label (drop (length mask) mask) → drop (length mask) mask ≡ [] → slice_get (map kept_label (drop (first + count) mask)) 0 ≡ Some (Some 0) → ⊥
-    by_gap zero left end = none_left (map kept_label (drop (first + count) mask)) (left ∙ ap (map kept_label) end)
-    by_gap (suc gap) left end =
-        none_behind (suc gap) (map kept_label (drop (length mask) mask)) (map kept_label (drop (first + count) mask)) (omega arith) left
 
 -- ---- a word of the mask
 
@@ -151,6 +142,12 @@ opens_all ranges first count mask so_far alike =
 pub record LeftInWord (word base from : ℕ) (mask : List Bool) : Type 0 where
   pub gone : (k : ℕ) → base + k < from → bit_at word k ≡ 0
   pub same : (k : ℕ) → k < 64 → from ≤ base + k → (bit_at word k == 1) ≡ get_or mask (base + k) false
+
+-- a bit of the mask that lies in the word
+word_bit : (word base from : ℕ) (mask : List Bool) → LeftInWord word base from mask → (i b : ℕ) → base ≤ i → i < base + 64 → from ≤ i → bit_at word (i - base) ≡ b → get_or mask i false ≡ (b == 1)
+word_bit word base from mask left i b low high behind is =
+    let at : base + (i - base) ≡ i = omega (arith, low) in
+    ap (λ n. get_or mask n false) (sym at) ∙ (sym (left.same (i - base) (omega (arith, low, high)) (omega (arith, behind, at))) ∙ ap (λ n. nat_eq n 1) is)
 
 -- a walk that has come into that word: no bit is set between the run that is under way and the word
 pub record WalksWord (ranges : List (ℕ × ℕ)) (first count word base : ℕ) (mask : List Bool) : Type 0 where
@@ -172,11 +169,7 @@ walks_out ranges first count word base next mask none at walk = record {
   gap = λ i from to.
       elim (cases_lt i base) as (λ _. get_or mask i false ≡ false) [
         | inl before ↦ walk.gap i from before
-        | inr after ↦
-            let k = i - base in
-            let is : base + k ≡ i = omega (arith, after) in
-            let unset : (bit_at word k == 1) ≡ false = ap (λ n. nat_eq n 1) (ap (λ w. bit_at w k) none ∙ bit_at-zero k) in
-            ap (λ n. get_or mask n false) (sym is) ∙ (sym (walk.left.same k (omega (arith, to, at, after)) (omega (arith, from, is))) ∙ unset)
+        | inr after ↦ word_bit word base (first + count) mask walk.left i 0 after (omega (arith, to, at)) from (ap (λ w. bit_at w (i - base)) none ∙ bit_at-zero (i - base))
       ];
   below = omega (arith, at, walk.below);
 }
@@ -208,19 +201,12 @@ module _ (ranges : List (ℕ × ℕ)) (first count word base start end rest : �
   before_is = λ i from to.
       elim (cases_lt i base) as (λ _. get_or mask i false ≡ false) [
         | inl before ↦ walk.gap i from before
-        | inr after ↦
-            let k = i - base in
-            let is : base + k ≡ i = omega (arith, after) in
-            let unset : (bit_at word k == 1) ≡ false = ap (λ n. nat_eq n 1) (run.below k (omega (arith, to, after))) in
-            ap (λ n. get_or mask n false) (sym is) ∙ (sym (walk.left.same k (omega (arith, to, after, run.rises, run.within)) (omega (arith, from, is))) ∙ unset)
+        | inr after ↦ word_bit word base (first + count) mask walk.left i 0 after (omega (arith, to, run.rises, run.within)) from (run.below (i - base) (omega (arith, to, after)))
       ]
 
   run_is : AreAlike mask (base + start) (base + end) true
   run_is = λ i from to.
-      let k = i - base in
-      let is : base + k ≡ i = omega (arith, from) in
-      let set : (bit_at word k == 1) ≡ true = ap (λ n. nat_eq n 1) (run.ones k (omega (arith, from)) (omega (arith, to, from))) in
-      ap (λ n. get_or mask n false) (sym is) ∙ (sym (walk.left.same k (omega (arith, to, from, run.within)) (omega (arith, from, is, row_behind))) ∙ set)
+      word_bit word base (first + count) mask walk.left i 1 (omega (arith, from)) (omega (arith, to, run.within)) (omega (arith, from, row_behind)) (run.ones (i - base) (omega (arith, from)) (omega (arith, to, from)))
 
   pub row_within : base + end ≤ length mask
   row_within =
@@ -255,10 +241,8 @@ module _ (ranges : List (ℕ × ℕ)) (first count word base start end rest : �
   walk_apart pushed row n apart is at none =
       let here = base + start in
       let within : here ≤ length mask = omega (arith, row_within, run.rises) in
-      let some : 0 < here - (first + count) = omega (arith, apart, row_behind) in
-      let left = labels_cut mask (first + count) here (here - (first + count)) false refl row_behind within before_is in
-      let ends = none_behind (here - (first + count)) (map kept_label (drop here mask)) (map kept_label (drop (first + count) mask)) some left in
-      let done = subst (λ rs. OpensUpTo rs here 0 mask) (sym is) (opens_at ranges first count mask walk.opens here row_behind within before_is ends) in
+      let unset = before_is (first + count) (omega arith) (omega (arith, apart, row_behind)) in
+      let done = subst (λ rs. OpensUpTo rs here 0 mask) (sym is) (opens_at ranges first count mask walk.opens here row_behind within before_is unset) in
       let opens = subst (λ k. OpensUpTo pushed k n mask) (sym at) (subst (λ k. OpensUpTo pushed here k mask) (sym none) done) in
       let from : here ≡ row + n = omega (arith, at, none) in
       let alike = subst (λ from. AreAlike mask from (base + end) true) from run_is in

@@ -1,6 +1,5 @@
 -- Members of a list in ranges, which are those at which a mask is set, and the bytes of rows in ranges.
-use Rattle.arrow_select.proofs.Common.{arith, ◌≡◌, ◌+◌, ◌-◌, ◌<◌, ◌≤◌, ℕ, zero, suc, Bool, true, false, List, [], ◌∷◌, ◌++◌, length, map, replicate, take, drop, drop-cons, get_or, slice_index, if◌then◌else◌, refl, ap, sym, ◌∙◌, append_assoc, count_by, concat, range_with_len, take-append-add, take-suc, flat_map-append, append-nil, length-append, map-append, take-append-drop, take-take, take_all, concat-append, named, rows_from, true_rows, IsOffsets, last_of, sliced, length-sliced, valid_values, set_run, places_from, IsRangesOf, at_set, spanned, ends_from, row_length, row_in, spanned_more}
-use Rattle.std.specs.Prelude.{flat_map}
+use Rattle.arrow_select.proofs.Common.{arith, ◌≡◌, ◌+◌, ◌-◌, ◌<◌, ◌≤◌, ℕ, zero, suc, Bool, true, false, List, [], ◌∷◌, ◌++◌, length, map, replicate, take, drop, drop-cons, get_or, slice_index, if◌then◌else◌, refl, ap, sym, ◌∙◌, append_assoc, count_by, concat, range_with_len, take-append-add, take-suc, flat_map-append, append-nil, length-append, map-append, take-take, take_all, concat-append, named, rows_from, true_rows, IsOffsets, last_of, sliced, length-sliced, valid_values, set_run, places_from, IsRangesOf, at_set, spanned, ends_from, row_length, row_in, spanned_more, flat_map, length-flat_map-take}
 use Rattle.arrow_select.proofs.SetBytes.{EndsUpTo, set_bytes, set_places}
 use Rattle.arrow_select.proofs.SetLemmas.{length-at_set}
 
@@ -35,14 +34,13 @@ row_behind (y ∷ before) xs x = row_behind before xs x
 
 at_true : {A : Type 0} (before xs : List A) (mask : List Bool) → length mask ≡ length xs → at (before ++ xs) (true_rows (length before) mask) ≡ at_set mask xs
 at_true before [] [] same = refl
-at_true before (x ∷ xs) [] same = absurd (omega (arith, same))
-at_true before [] (b ∷ mask) same = absurd (omega (arith, same))
 at_true before (x ∷ xs) (b ∷ mask) same =
     let all = sym (append_assoc before (x ∷ []) xs) in
     let next : suc (length before) ≡ length (before ++ x ∷ []) = omega (arith, length-append before (x ∷ [])) in
     let rest : at (before ++ x ∷ xs) (true_rows (suc (length before)) mask) ≡ at_set mask xs = (λ i. at (all i) (true_rows (next i) mask)) ∙ at_true (before ++ x ∷ []) xs mask (omega (arith, same)) in
     let by : (chosen : Bool) → at (before ++ x ∷ xs) (true_rows (length before) (chosen ∷ mask)) ≡ at_set (chosen ∷ mask) (x ∷ xs) = elim [ true ↦ (λ i. row_behind before xs x i ++ rest i) | false ↦ rest ] in
     by b
+at_true before xs mask same = absurd (omega (arith, same))
 
 -- so members in ranges are those at which the mask is set
 pub ranged_set : {A : Type 0} (ranges : List (ℕ × ℕ)) (mask : List Bool) (xs : List A) → named ranges ≡ true_rows 0 mask → length mask ≡ length xs → flat_map (λ (r : ℕ × ℕ). sliced xs r.0 r.1) ranges ≡ at_set mask xs
@@ -61,9 +59,7 @@ ranged_below ranges mask xs k are same within =
     let f = λ (r : ℕ × ℕ). sliced xs r.0 r.1 in
     let r = get_or ranges k (0, 0) in
     let here : length (f r) ≡ r.1 = length-sliced xs r.0 r.1 (omega (arith, are.within k (0, 0) within, same)) in
-    let cut : ranges ≡ take k ranges ++ r ∷ drop (suc k) ranges = sym (take-append-drop k ranges) ∙ ap (λ rs. take k ranges ++ rs) (drop-cons ranges k (0, 0) within) in
-    let whole : flat_map f ranges ≡ flat_map f (take k ranges) ++ (f r ++ flat_map f (drop (suc k) ranges)) = ap (flat_map f) cut ∙ flat_map-append f (take k ranges) (r ∷ drop (suc k) ranges) in
-    omega (arith, here, ap length whole, ap length (ranged_set ranges mask xs are.names same), length-at_set mask xs same, length-append (flat_map f (take k ranges)) (f r ++ flat_map f (drop (suc k) ranges)), length-append (f r) (flat_map f (drop (suc k) ranges)))
+    omega (arith, here, length-flat_map-take f ranges k (0, 0) within, ap length (ranged_set ranges mask xs are.names same), length-at_set mask xs same)
 
 -- all of them
 pub ranged_all : {A : Type 0} (ranges : List (ℕ × ℕ)) (mask : List Bool) (xs : List A) (k : ℕ) → named ranges ≡ true_rows 0 mask → length mask ≡ length xs → length ranges ≤ k → flat_map (λ (r : ℕ × ℕ). sliced xs r.0 r.1) (take k ranges) ≡ at_set mask xs
@@ -91,7 +87,7 @@ named_next ranges k within =
 
 -- ---- rows of bytes in ranges
 
-rows_range : (start n : ℕ) → rows_from start n ≡ range_with_len start n
+pub rows_range : (start n : ℕ) → rows_from start n ≡ range_with_len start n
 rows_range start zero = refl
 rows_range start (suc n) =
     let next : suc start ≡ start + 1 = omega arith in

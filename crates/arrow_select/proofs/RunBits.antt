@@ -1,6 +1,5 @@
 -- The lowest run of set bits of a word, found by what a carry does.
-use Rattle.arrow_select.proofs.Common.{arith, inl, inr, ◌≡◌, ◌+◌, ◌-◌, ◌/◌, ◌%◌, ◌^◌, ◌<◌, ◌≤◌, max, min, ℕ, zero, suc, ap, sym, subst, ◌∙◌, w64, bit_at, bit_not, trailing_ones, trailing_zeros, trailing_of_zero, cases_lt, and_le_l, or_lt, bit_at_and, bit_at_lowest, bit_at_or, bit_at-lt, bit_at-suc, bit_at-trailing_ones, bit_at-trailing_zeros, bit_at-zero, bit_at_above, bit_at_ones, IsLowestRun}
-use Rattle.std.specs.Prelude.{bit_and, bit_or}
+use Rattle.arrow_select.proofs.Common.{arith, inl, inr, ◌≡◌, ◌+◌, ◌-◌, ◌%◌, ◌^◌, ◌<◌, ◌≤◌, max, min, ℕ, ap, sym, subst, ◌∙◌, w64, bit_at, bit_not, trailing_ones, trailing_zeros, trailing_of_zero, cases_lt, and_le_l, or_lt, bit_at_and, bit_at_or, bit_at-lt, bit_at-trailing_ones, bit_at-trailing_zeros, bit_at-zero, bit_at_above, bit_at_ones, IsLowestRun, bit_and, bit_or}
 use Rattle.arrow_select.proofs.SetLemmas.{LosesLowest, one_less}
 
 -- one more than a number that ends in ones: these are zeros then, and the zero above them is a one
@@ -9,37 +8,22 @@ pub record Carries (x y k : ℕ) : Type 0 where
   pub one : bit_at y k ≡ 1
   pub above : (i : ℕ) → k < i → bit_at y i ≡ bit_at x i
 
-below_half : (x y k i : ℕ) → x % 2 ≡ 1 → (x + 1) / 2 ≡ y → ((i : ℕ) → i < k → bit_at y i ≡ 0) → i < suc k → bit_at (x + 1) i ≡ 0
-below_half x y k zero odd half rest to = bit_at_lowest (x + 1) ∙ omega (arith, odd)
-below_half x y k (suc i) odd half rest to =
-    bit_at-suc (x + 1) i ∙ (ap (λ n. bit_at n i) half ∙ rest i (omega (arith, to)))
-
-same_above : (x i : ℕ) → (x + 1) / 2 ≡ x / 2 → 0 < i → bit_at (x + 1) i ≡ bit_at x i
-same_above x zero half from = absurd (omega (arith, from))
-same_above x (suc i) half from = bit_at-suc (x + 1) i ∙ (ap (λ n. bit_at n i) half ∙ sym (bit_at-suc x i))
-
-above_half : (x y k i : ℕ) → (x + 1) / 2 ≡ y → ((i : ℕ) → k < i → bit_at y i ≡ bit_at (x / 2) i) → suc k < i → bit_at (x + 1) i ≡ bit_at x i
-above_half x y k zero half rest from = absurd (omega (arith, from))
-above_half x y k (suc i) half rest from =
-    bit_at-suc (x + 1) i ∙ (ap (λ n. bit_at n i) half ∙ (rest i (omega (arith, from)) ∙ sym (bit_at-suc x i)))
-
-one_more : (x k : ℕ) → ((i : ℕ) → i < k → bit_at x i ≡ 1) → bit_at x k ≡ 0 → Carries x (x + 1) k
-one_more x zero ones none =
-    let even : x % 2 ≡ 0 = sym (bit_at_lowest x) ∙ none in
-    record {
-      below = λ i to. absurd (omega (arith, to));
-      one = bit_at_lowest (x + 1) ∙ omega (arith, even);
-      above = λ i from. same_above x i (omega (arith, even)) from;
-    }
-one_more x (suc k) ones none =
-    let odd : x % 2 ≡ 1 = sym (bit_at_lowest x) ∙ ones 0 (omega arith) in
-    let rest = one_more (x / 2) k (λ i to. sym (bit_at-suc x i) ∙ ones (suc i) (omega (arith, to))) (sym (bit_at-suc x k) ∙ none) in
-    let half : (x + 1) / 2 ≡ x / 2 + 1 = omega (arith, odd) in
-    record {
-      below = λ i to. below_half x (x / 2 + 1) k i odd half rest.below to;
-      one = bit_at-suc (x + 1) k ∙ (ap (λ n. bit_at n k) half ∙ rest.one);
-      above = λ i from. above_half x (x / 2 + 1) k i half rest.above from;
-    }
+one_more : (x : ℕ) → x + 1 < 2 ^ 64 → Carries x (x + 1) (trailing_ones w64 x)
+one_more x small =
+    let k = trailing_ones w64 x in
+    let j = trailing_zeros w64 (x + 1) in
+    let ends = bit_at-trailing_ones w64 x small in
+    let found = bit_at-trailing_zeros w64 (x + 1) (omega arith) small in
+    let less = one_less (x + 1) j found.2 found.1 in
+    let same : x + 1 - 1 ≡ x = omega arith in
+    let at : j ≡ k = elim (cases_lt j k) as (λ _. j ≡ k) [
+      | inl before ↦ absurd (omega (arith, ends.2 j before, ap (λ n. bit_at n j) same, less.unset))
+      | inr after ↦ elim (cases_lt k j) as (λ _. j ≡ k) [
+        | inl past ↦ absurd (omega (arith, less.ones k past, ap (λ n. bit_at n k) same, ends.1))
+        | inr here ↦ omega (arith, after, here)
+      ]
+    ] in
+    subst (Carries x (x + 1)) at (record { below = found.2; one = found.1; above = λ i from. sym (less.above i from) ∙ ap (λ n. bit_at n i) same })
 
 -- ---- a word whose zeros below the lowest one are ones
 
@@ -91,7 +75,7 @@ module _ (w : ℕ) (some : 0 < w) (small : w < 2 ^ 64) where
       let f = bit_or w (w - 1) in
       let end = trailing_ones w64 f in
       let ends = bit_at-trailing_ones w64 f part in
-      let carry = one_more f end ends.2 ends.1 in
+      let carry = one_more f part in
       let rises : start < end = elim (cases_lt start end) as (λ _. start < end) [
         | inl before ↦ before
         | inr after ↦ absurd (omega (arith, filled_low w start end less one after, ends.1))

@@ -1,6 +1,5 @@
 -- Rows of bytes or items at which a mask is set: where they end and what they have, a run of rows at a time.
-use Rattle.arrow_select.proofs.Common.{arith, ◌≡◌, ◌+◌, ◌-◌, ℕ, zero, suc, pos, ◌<◌, ◌≤◌, ◌^◌, Bool, true, false, Option, Some, None, List, [], ◌∷◌, ◌++◌, length, map, replicate, drop, slice_index, refl, ap, sym, subst, ◌∙◌, append_assoc, option_map, slice_get, sum, concat, range_with_len, length-map, map-append, All-cons, All-nil, sum-map, sum_by-append, sum_by-cons, PhysicalType, ArrowType, Fits, byte_count, greatest_offset, physical_type_of, masked, select, Slot, drop_at_read, IsOffsets, last_of, at_most_last, offsets_rise, length-sliced, FitsRows, pieces, length-pieces, piece_at, fits_rows, slots_fit, IsBytesType, total, valid_values, places_from, at_set, ends_from, concatenated, row_in, row_length, concatenated_length, ends_append, ends_last, last_ends, rows_between}
-use Rattle.std.specs.List.{All}
+use Rattle.arrow_select.proofs.Common.{arith, ◌≡◌, ◌+◌, ◌-◌, ℕ, zero, suc, pos, ◌<◌, ◌≤◌, ◌^◌, Bool, true, false, Option, Some, None, List, [], ◌∷◌, ◌++◌, length, map, replicate, drop, slice_index, refl, ap, sym, subst, ◌∙◌, append_assoc, option_map, slice_get, sum, concat, range_with_len, length-map, map-append, All-cons, All-nil, sum-map, sum_by-append, sum_by-cons, PhysicalType, ArrowType, Fits, byte_count, greatest_offset, physical_type_of, masked, select, Slot, drop_at_read, IsOffsets, last_of, at_most_last, offsets_rise, length-sliced, FitsRows, pieces, length-pieces, piece_at, fits_rows, slots_fit, IsBytesType, total, valid_values, places_from, at_set, ends_from, concatenated, row_in, row_length, concatenated_length, ends_append, ends_last, last_ends, rows_between, All, counted_sum}
 use Rattle.arrow_select.proofs.FilterLemmas.{set_fits, set_rows}
 use Rattle.arrow_select.proofs.SetLemmas.{at_set-short}
 
@@ -47,7 +46,7 @@ module _ (os ends left run rest all : List ℕ) (some : 0 < length ends) (is : l
       (λ i. pushed i ++ ends_from (last i) others) ∙ (append_assoc ends (ends_from (last_of ends) lengths) (ends_from (last_of ends + sum lengths) others) ∙ (ap (λ es. ends ++ es) (sym whole) ∙ so_far))
 
   -- it ends no later than all rows
-  pub ends_below : last_of ends + sum (map (row_length os) run) ≤ sum (map (row_length os) all)
+  ends_below : last_of ends + sum (map (row_length os) run) ≤ sum (map (row_length os) all)
   ends_below =
       let whole = sym (last_ends ends (map (row_length os) left) some) ∙ (ap last_of so_far ∙ ends_last 0 (map (row_length os) all)) in
       let parts = ap sum split ∙ sum_by-append (λ x. x) (map (row_length os) run) (map (row_length os) rest) in
@@ -56,7 +55,7 @@ module _ (os ends left run rest all : List ℕ) (some : 0 < length ends) (is : l
 -- ---- how long they are
 
 -- those at which a mask is set have no more than all
-pub set_sum : (os : List ℕ) (mask : List Bool) (i : ℕ) → IsOffsets os → i + length mask < length os → sum (map (row_length os) (places_from i mask)) + slice_index os i ≤ slice_index os (i + length mask)
+set_sum : (os : List ℕ) (mask : List Bool) (i : ℕ) → IsOffsets os → i + length mask < length os → sum (map (row_length os) (places_from i mask)) + slice_index os i ≤ slice_index os (i + length mask)
 set_sum os [] i held part =
     let same : slice_index os (i + 0) ≡ slice_index os i = ap (slice_index os) (omega arith) in
     omega (arith, same)
@@ -68,10 +67,17 @@ set_sum os (b ∷ mask) i held part =
     let by : (b : Bool) → sum (map (row_length os) (places_from i (b ∷ mask))) + slice_index os i ≤ slice_index os (i + suc (length mask)) = elim [ true ↦ omega (arith, at, rise, rest, first) | false ↦ omega (arith, at, rise, rest) ] in
     by b
 
+-- so a run of rows more ends where offsets may be
+pub ends_fit : (os ends left rest : List ℕ) (mask : List Bool) (start count greatest : ℕ) → 0 < length ends → left ≡ range_with_len start count ++ rest → EndsUpTo os ends left (places_from 0 mask) → IsOffsets os → length os ≡ length mask + 1 → slice_index os (0 + length mask) ≤ greatest → start + count < length os → last_of ends + (slice_index os (start + count) - slice_index os start) ≤ greatest
+ends_fit os ends left rest mask start count greatest some is so_far sound lengths most part =
+    let below = ends_below os ends left (range_with_len start count) rest (places_from 0 mask) some is so_far in
+    let run = counted_sum os start count sound part in
+    omega (arith, below, run, set_sum os mask 0 sound (omega (arith, lengths)), most)
+
 -- ---- the rows
 
 -- members at which a mask is set, each by its place
-set_by_place : {A : Type 0} (g : ℕ → A) (xs : List A) (mask : List Bool) (i : ℕ) → ((n : ℕ) → n < length xs → slice_get xs n ≡ Some (g n)) → i + length mask ≡ length xs → at_set mask (drop i xs) ≡ map g (places_from i mask)
+pub set_by_place : {A : Type 0} (g : ℕ → A) (xs : List A) (mask : List Bool) (i : ℕ) → ((n : ℕ) → n < length xs → slice_get xs n ≡ Some (g n)) → i + length mask ≡ length xs → at_set mask (drop i xs) ≡ map g (places_from i mask)
 set_by_place g xs [] i reads long = refl
 set_by_place g xs (b ∷ mask) i reads long =
     let here = drop_at_read xs i (g i) (reads i (omega (arith, long))) in
@@ -92,12 +98,11 @@ set_bytes os bytes (false ∷ mask) i = set_bytes os bytes mask (i + 1)
 
 -- a fact of all members holds for those at which a mask is set
 pub all_set : {A : Type 0} (P : A → Type 0) (mask : List Bool) (xs : List A) → All P xs → All P (at_set mask xs)
-all_set P [] xs all = All-nil P
-all_set P (b ∷ mask) [] all = All-nil P
 all_set P (b ∷ mask) (x ∷ xs) all =
     let rest = all_set P mask xs (λ k d within. all (suc k) d (omega (arith, within))) in
     let by : (b : Bool) → All P (at_set (b ∷ mask) (x ∷ xs)) = elim [ true ↦ All-cons P x (at_set mask xs) (all 0 x (omega arith)) rest | false ↦ rest ] in
     by b
+all_set P mask xs all = All-nil P
 
 -- a validity of the rows that are kept has a bit for each
 pub kept_bits : {A : Type 0} (os : List ℕ) (bytes : List A) (offsets : List ℕ) (made : List A) (mask : List Bool) (v w : Option (List Bool)) → length mask ≡ length os - 1 → w ≡ option_map (at_set mask) v → pieces offsets made ≡ at_set mask (pieces os bytes) → FitsRows v (length os - 1) → FitsRows w (length offsets - 1)

@@ -1,6 +1,5 @@
 -- Members of lists at which a mask is set: of a word, from the lowest bit on, and of a list, a word at a time.
-use Rattle.arrow_select.proofs.Common.{arith, inl, inr, ◌≡◌, ◌+◌, ◌-◌, ◌*◌, ◌/◌, ◌%◌, ◌^◌, ◌<◌, ◌≤◌, min, ℕ, zero, suc, Bool, true, false, cond, if◌then◌else◌, Some, List, [], ◌∷◌, ◌++◌, length, map, take, drop, refl, ap, sym, subst, ◌∙◌, append_assoc, w64, ◌==◌, nat_eq, count_ones, slice_get, range_with_len, bit_at, from_bool, trailing_zeros, pow-le-pow_right, mod-eq_of_lt, cases_lt, append-nil, length-append, drop-drop, drop_all, get_or-drop, get_or-take, length-take, length-drop, same_lists, take_min, get_or-map-range_with_len, length-map-range_with_len, slice_get-get_or, sum_by-cons, and_le_l, ones_le_self, bit_at_and, bit_at_lowest, bit_at-suc, bit_at_above, bit_at-trailing_zeros, bit_at-zero, bit_at-lt, bit_at_ones, shr_and_one, mask_l-lt, sliced, low_bits, set_count, word_of, bit_at-shr, count_ones-word_of, length-low_bits, word_of-low_bits, at_set, set_in_word, word_bits, IsRunOf, bits_of_word, word_more, length-sliced}
-use Rattle.std.specs.Prelude.{bit_and, bit_or}
+use Rattle.arrow_select.proofs.Common.{arith, inl, inr, ◌≡◌, ◌+◌, ◌-◌, ◌*◌, ◌/◌, ◌%◌, ◌^◌, ◌<◌, ◌≤◌, min, ℕ, zero, suc, Bool, true, false, cond, if◌then◌else◌, Some, List, [], ◌∷◌, ◌++◌, length, map, take, drop, refl, ap, sym, subst, ◌∙◌, append_assoc, w64, ◌==◌, nat_eq, count_ones, slice_get, range_with_len, bit_at, from_bool, trailing_zeros, pow-le-pow_right, mod-eq_of_lt, cases_lt, append-nil, length-append, drop-drop, drop_all, length-take, length-drop, take_min, get_or-map-range_with_len, slice_get-get_or, sum_by-cons, and_le_l, ones_le_self, bit_at_and, bit_at_lowest, bit_at-suc, bit_at_above, bit_at-trailing_zeros, bit_at-zero, bit_at-lt, bit_at_ones, shr_and_one, mask_l-lt, sliced, low_bits, set_count, word_of, bit_at-shr, count_ones-word_of, length-low_bits, word_of-low_bits, at_set, set_in_word, word_bits, IsRunOf, bits_of_word, word_more, replicate, take_at, drop_at, low_bits_add, get_or, slice_get_read, bit_and, bit_or}
 
 -- how many members are set
 pub length-at_set : {A : Type 0} (mask : List Bool) (xs : List A) → length mask ≡ length xs → length (at_set mask xs) ≡ set_count mask
@@ -9,31 +8,42 @@ length-at_set (b ∷ mask) [] h = absurd (omega (arith, h))
 length-at_set (true ∷ mask) (x ∷ xs) h = omega (arith, length-at_set mask xs (omega (arith, h)), sum_by-cons (λ b. cond b 1 0) true mask)
 length-at_set (false ∷ mask) (x ∷ xs) h = omega (arith, length-at_set mask xs (omega (arith, h)), sum_by-cons (λ b. cond b 1 0) false mask)
 
-pub nil_at : {A : Type 0} (mask : List Bool) → ◌≡◌ {A = List A} (at_set mask []) []
+-- the same, for a function's attribute
+pub ruleset lengths = (length-at_set)
+
+nil_at : {A : Type 0} (mask : List Bool) → ◌≡◌ {A = List A} (at_set mask []) []
 nil_at [] = refl
 nil_at (b ∷ mask) = refl
 
 -- no more than there are
 pub at_set-short : {A : Type 0} (mask : List Bool) (xs : List A) → length (at_set mask xs) ≤ length xs
-at_set-short [] xs = omega arith
-at_set-short (b ∷ mask) [] = omega arith
 at_set-short (true ∷ mask) (x ∷ xs) = omega (arith, at_set-short mask xs)
 at_set-short (false ∷ mask) (x ∷ xs) = omega (arith, at_set-short mask xs)
+at_set-short mask xs = omega arith
+
+-- at which a run of bits is set
+pub set_run : {A : Type 0} (n : ℕ) (bits : List Bool) (xs : List A) → at_set (replicate n true ++ bits) xs ≡ take n xs ++ at_set bits (drop n xs)
+set_run zero bits xs = refl
+set_run (suc n) bits [] = sym (nil_at bits)
+set_run (suc n) bits (x ∷ xs) = ap (λ ys. x ∷ ys) (set_run n bits xs)
+
+pub unset_run : {A : Type 0} (n : ℕ) (bits : List Bool) (xs : List A) → at_set (replicate n false ++ bits) xs ≡ at_set bits (drop n xs)
+unset_run zero bits xs = refl
+unset_run (suc n) bits [] = sym (nil_at bits)
+unset_run (suc n) bits (x ∷ xs) = unset_run n bits xs
 
 pub at_set-append : {A : Type 0} (mask more : List Bool) (xs ys : List A) → length mask ≡ length xs → at_set (mask ++ more) (xs ++ ys) ≡ at_set mask xs ++ at_set more ys
 at_set-append [] more [] ys h = refl
-at_set-append [] more (x ∷ xs) ys h = absurd (omega (arith, h))
-at_set-append (b ∷ mask) more [] ys h = absurd (omega (arith, h))
 at_set-append (true ∷ mask) more (x ∷ xs) ys h = ap (λ zs. x ∷ zs) (at_set-append mask more xs ys (omega (arith, h)))
 at_set-append (false ∷ mask) more (x ∷ xs) ys h = at_set-append mask more xs ys (omega (arith, h))
+at_set-append mask more xs ys h = absurd (omega (arith, h))
 
 -- a list that is cut in two
 pub at_set-cut : {A : Type 0} (n : ℕ) (mask : List Bool) (xs : List A) → at_set mask xs ≡ at_set (take n mask) (take n xs) ++ at_set (drop n mask) (drop n xs)
-at_set-cut zero mask xs = refl
-at_set-cut (suc n) [] xs = refl
 at_set-cut (suc n) (b ∷ mask) [] = sym (nil_at (drop n mask))
 at_set-cut (suc n) (true ∷ mask) (x ∷ xs) = ap (λ ys. x ∷ ys) (at_set-cut n mask xs)
 at_set-cut (suc n) (false ∷ mask) (x ∷ xs) = at_set-cut n mask xs
+at_set-cut n mask xs = refl
 
 -- and from a place on
 pub at_set-from : {A : Type 0} (place n : ℕ) (mask : List Bool) (xs : List A) → at_set (drop place mask) (drop place xs) ≡ at_set (sliced mask place n) (sliced xs place n) ++ at_set (drop (place + n) mask) (drop (place + n) xs)
@@ -51,10 +61,9 @@ map_range f g a (suc n) same =
 
 -- no bit is set
 none_at : {A : Type 0} (f : ℕ → Bool) (a n : ℕ) (xs : List A) → ((i : ℕ) → a ≤ i → f i ≡ false) → at_set (map f (range_with_len a n)) xs ≡ []
-none_at f a zero xs none = refl
-none_at f a (suc n) [] none = refl
 none_at f a (suc n) (x ∷ xs) none =
     ap (λ b. if b then x ∷ at_set (map f (range_with_len (a + 1) n)) xs else at_set (map f (range_with_len (a + 1) n)) xs) (none a (omega arith)) ∙ none_at f (a + 1) n xs (λ i from. none i (omega (arith, from)))
+none_at f a n xs none = refl
 
 -- the first bit that is set, and others that differ in that bit alone
 first_at : {A : Type 0} (f g : ℕ → Bool) (a k n : ℕ) (xs : List A) (x : A) → k < n → ((i : ℕ) → i < a + k → f i ≡ false) → f (a + k) ≡ true → ((i : ℕ) → i ≤ a + k → g i ≡ false) → ((i : ℕ) → a + k < i → f i ≡ g i) → slice_get xs k ≡ Some x → at_set (map f (range_with_len a n)) xs ≡ x ∷ at_set (map g (range_with_len a n)) xs
@@ -76,11 +85,6 @@ first_at f g a (suc k) (suc n) (y ∷ xs) x within below one unset above read =
     ap (λ b. if b then y ∷ fs else fs) (below a (omega arith)) ∙ (rest ∙ ap (λ b. x ∷ (if b then y ∷ gs else gs)) (sym (unset a (omega arith))))
 
 -- ---- the lowest bit of a word that is set
-
--- where a word is not 0, one is
-pub some_left : (w : ℕ) → (w ≡ 0 → ⊥) → 0 < w
-some_left zero none = absurd (none refl)
-some_left (suc w) none = omega arith
 
 above_lowest : (w i : ℕ) → (w - 1) / 2 ≡ w / 2 → 0 < i → bit_at (w - 1) i ≡ bit_at w i
 above_lowest w zero half above = absurd (omega (arith, above))
@@ -152,15 +156,12 @@ drops_lowest w some small =
     }
 
 -- it lies within so many bits where the word does
-one_or_none : (b : ℕ) → b ≡ 1 → b ≡ 0 → ⊥
-one_or_none b one none = omega (arith, one, none)
-
 pub lowest_within : (w n : ℕ) → 0 < w → w < 2 ^ 64 → w < 2 ^ n → trailing_zeros w64 w < n
 lowest_within w n some small below =
     let k = trailing_zeros w64 w in
     elim (cases_lt k n) as (λ _. k < n) [
       | inl before ↦ before
-      | inr after ↦ absurd (one_or_none (bit_at w k) (drops_lowest w some small).one (bit_at_above w n k below after))
+      | inr after ↦ absurd (omega (arith, (drops_lowest w some small).one, bit_at_above w n k below after))
     ]
 
 is_one : (b c : ℕ) → b ≡ c → (b == 1) ≡ (c == 1)
@@ -218,17 +219,6 @@ word_of_part mask xs place word count n lengths is cut read =
       same = λ i. at_set (shown i) (whole i);
     }
 
--- the bits of a word, cut in two
-split_range : (f : ℕ → Bool) (a m n : ℕ) → map f (range_with_len a (m + n)) ≡ map f (range_with_len a m) ++ map f (range_with_len (a + m) n)
-split_range f a zero n =
-    let whole : zero + n ≡ n = omega arith in
-    let start : a + zero ≡ a = omega arith in
-    λ i. map f (range_with_len (sym start i) (whole i))
-split_range f a (suc m) n =
-    let front : suc m + n ≡ suc (m + n) = omega arith in
-    let place : a + 1 + m ≡ a + suc m = omega arith in
-    ap (λ k. map f (range_with_len a k)) front ∙ (ap (λ bits. f a ∷ bits) (split_range f (a + 1) m n) ∙ ap (λ k. (f a ∷ map f (range_with_len (a + 1) m)) ++ map f (range_with_len k n)) place)
-
 -- as many bits as a word has
 pub length-word_bits : (word : ℕ) → length (word_bits word) ≡ 64
 unfolding word_bits
@@ -243,107 +233,87 @@ unfolding word_bits
 read-word_bits word k within =
     slice_get-get_or (low_bits word 64) k false (omega (arith, length-low_bits word 64, within)) ∙ ap (λ b. Some b) (get_or-map-range_with_len (λ i. bit_at word i == 1) 0 64 k k false within (omega arith))
 
-behind : (bits : List Bool) (word n : ℕ) → word ≡ word_of bits → length bits ≡ n → n ≤ 64 → word_bits word ≡ bits ++ map (λ i. bit_at word i == 1) (range_with_len (0 + n) (64 - n))
+behind : (bits : List Bool) (word n : ℕ) → word ≡ word_of bits → length bits ≡ n → n ≤ 64 → word_bits word ≡ bits ++ low_bits (word / 2 ^ n) (64 - n)
 unfolding word_bits
 behind bits word n read long most =
-    let f = λ (i : ℕ). bit_at word i == 1 in
     let parts : 64 ≡ n + (64 - n) = omega (arith, most) in
-    ap (low_bits word) parts ∙ (split_range f 0 n (64 - n) ∙ ap (λ front. front ++ map f (range_with_len (0 + n) (64 - n))) (bits_of_word bits word n read long))
+    ap (low_bits word) parts ∙ (low_bits_add word n (64 - n) ∙ ap (λ front. front ++ low_bits (word / 2 ^ n) (64 - n)) (bits_of_word bits word n read long))
 
 -- the words of two lists of bits say what the one keeps of the other
-pub set_in_words : (ms bs : List Bool) (mask bits : ℕ) → mask ≡ word_of ms → bits ≡ word_of bs → length ms ≡ length bs → length ms ≤ 64 → set_in_word mask (word_bits bits) ≡ at_set ms bs
+set_in_words : (ms bs : List Bool) (mask bits : ℕ) → mask ≡ word_of ms → bits ≡ word_of bs → length ms ≡ length bs → length ms ≤ 64 → set_in_word mask (word_bits bits) ≡ at_set ms bs
 set_in_words ms bs mask bits is read lengths most =
     let n = length ms in
-    let f = λ (i : ℕ). bit_at mask i == 1 in
-    let g = λ (i : ℕ). bit_at bits i == 1 in
     let small : mask < 2 ^ n = subst (λ w. w < 2 ^ n) (sym is) (mask_l-lt ms) in
     let left = low-word_bits mask bits ∙ behind ms mask n is refl most in
     let right = behind bs bits n read (sym lengths) most in
-    let above = none_at f (0 + n) (64 - n) (map g (range_with_len (0 + n) (64 - n))) (λ i from. is_one (bit_at mask i) 0 (bit_at_above mask n i small (omega (arith, from)))) in
-    (λ i. at_set (left i) (right i)) ∙ (at_set-append ms (map f (range_with_len (0 + n) (64 - n))) bs (map g (range_with_len (0 + n) (64 - n))) lengths ∙ (ap (λ ys. at_set ms bs ++ ys) above ∙ append-nil (at_set ms bs)))
-
--- and from a place on
-pub set_in_part : (mask bits : List Bool) (place mask_word bits_word : ℕ) → length mask ≡ length bits → mask_word ≡ word_of (sliced mask place 64) → bits_word ≡ word_of (sliced bits place 64) → set_in_word mask_word (word_bits bits_word) ≡ at_set (sliced mask place 64) (sliced bits place 64)
-set_in_part mask bits place mask_word bits_word lengths is read =
-    let ms = length-take 64 (drop place mask) in
-    let bs = length-take 64 (drop place bits) in
-    set_in_words (sliced mask place 64) (sliced bits place 64) mask_word bits_word is read (omega (arith, lengths, ms, bs, length-drop place mask, length-drop place bits)) (omega (arith, ms))
+    let rest = low_bits (bits / 2 ^ n) (64 - n) in
+    let above = none_at (λ i. bit_at (mask / 2 ^ n) i == 1) 0 (64 - n) rest (λ i from. is_one (bit_at (mask / 2 ^ n) i) 0 (bit_at-shr mask n i ∙ bit_at_above mask n (n + i) small (omega arith))) in
+    (λ i. at_set (left i) (right i)) ∙ (at_set-append ms (low_bits (mask / 2 ^ n) (64 - n)) bs rest lengths ∙ (ap (λ ys. at_set ms bs ++ ys) above ∙ append-nil (at_set ms bs)))
 
 -- where none is left
-pub none_from : {A : Type 0} (place : ℕ) (mask : List Bool) (xs : List A) → length mask ≤ place → at_set (drop place mask) xs ≡ []
+none_from : {A : Type 0} (place : ℕ) (mask : List Bool) (xs : List A) → length mask ≤ place → at_set (drop place mask) xs ≡ []
 none_from place [] xs past = ap (λ bits. at_set bits xs) (drop_all place [] (omega (arith, past)))
 none_from zero (b ∷ mask) xs past = absurd (omega (arith, past))
 none_from (suc place) (b ∷ mask) xs past = none_from place mask xs (omega (arith, past))
-
--- a word without a set bit keeps nothing
-pub none_in_word : {A : Type 0} (mask : List Bool) (xs : List A) (place word next : ℕ) → length mask ≡ length xs → word ≡ word_of (sliced mask place 64) → word ≡ 0 → next ≡ place + 64 → at_set (drop place mask) (drop place xs) ≡ at_set (drop next mask) (drop next xs)
-none_in_word mask xs place word next lengths read is at =
-    let n = min 64 (length mask - place) in
-    let part = take n (drop place xs) in
-    let here = word_of_part mask xs place word n n lengths refl refl read in
-    let none : at_set (sliced mask place 64) (sliced xs place 64) ≡ [] = sym here.same ∙ (ap (λ w. set_in_word w part) is ∙ set_in_zero part) in
-    at_set-from place 64 mask xs ∙ (ap (λ ys. ys ++ at_set (drop (place + 64) mask) (drop (place + 64) xs)) none ∙ ap (λ n. at_set (drop n mask) (drop n xs)) (sym at))
 
 -- ---- a word whose set bits are one run
 
 -- the first are set, and no others
 first_run : {A : Type 0} (f : ℕ → Bool) (a m n : ℕ) (xs : List A) → length xs ≡ n → m ≤ n → ((i : ℕ) → a ≤ i → i < a + m → f i ≡ true) → ((i : ℕ) → a + m ≤ i → f i ≡ false) → at_set (map f (range_with_len a n)) xs ≡ take m xs
 first_run f a zero n xs long within ones above = none_at f a n xs (λ i from. above i (omega (arith, from)))
-first_run f a (suc m) zero xs long within ones above = absurd (omega (arith, within))
-first_run f a (suc m) (suc n) [] long within ones above = absurd (omega (arith, long))
 first_run f a (suc m) (suc n) (x ∷ xs) long within ones above =
     let rest = at_set (map f (range_with_len (a + 1) n)) xs in
     ap (λ b. if b then x ∷ rest else rest) (ones a (omega arith) (omega arith)) ∙ ap (λ ys. x ∷ ys) (first_run f (a + 1) m n xs (omega (arith, long)) (omega (arith, within)) (λ i from to. ones i (omega (arith, from)) (omega (arith, to))) (λ i from. above i (omega (arith, from))))
+first_run f a m n xs long within ones above = absurd (omega (arith, within, long))
 
 -- so many from a place on are set, and no others
 run_at : {A : Type 0} (f : ℕ → Bool) (a k m n : ℕ) (xs : List A) → length xs ≡ n → k + m ≤ n → ((i : ℕ) → i < a + k → f i ≡ false) → ((i : ℕ) → a + k ≤ i → i < a + k + m → f i ≡ true) → ((i : ℕ) → a + k + m ≤ i → f i ≡ false) → at_set (map f (range_with_len a n)) xs ≡ take m (drop k xs)
 run_at f a zero m n xs long within below ones above =
     first_run f a m n xs long (omega (arith, within)) (λ i from to. ones i (omega (arith, from)) (omega (arith, to))) (λ i from. above i (omega (arith, from)))
-run_at f a (suc k) m zero xs long within below ones above = absurd (omega (arith, within))
-run_at f a (suc k) m (suc n) [] long within below ones above = absurd (omega (arith, long))
 run_at f a (suc k) m (suc n) (x ∷ xs) long within below ones above =
     let rest = at_set (map f (range_with_len (a + 1) n)) xs in
     ap (λ b. if b then x ∷ rest else rest) (below a (omega arith)) ∙ run_at f (a + 1) k m n xs (omega (arith, long)) (omega (arith, within)) (λ i to. below i (omega (arith, to))) (λ i from to. ones i (omega (arith, from)) (omega (arith, to))) (λ i from. above i (omega (arith, from)))
+run_at f a k m n xs long within below ones above = absurd (omega (arith, within, long))
 
 -- it ends within so many bits where the word does
-pub run_within : (w first count n : ℕ) → IsRunOf w first count → w < 2 ^ n → first + count ≤ n
-run_within w first count n run below =
-    let last : bit_at w (first + (count - 1)) ≡ 1 = run.ones (count - 1) (omega (arith, run.some)) in
-    elim (cases_lt (first + (count - 1)) n) as (λ _. first + count ≤ n) [
-      | inl before ↦ omega (arith, before, run.some)
-      | inr after ↦ absurd (one_or_none (bit_at w (first + (count - 1))) last (bit_at_above w n (first + (count - 1)) below after))
-    ]
+module _ {w first count : ℕ} (run : IsRunOf w first count) where
+  pub run_within : (n : ℕ) → w < 2 ^ n → first + count ≤ n
+  run_within n below =
+      let last : bit_at w (first + (count - 1)) ≡ 1 = run.ones (count - 1) (omega (arith, run.some)) in
+      elim (cases_lt (first + (count - 1)) n) as (λ _. first + count ≤ n) [
+        | inl before ↦ omega (arith, before, run.some)
+        | inr after ↦ absurd (omega (arith, last, bit_at_above w n (first + (count - 1)) below after))
+      ]
 
--- the values at which the bits of such a word are set, as a part of a slice is read
-pub set_in_run : {A : Type 0} (w first count : ℕ) (xs : List A) → IsRunOf w first count → w < 2 ^ length xs → take (first + count - first) (drop first xs) ≡ set_in_word w xs
-set_in_run w first count xs run below =
-    let many : first + count - first ≡ count = omega arith in
-    ap (λ n. take n (drop first xs)) many ∙ sym (run_at (λ i. bit_at w i == 1) 0 first count (length xs) xs refl (run_within w first count (length xs) run below) (λ i to. is_one (bit_at w i) 0 (run.below i (omega (arith, to)))) (λ i from to.
-    let at : first + (i - first) ≡ i = omega (arith, from) in
-    is_one (bit_at w i) 1 (ap (bit_at w) (sym at) ∙ run.ones (i - first) (omega (arith, from, to)))) (λ i from. is_one (bit_at w i) 0 (run.above i (omega (arith, from)))))
+  -- the values at which the bits of such a word are set, as a part of a slice is read
+  pub set_in_run : {A : Type 0} (xs : List A) → w < 2 ^ length xs → take (first + count - first) (drop first xs) ≡ set_in_word w xs
+  set_in_run xs below =
+      let many : first + count - first ≡ count = omega arith in
+      ap (λ n. take n (drop first xs)) many ∙ sym (run_at (λ i. bit_at w i == 1) 0 first count (length xs) xs refl (run_within (length xs) below) (λ i to. is_one (bit_at w i) 0 (run.below i (omega (arith, to)))) (λ i from to.
+      let at : first + (i - first) ≡ i = omega (arith, from) in
+      is_one (bit_at w i) 1 (ap (bit_at w) (sym at) ∙ run.ones (i - first) (omega (arith, from, to)))) (λ i from. is_one (bit_at w i) 0 (run.above i (omega (arith, from)))))
+
+  -- and the bits at which it is set
+  pub gathered_run : (bits made : ℕ) → w < 2 ^ 64 → made ≡ word_of (sliced (word_bits bits) first count) → made ≡ word_of (set_in_word w (word_bits bits))
+  gathered_run bits made small is =
+      let many : first + count - first ≡ count = omega arith in
+      let below : w < 2 ^ length (word_bits bits) = subst (λ n. w < 2 ^ n) (sym (length-word_bits bits)) small in
+      is ∙ ap word_of (ap (λ n. take n (drop first (word_bits bits))) (sym many) ∙ set_in_run (word_bits bits) below)
 
 -- so many bits of a word from a place on
 bits_of_run : (bits first count : ℕ) → first + count ≤ 64 → low_bits (bits / 2 ^ first) count ≡ sliced (word_bits bits) first count
 unfolding word_bits
 bits_of_run bits first count within =
-    let f = λ (k : ℕ). bit_at (bits / 2 ^ first) k == 1 in
-    let size = length-map-range_with_len f 0 count in
-    same_lists _ _ (size ∙ sym (length-sliced (low_bits bits 64) first count (omega (arith, within, length-low_bits bits 64))))
-    (λ k d below.
-    let here : k < count = omega (arith, below, size) in
-    let read = get_or-take count (drop first (low_bits bits 64)) k d here ∙ (get_or-drop first (low_bits bits 64) k d ∙ get_or-map-range_with_len (λ i. bit_at bits i == 1) 0 64 (first + k) (first + k) d (omega (arith, here, within)) (omega arith)) in
-    get_or-map-range_with_len f 0 count k k d here (omega arith) ∙ (is_one (bit_at (bits / 2 ^ first) k) (bit_at bits (first + k)) (bit_at-shr bits first k) ∙ sym read))
+    let high = bits / 2 ^ first in
+    let low = low_bits bits first in
+    let rest = 64 - first - count in
+    let parts : 64 ≡ first + (count + rest) = omega (arith, within) in
+    let whole = ap (low_bits bits) parts ∙ (low_bits_add bits first (count + rest) ∙ ap (λ ys. low ++ ys) (low_bits_add high count rest)) in
+    sym (ap (λ ys. take count (drop first ys)) whole ∙ (ap (take count) (drop_at low _ first (length-low_bits bits first)) ∙ take_at (low_bits high count) _ count (length-low_bits high count)))
 
 pub word_of_run : (word bits first count : ℕ) → first + count ≤ 64 → word < 2 ^ count → low_bits word count ≡ low_bits (bits / 2 ^ first) count → word ≡ word_of (sliced (word_bits bits) first count)
 word_of_run word bits first count within below same =
     sym (word_of-low_bits word count ∙ mod-eq_of_lt below) ∙ ap word_of (same ∙ bits_of_run bits first count within)
-
--- and the bits at which such a word is set
-pub gathered_run : (w first count bits made : ℕ) → IsRunOf w first count → w < 2 ^ 64 → made ≡ word_of (sliced (word_bits bits) first count) → made ≡ word_of (set_in_word w (word_bits bits))
-gathered_run w first count bits made run small is =
-    let many : first + count - first ≡ count = omega arith in
-    let below : w < 2 ^ length (word_bits bits) = subst (λ n. w < 2 ^ n) (sym (length-word_bits bits)) small in
-    is ∙ ap word_of (ap (λ n. take n (drop first (word_bits bits))) (sym many) ∙ set_in_run w first count (word_bits bits) run below)
 
 -- no word has more ones than bits
 ones_few : (w : ℕ) → w < 2 ^ 64 → count_ones w ≤ 64
@@ -371,43 +341,78 @@ run_of_ones w some small same =
 -- ---- one step of a loop
 
 -- members that come before those that are left, and some more of these
-pub some_more : {A : Type 0} (old kept new first some rest all : List A) → first ≡ some ++ rest → new ≡ kept ++ some → kept ++ first ≡ old ++ all → new ++ rest ≡ old ++ all
+some_more : {A : Type 0} (old kept new first some rest all : List A) → first ≡ some ++ rest → new ≡ kept ++ some → kept ++ first ≡ old ++ all → new ++ rest ≡ old ++ all
 some_more old kept new first some rest all is pushed so_far =
     ap (λ ys. ys ++ rest) pushed ∙ (append_assoc kept some rest ∙ (ap (λ ys. kept ++ ys) (sym is) ∙ so_far))
 
--- the values so far, with those at which the bits that are left are set, are all, and there is room for these
-pub record TakesUpTo {A : Type 0} (word left : ℕ) (xs old now : List A) (old_len old_room len room : ℕ) : Type 0 where
+-- what a walk over the words of a mask has kept up to a place: with what is set from there on it is all, behind what was there before
+pub record KeepsWords {A : Type 0} (mask : List Bool) (xs old kept : List A) (place : ℕ) : Type 0 where
+  pub same : kept ++ at_set (drop place mask) (drop place xs) ≡ old ++ at_set mask xs
+
+module _ {A : Type 0} {mask : List Bool} {xs old kept : List A} {place : ℕ} (so_far : KeepsWords mask xs old kept place) where
+  abbrev part : List A
+  part = at_set (sliced mask place 64) (sliced xs place 64)
+
+  -- with what the next word keeps it is no more than all
+  pub words_few : length kept + length (at_set (sliced mask place 64) (sliced xs place 64)) ≤ length old + length (at_set mask xs)
+  words_few =
+      omega (arith, ap length (at_set-from place 64 mask xs), length-append part (at_set (drop (place + 64) mask) (drop (place + 64) xs)), ap length so_far.same, length-append kept (at_set (drop place mask) (drop place xs)), length-append old (at_set mask xs))
+
+  -- one word more
+  pub words_more : (new : List A) (next : ℕ) → new ≡ kept ++ at_set (sliced mask place 64) (sliced xs place 64) → next ≡ place + 64 → KeepsWords mask xs old new next
+  words_more new next pushed at =
+      let rest = at_set (drop next mask) (drop next xs) in
+      let cut = at_set-from place 64 mask xs ∙ ap (λ n. part ++ at_set (drop n mask) (drop n xs)) (sym at) in
+      record { same = some_more old kept new (at_set (drop place mask) (drop place xs)) part rest (at_set mask xs) cut pushed so_far.same }
+
+  -- without a set bit it keeps nothing
+  pub words_none : (word next : ℕ) → length mask ≡ length xs → word ≡ word_of (sliced mask place 64) → word ≡ 0 → next ≡ place + 64 → KeepsWords mask xs old kept next
+  words_none word next lengths read is at =
+      let n = min 64 (length mask - place) in
+      let values = take n (drop place xs) in
+      let none : part ≡ [] = sym (word_of_part mask xs place word n n lengths refl refl read).same ∙ (ap (λ w. set_in_word w values) is ∙ set_in_zero values) in
+      words_more kept next (sym (append-nil kept) ∙ ap (λ ys. kept ++ ys) (sym none)) at
+
+  -- where no word is left these are all
+  pub words_all : length mask ≤ place → kept ≡ old ++ at_set mask xs
+  words_all past =
+      sym (append-nil kept) ∙ (ap (λ ys. kept ++ ys) (sym (none_from place mask (drop place xs) past)) ∙ so_far.same)
+
+-- the values so far, with those at which the bits that are left are set, are all
+pub record TakesUpTo {A : Type 0} (word left : ℕ) (xs old now : List A) : Type 0 where
   pub below : left < 2 ^ length xs
-  pub fits : len + length (set_in_word left xs) ≤ room
-  pub items : now ++ set_in_word left xs ≡ old ++ set_in_word word xs
-  pub count : len + length (set_in_word left xs) ≡ old_len + length (set_in_word word xs)
-  pub same : room ≡ old_room
+  pub same : now ++ set_in_word left xs ≡ old ++ set_in_word word xs
 
--- where a bit is left there is room for one value, and with it the lowest bit is done
-module _ {A : Type 0} (word left : ℕ) (xs old now : List A) (old_len old_room len room : ℕ) (some : 0 < left) (small : left < 2 ^ 64) (so_far : TakesUpTo word left xs old now old_len old_room len room) (x : A) (read : slice_get xs (trailing_zeros w64 left) ≡ Some x) where
-  abbrev rest : List A
-  rest = set_in_word (bit_and left (left - 1)) xs
+module _ {A : Type 0} {word left : ℕ} {xs old now : List A} (so_far : TakesUpTo word left xs old now) where
+  -- where none is left these are all
+  pub takes_all : left ≡ 0 → now ≡ old ++ set_in_word word xs
+  takes_all none =
+      let nil : set_in_word left xs ≡ [] = ap (λ w. set_in_word w xs) none ∙ set_in_zero xs in
+      sym (append-nil now) ∙ (ap (λ ys. now ++ ys) (sym nil) ∙ so_far.same)
 
-  first : set_in_word left xs ≡ x ∷ rest
-  first = lowest_first left xs x some small so_far.below read
+  -- where a bit is left it is that of a value
+  module _ (some : left ≡ 0 → ⊥) (small : left < 2 ^ 64) where
+    pub takes_within : trailing_zeros w64 left < length xs
+    takes_within = lowest_within left (length xs) (omega (arith, some)) small so_far.below
 
-  pub takes_room : len < room
-  takes_room = omega (arith, so_far.fits, ap length first)
+    -- for which there is room, and with it the lowest bit is done
+    module _ (x : A) (is : x ≡ get_or xs (trailing_zeros w64 left) x) where
+      abbrev rest : List A
+      rest = set_in_word (bit_and left (left - 1)) xs
 
-  pub takes_more : (new : List A) (new_len new_room : ℕ) → new ≡ now ++ x ∷ [] → new_len ≡ len + 1 → new_room ≡ room → TakesUpTo word (bit_and left (left - 1)) xs old new old_len old_room new_len new_room
-  takes_more new new_len new_room pushed one same = record {
-    below = omega (arith, so_far.below, and_le_l left (left - 1));
-    fits = omega (arith, so_far.fits, ap length first, one, same);
-    items = some_more old now new (set_in_word left xs) (x ∷ []) rest (set_in_word word xs) first pushed so_far.items;
-    count = omega (arith, so_far.count, ap length first, one);
-    same = same ∙ so_far.same;
-  }
+      first : set_in_word left xs ≡ x ∷ rest
+      first =
+          lowest_first left xs x (omega (arith, some)) small so_far.below (slice_get_read xs (length xs) (trailing_zeros w64 left) x refl takes_within is)
 
--- where none is left these are all
-pub takes_all : {A : Type 0} (word left : ℕ) (xs old now : List A) (old_len old_room len room : ℕ) → left ≡ 0 → TakesUpTo word left xs old now old_len old_room len room → (now ≡ old ++ set_in_word word xs) × (len ≡ old_len + length (set_in_word word xs))
-takes_all word left xs old now old_len old_room len room none so_far =
-    let nil : set_in_word left xs ≡ [] = ap (λ w. set_in_word w xs) none ∙ set_in_zero xs in
-    (sym (append-nil now) ∙ (ap (λ ys. now ++ ys) (sym nil) ∙ so_far.items), omega (arith, so_far.count, ap length nil))
+      pub takes_few : length now < length old + length (set_in_word word xs)
+      takes_few =
+          omega (arith, ap length so_far.same, length-append now (set_in_word left xs), length-append old (set_in_word word xs), ap length first)
+
+      pub takes_more : (new : List A) → new ≡ now ++ x ∷ [] → TakesUpTo word (bit_and left (left - 1)) xs old new
+      takes_more new pushed = record {
+        below = omega (arith, so_far.below, and_le_l left (left - 1));
+        same = some_more old now new (set_in_word left xs) (x ∷ []) rest (set_in_word word xs) first pushed so_far.same;
+      }
 
 -- ---- bits that are gathered
 
@@ -419,64 +424,58 @@ pub record IsGathered (mask bits : List Bool) (place mask_word gathered : ℕ) :
 
 pub gathered_bits : (mask bits : List Bool) (place mask_word bits_word gathered : ℕ) → length mask ≡ length bits → mask_word ≡ word_of (sliced mask place 64) → bits_word ≡ word_of (sliced bits place 64) → gathered ≡ word_of (set_in_word mask_word (word_bits bits_word)) → IsGathered mask bits place mask_word gathered
 gathered_bits mask bits place mask_word bits_word gathered lengths is read made =
-    let part = at_set (sliced mask place 64) (sliced bits place 64) in
-    let shown = set_in_part mask bits place mask_word bits_word lengths is read in
-    let ms = length-take 64 (drop place mask) in
-    let bs = length-take 64 (drop place bits) in
-    let even : length (sliced mask place 64) ≡ length (sliced bits place 64) = omega (arith, lengths, ms, bs, length-drop place mask, length-drop place bits) in
-    let long = length-at_set (sliced mask place 64) (sliced bits place 64) even ∙ (sym (count_ones-word_of (sliced mask place 64)) ∙ ap count_ones (sym is)) in
+    let ms = sliced mask place 64 in
+    let bs = sliced bits place 64 in
+    let few = length-take 64 (drop place mask) in
+    let even : length ms ≡ length bs = omega (arith, lengths, few, length-take 64 (drop place bits), length-drop place mask, length-drop place bits) in
+    let shown = set_in_words ms bs mask_word bits_word is read even (omega (arith, few)) in
+    let long = length-at_set ms bs even ∙ (sym (count_ones-word_of ms) ∙ ap count_ones (sym is)) in
     record {
-      same = bits_of_word part gathered (count_ones mask_word) (made ∙ ap word_of shown) long;
+      same = bits_of_word (at_set ms bs) gathered (count_ones mask_word) (made ∙ ap word_of shown) long;
       many = long;
-      within = omega (arith, long, at_set-short (sliced mask place 64) (sliced bits place 64), bs);
+      within = omega (arith, long, at_set-short ms bs, even, few);
     }
 
--- the bit at the lowest set bit of a word comes first
-pub lowest_bit : (w bits : ℕ) → 0 < w → w < 2 ^ 64 → set_in_word w (word_bits bits) ≡ (bit_at bits (trailing_zeros w64 w) == 1) ∷ set_in_word (bit_and w (w - 1)) (word_bits bits)
-lowest_bit w bits some small =
-    let k = trailing_zeros w64 w in
-    let below : w < 2 ^ length (word_bits bits) = subst (λ n. w < 2 ^ n) (sym (length-word_bits bits)) small in
-    lowest_first w (word_bits bits) (bit_at bits k == 1) some small below (read-word_bits bits k (lowest_within w 64 some small small))
-
--- so there is room for it
-pub room_for_bit : (mask left bits : ℕ) (kept rest : List Bool) (b : Bool) → set_in_word left (word_bits bits) ≡ b ∷ rest → kept ++ set_in_word left (word_bits bits) ≡ set_in_word mask (word_bits bits) → length kept < 64
-room_for_bit mask left bits kept rest b first so_far =
-    omega (arith, ap length so_far, length-append kept (set_in_word left (word_bits bits)), ap length first, at_set-short (low_bits mask (length (word_bits bits))) (word_bits bits), length-word_bits bits)
-
--- members that were kept, of those that are left, are no more than all
-pub kept_below : {A : Type 0} (kept first part rest xs all : List A) (mask : List Bool) → first ≡ part ++ rest → kept ++ first ≡ all → all ≡ at_set mask xs → length kept + length part ≤ length xs
-kept_below kept first part rest xs all mask is so_far whole =
-    omega (arith, ap length is, ap length so_far, ap length whole, length-append kept first, length-append part rest, at_set-short mask xs)
-
 -- the bits so far, as a word of so many, with those at which the bits that are left are set, are all
-abbrev pub GathersUpTo : ℕ → ℕ → ℕ → ℕ → ℕ → Type 0
-GathersUpTo word bits left gathered count =
-    (kept : List Bool) × (gathered ≡ word_of kept) × (length kept ≡ count) × (kept ++ set_in_word left (word_bits bits) ≡ set_in_word word (word_bits bits))
+pub record GathersUpTo (word bits left gathered count : ℕ) : Type 0 where
+  pub kept : List Bool
+  pub is : gathered ≡ word_of kept
+  pub long : length kept ≡ count
+  pub same : kept ++ set_in_word left (word_bits bits) ≡ set_in_word word (word_bits bits)
 
--- where a bit is left the word has room for one, and with it the lowest bit is done
-module _ (word bits left gathered count : ℕ) (some : 0 < left) (small : left < 2 ^ 64) (so_far : GathersUpTo word bits left gathered count) where
-  abbrev seen : Bool
-  seen = nat_eq (bit_and (bits / 2 ^ trailing_zeros w64 left) 1) 1
+module _ {word bits left gathered count : ℕ} (so_far : GathersUpTo word bits left gathered count) where
+  -- where none is left these are all
+  pub gathers_all : left ≡ 0 → gathered ≡ word_of (set_in_word word (word_bits bits))
+  gathers_all none =
+      let kept = so_far.kept in
+      let nil : set_in_word left (word_bits bits) ≡ [] = ap (λ w. set_in_word w (word_bits bits)) none ∙ set_in_zero (word_bits bits) in
+      so_far.is ∙ ap word_of (sym (append-nil kept) ∙ (ap (λ ys. kept ++ ys) (sym nil) ∙ so_far.same))
 
-  abbrev others : List Bool
-  others = set_in_word (bit_and left (left - 1)) (word_bits bits)
+  -- where a bit is left the word has room for one, and with it the lowest bit is done
+  module _ (some : left ≡ 0 → ⊥) (small : left < 2 ^ 64) where
+    abbrev seen : Bool
+    seen = nat_eq (bit_and (bits / 2 ^ trailing_zeros w64 left) 1) 1
 
-  first_bit : set_in_word left (word_bits bits) ≡ seen ∷ others
-  first_bit =
-      lowest_bit left bits some small ∙ ap (λ b. b ∷ others) (ap (λ n. nat_eq n 1) (sym (shr_and_one bits (trailing_zeros w64 left))))
+    abbrev others : List Bool
+    others = set_in_word (bit_and left (left - 1)) (word_bits bits)
 
-  pub gathers_below : count < 64
-  gathers_below =
-      omega (arith, so_far.2, room_for_bit word left bits so_far.0 others seen first_bit so_far.3)
+    first_bit : set_in_word left (word_bits bits) ≡ seen ∷ others
+    first_bit =
+        let k = trailing_zeros w64 left in
+        let left_some : 0 < left = omega (arith, some) in
+        let below : left < 2 ^ length (word_bits bits) = subst (λ n. left < 2 ^ n) (sym (length-word_bits bits)) small in
+        lowest_first left (word_bits bits) (bit_at bits k == 1) left_some small below (read-word_bits bits k (lowest_within left 64 left_some small small)) ∙ ap (λ n. nat_eq n 1 ∷ others) (sym (shr_and_one bits k))
 
-  pub gathers_more : (bit : ℕ) → bit ≡ from_bool seen → GathersUpTo word bits (bit_and left (left - 1)) (bit_or gathered (bit * 2 ^ count % 18446744073709551616)) (count + 1)
-  gathers_more bit is =
-      let kept = so_far.0 in
-      let more = ap (λ n. bit_or gathered (n * 2 ^ count % 18446744073709551616)) is ∙ word_more kept seen gathered count so_far.2 gathers_below so_far.1 in
-      (kept ++ seen ∷ [], more, omega (arith, so_far.2, length-append kept (seen ∷ [])), some_more [] kept (kept ++ seen ∷ []) (set_in_word left (word_bits bits)) (seen ∷ []) others (set_in_word word (word_bits bits)) first_bit refl so_far.3)
+    pub gathers_below : count < 64
+    gathers_below =
+        omega (arith, so_far.long, ap length so_far.same, length-append so_far.kept (set_in_word left (word_bits bits)), ap length first_bit, at_set-short (low_bits word (length (word_bits bits))) (word_bits bits), length-word_bits bits)
 
--- where none is left these are all
-pub gathers_all : (word bits left gathered count : ℕ) → left ≡ 0 → GathersUpTo word bits left gathered count → gathered ≡ word_of (set_in_word word (word_bits bits))
-gathers_all word bits left gathered count none so_far =
-    let nil : set_in_word left (word_bits bits) ≡ [] = ap (λ w. set_in_word w (word_bits bits)) none ∙ set_in_zero (word_bits bits) in
-    so_far.1 ∙ ap word_of (sym (append-nil so_far.0) ∙ (ap (λ ys. so_far.0 ++ ys) (sym nil) ∙ so_far.3))
+    pub gathers_more : (bit : ℕ) → bit ≡ from_bool seen → GathersUpTo word bits (bit_and left (left - 1)) (bit_or gathered (bit * 2 ^ count % 18446744073709551616)) (count + 1)
+    gathers_more bit is =
+        let kept = so_far.kept in
+        record {
+          kept = kept ++ seen ∷ [];
+          is = ap (λ n. bit_or gathered (n * 2 ^ count % 18446744073709551616)) is ∙ word_more kept seen gathered count so_far.long gathers_below so_far.is;
+          long = omega (arith, so_far.long, length-append kept (seen ∷ []));
+          same = some_more [] kept (kept ++ seen ∷ []) (set_in_word left (word_bits bits)) (seen ∷ []) others (set_in_word word (word_bits bits)) first_bit refl so_far.same;
+        }

@@ -1,6 +1,5 @@
 -- Rows that are moved, by the sign of the offset.
-use Rattle.arrow_select.proofs.Common.{arith, ◌≡◌, ◌-◌, ◌<ℤ◌, ℕ, suc, zero, ℤ, pos, negsuc, List, ◌++◌, length, replicate, take, drop, ap, sym, ◌∙◌, ints, append-nil, length-drop, take_all, ArrowType, shifted, Slot, null_slot, between}
-use Rattle.std.specs.Prelude.{unsigned_abs}
+use Rattle.arrow_select.proofs.Common.{arith, ◌≡◌, ◌-◌, ◌<ℤ◌, ℕ, suc, zero, ℤ, pos, negsuc, List, ◌++◌, length, replicate, take, drop, ap, sym, ◌∙◌, ints, append-nil, length-drop, take_all, ArrowType, shifted, Slot, null_slot, between, unsigned_abs}
 
 back : (xs : List Slot) (k : ℤ) (t : ArrowType) → pos 0 <ℤ k → shifted xs k t ≡ between xs (unsigned_abs k) 0 t
 back xs (pos k) t above =

@@ -1,5 +1,6 @@
 //! The laws of the kernels: each is the contract of a function over arrays that are handed in, and says of the definitions
 //! that the kernels' contracts cite what a caller may replace by what. None makes an array.
+#![tactic(auto, using(crate::proofs::LawLemmas::laws, crate::proofs::KeptLemmas::laws, crate::proofs::CanTake::can_by_fields))]
 
 ghost use Rattle.std.specs.Prelude.{◌≡◌, ◌<◌, ◌≤◌, ◌^◌, Bool, List, [], ◌∷◌, All, length, map};
 ghost use Rattle.arrow_types.specs.Fits.{Fits};

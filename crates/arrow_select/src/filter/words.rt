@@ -39,6 +39,7 @@ pub fn extend_from_word<T: NativeType>(
 }
 
 // The lowest `count` bits of a word, with zeros above.
+#[tactic(auto, using(crate::proofs::SetLemmas::low_and))]
 fn low_word(word: u64, count: usize) -> u64
     requires { count ≤ 64 }
     ensures below { result < 2 ^ count }
@@ -58,7 +59,6 @@ fn push_set<T: NativeType>(out: &mut Vec<T>, values: &[T], word: u64)
     requires below { word < 2 ^ length values.now }
     requires room { vec_len out.old + length (set_in_word word values.now) ≤ vec_capacity out.old }
     ensures items { out.new.items ≡ out.old.items ++ set_in_word word values.now }
-    ensures len { vec_len out.new ≡ vec_len out.old + length (set_in_word word values.now) }
     ensures capacity { vec_capacity out.old ≤ vec_capacity out.new }
 {
     let mut left = word;
@@ -85,7 +85,6 @@ fn long_run(word: u64) -> Option<(usize, usize)>
 fn append_run<T: NativeType>(out: &mut Vec<T>, run: &[T])
     requires { vec_len out.old + length run.now ≤ vec_capacity out.old }
     ensures items { out.new.items ≡ out.old.items ++ run.now }
-    ensures len { vec_len out.new ≡ vec_len out.old + length run.now }
     ensures capacity { vec_capacity out.old ≤ vec_capacity out.new }
 {
     let Ok(()) = out.extend_from_slice(run) else {
@@ -100,7 +99,6 @@ fn append_word<T: NativeType>(out: &mut Vec<T>, values: &[T], word: u64)
     requires below { word < 2 ^ length values.now }
     requires room { vec_len out.old + length (set_in_word word values.now) ≤ vec_capacity out.old }
     ensures items { out.new.items ≡ out.old.items ++ set_in_word word values.now }
-    ensures len { vec_len out.new ≡ vec_len out.old + length (set_in_word word values.now) }
     ensures capacity { vec_capacity out.old ≤ vec_capacity out.new }
 {
     match long_run(word) {
@@ -117,7 +115,6 @@ fn append_both<T: NativeType>(out: &mut Vec<T>, values: &[T], bits: u64, word: u
     requires below { word < 2 ^ length values.now }
     requires room { vec_len out.old + length (set_in_word word values.now) ≤ vec_capacity out.old }
     ensures items { out.new.items ≡ out.old.items ++ set_in_word word values.now }
-    ensures len { vec_len out.new ≡ vec_len out.old + length (set_in_word word values.now) }
     ensures capacity { vec_capacity out.old ≤ vec_capacity out.new }
     ensures bits { result ≡ word_of (set_in_word word (word_bits bits)) }
 {
@@ -137,7 +134,6 @@ fn push_both<T: NativeType>(out: &mut Vec<T>, values: &[T], bits: u64, word: u64
     requires below { word < 2 ^ length values.now }
     requires room { vec_len out.old + length (set_in_word word values.now) ≤ vec_capacity out.old }
     ensures items { out.new.items ≡ out.old.items ++ set_in_word word values.now }
-    ensures len { vec_len out.new ≡ vec_len out.old + length (set_in_word word values.now) }
     ensures capacity { vec_capacity out.old ≤ vec_capacity out.new }
     ensures bits { result ≡ word_of (set_in_word word (word_bits bits)) }
 {
@@ -181,6 +177,7 @@ pub(super) fn set_rows<T: NativeType>(
 
 // The values at which the mask is set, of which there are so many. What it appends to and the mask's clone are its own, so
 // that neither is read again for a value: where they lie is in registers.
+#[tactic(auto, using(crate::proofs::SetLemmas::lengths))]
 #[inline(never)]
 fn set_values<T: NativeType>(
     alloc: Global,
@@ -200,6 +197,7 @@ fn set_values<T: NativeType>(
 }
 
 // The same, and the bits at which the mask is set.
+#[tactic(auto, using(crate::proofs::SetLemmas::lengths))]
 #[inline(never)]
 fn set_values_and_bits<T: NativeType>(
     alloc: Global,
@@ -317,6 +315,7 @@ fn gathered(bits: u64, mask: u64) -> u64
 }
 
 // So many bits of a word from a place on, with zeros above.
+#[tactic(auto, using(crate::proofs::SetLemmas::word_of_run))]
 fn run_of_bits(bits: u64, first: usize, count: usize) -> u64
     requires some { 0 < count }
     requires within { first + count ≤ 64 }

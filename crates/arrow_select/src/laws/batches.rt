@@ -1,4 +1,5 @@
 //! Laws over batches: what an engine that cuts a table into batches may do with each by itself.
+#![tactic(auto, using(crate::proofs::BatchLemmas::laws))]
 
 ghost use Rattle.std.specs.Prelude.{◌++◌, length, unsigned_abs};
 ghost use Rattle.arrow_types.specs.TypeOf.{type_of};

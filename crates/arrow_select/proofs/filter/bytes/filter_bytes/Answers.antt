@@ -1,5 +1,4 @@
-use Rattle.arrow_select.proofs.Common.{◌≡◌, ◌-◌, ◌∙◌, arith, ap, length, rules, subst, sym, refl, option_map, Fits, IsOffsets, byte_slots, row_bytes, rows_by, pieces, length-byte_slots, at_set, mask_in, rows_fit}
-use Rattle.std.specs.List.{All}
+use Rattle.arrow_select.proofs.Common.{◌≡◌, ◌-◌, ◌∙◌, arith, ap, length, rules, subst, sym, refl, option_map, Fits, IsOffsets, byte_slots, row_bytes, rows_by, pieces, length-byte_slots, at_set, mask_in, rows_fit, All}
 use Rattle.arrow_select.proofs.FilterLemmas.{select_all, set_rows}
 use Rattle.arrow_select.proofs.SetBytes.{all_set, kept_bits, kept_fit, last_below}
 use Rattle.arrow_select.proofs.filter.bytes.filter_bytes.Goals as goal

@@ -1,5 +1,4 @@
-use Rattle.arrow_select.proofs.Common.{◌≤◌, ◌∷◌, arith, ap, length, map, subst, sym, ◌∙◌, IsOffsets, last_of, valid_values, places_from, mask_in, IsSpanWithin, spanned, ends_from, row_length, spans_fit}
-use Rattle.std.specs.List.{All}
+use Rattle.arrow_select.proofs.Common.{◌≤◌, ◌∷◌, arith, ap, length, map, subst, sym, ◌∙◌, IsOffsets, last_of, valid_values, places_from, mask_in, IsSpanWithin, spanned, ends_from, row_length, spans_fit, All}
 use Rattle.arrow_select.proofs.SetBytes.{kept_end, kept_pieces}
 use Rattle.arrow_select.proofs.filter.bytes.kept_parts.Goals as goal
 

@@ -1,23 +1,15 @@
-use Rattle.arrow_select.proofs.Common.{arith, ◌≡◌, [], ◌∷◌, ◌+◌, ◌-◌, ◌++◌, ap, length, slice_index, subst, sym, ◌∙◌, range_with_len, length-append, All-append, All-cons, All-nil, last_of, sliced, valid_values, run_copied, run_long, places_from, IsSpanWithin, spanned, counted_sum, spanned_more}
-use Rattle.std.specs.List.{All}
-use Rattle.arrow_select.proofs.SetBytes.{ends_below, ends_more, run_first, set_sum}
+use Rattle.arrow_select.proofs.Common.{arith, ◌≡◌, [], ◌∷◌, ◌+◌, ◌-◌, ◌++◌, ap, length, slice_index, subst, sym, ◌∙◌, range_with_len, length-append, All-append, All-cons, All-nil, last_of, sliced, valid_values, run_copied, run_long, places_from, IsSpanWithin, spanned, spanned_more, All}
+use Rattle.arrow_select.proofs.SetBytes.{ends_fit, ends_more, run_first}
 use Rattle.arrow_select.proofs.filter.bytes.kept_spans.Goals as goal
 
 pub append_ends-requires-clause-fits : goal.append_ends-requires-clause-fits
 append_ends-requires-clause-fits g c =
     let os = c.args.rows.now in
-    let mask = c.args.mask.now in
-    let row = c.loop-row.row in
-    let unset = c.next_set-unset.result.0 in
-    let count = c.next_set-unset.result.1 in
-    let left = c.next_set-unset.new.self in
     let before = c.loop-row.invariant in
-    let long = run_long unset count c.loop-row.left left c.next_set-unset.ensures.bits in
-    let first = run_first unset count row c.loop-row.left left c.next_set-unset.ensures.bits in
-    let below = ends_below os c.loop-row.ends (places_from row c.loop-row.left) (range_with_len (row + unset) count) (places_from (row + unset + count) left) (places_from 0 mask) before.some first before.ends in
-    let run = counted_sum os (row + unset) count c.range.ensures.sound (omega (arith, long, before.count, c.requires.lengths, c.len-len.ensures)) in
-    let all = set_sum os mask 0 c.range.ensures.sound (omega (arith, c.requires.lengths)) in
-    omega (arith, below, run, all, c.range.ensures.end, c.range.ensures.fits, ap (λ n. slice_index os (0 + n)) c.len-len.ensures)
+    let long = run_long c.next_set-unset.result.0 c.next_set-unset.result.1 c.loop-row.left c.next_set-unset.new.self c.next_set-unset.ensures.bits in
+    let first = run_first c.next_set-unset.result.0 c.next_set-unset.result.1 c.loop-row.row c.loop-row.left c.next_set-unset.new.self c.next_set-unset.ensures.bits in
+    let most = ap (λ n. slice_index os (0 + n)) c.len-len.ensures in
+    ends_fit os c.loop-row.ends _ _ c.args.mask.now (c.loop-row.row + c.next_set-unset.result.0) c.next_set-unset.result.1 _ before.some first before.ends c.range.ensures.sound c.requires.lengths (omega (arith, c.range.ensures.end, c.range.ensures.fits, most)) (omega (arith, long, before.count, c.requires.lengths, c.len-len.ensures))
 
 pub loop-row-preserved : goal.loop-row-preserved
 loop-row-preserved g c =

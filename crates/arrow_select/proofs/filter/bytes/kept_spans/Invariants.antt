@@ -1,5 +1,4 @@
-use Rattle.arrow_select.proofs.Common.{◌≡◌, ◌+◌, ◌-◌, ◌<◌, ◌≤◌, ◌++◌, ℕ, List, length, last_of, valid_values, places_from, IsSpanWithin, spanned}
-use Rattle.std.specs.List.{All}
+use Rattle.arrow_select.proofs.Common.{◌≡◌, ◌+◌, ◌-◌, ◌<◌, ◌≤◌, ◌++◌, ℕ, List, length, last_of, valid_values, places_from, IsSpanWithin, spanned, All}
 use Rattle.arrow_select.proofs.SetBytes.{EndsUpTo}
 use Rattle.arrow_select.proofs.filter.bytes.kept_spans.Given as goal
 

@@ -1,7 +1,6 @@
-use Rattle.arrow_select.proofs.Common.{arith, [], ◌∷◌, ◌+◌, ap, drop, get_or, length, map, slice_index, subst, sym, ◌∙◌, concat, range_with_len, length-append, take_all, All-append, All-cons, All-nil, named, last_of, places_from, IsSpanWithin, spanned, row_in, counted_sum}
-use Rattle.std.specs.List.{All}
+use Rattle.arrow_select.proofs.Common.{arith, [], ◌∷◌, ◌+◌, ap, drop, get_or, length, map, slice_index, subst, sym, ◌∙◌, concat, range_with_len, length-append, take_all, All-append, All-cons, All-nil, named, last_of, places_from, IsSpanWithin, spanned, row_in, All}
 use Rattle.arrow_select.proofs.RangedLemmas.{bytes_of_ranges, ends_first, range_first, ranged_bytes}
-use Rattle.arrow_select.proofs.SetBytes.{ends_below, ends_more, set_sum}
+use Rattle.arrow_select.proofs.SetBytes.{ends_fit, ends_more}
 use Rattle.arrow_select.proofs.filter.bytes.ranged_spans.Goals as goal
 
 pub loop-start-init : goal.loop-start-init
@@ -15,16 +14,12 @@ loop-start-init g c = record {
 pub append_ends-requires-clause-fits : goal.append_ends-requires-clause-fits
 append_ends-requires-clause-fits g c =
     let os = c.args.rows.now in
-    let mask = c.args.filter.now in
     let items = c.ranges-ranges.result.now in
     let k = c.loop-start.start-index in
-    let r = get_or items k (0, 0) in
     let before = c.loop-start.invariant in
-    let below = ends_below os c.loop-start.ends (named (drop k items)) (range_with_len r.0 r.1) (named (drop (k + 1) items)) (places_from 0 mask) before.some (range_first items k c.loop-start-test.true) before.ends in
     let within = c.ranges-ranges.ensures.within k (0, 0) c.loop-start-test.true in
-    let run = counted_sum os r.0 r.1 c.range.ensures.sound (omega (arith, within, c.requires.lengths)) in
-    let all = set_sum os mask 0 c.range.ensures.sound (omega (arith, c.requires.lengths)) in
-    omega (arith, below, run, all, c.range.ensures.end, c.range.ensures.fits, ap (λ n. slice_index os (0 + n)) c.mask_len.ensures)
+    let most = ap (λ n. slice_index os (0 + n)) c.mask_len.ensures in
+    ends_fit os c.loop-start.ends _ _ c.args.filter.now (get_or items k (0, 0)).0 (get_or items k (0, 0)).1 _ before.some (range_first items k c.loop-start-test.true) before.ends c.range.ensures.sound c.requires.lengths (omega (arith, c.range.ensures.end, c.range.ensures.fits, most)) (omega (arith, within, c.requires.lengths))
 
 pub loop-start-preserved : goal.loop-start-preserved
 loop-start-preserved g c =

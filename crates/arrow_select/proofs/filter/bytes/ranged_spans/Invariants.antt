@@ -1,5 +1,4 @@
-use Rattle.arrow_select.proofs.Common.{◌≡◌, ◌<◌, ◌≤◌, ℕ, List, drop, length, map, take, concat, named, last_of, places_from, IsSpanWithin, spanned, row_in}
-use Rattle.std.specs.List.{All}
+use Rattle.arrow_select.proofs.Common.{◌≡◌, ◌<◌, ◌≤◌, ℕ, List, drop, length, map, take, concat, named, last_of, places_from, IsSpanWithin, spanned, row_in, All}
 use Rattle.arrow_select.proofs.SetBytes.{EndsUpTo}
 use Rattle.arrow_select.proofs.filter.bytes.ranged_spans.Given as goal
 

@@ -1,5 +1,4 @@
-use Rattle.arrow_select.proofs.Common.{◌≡◌, take, sliced}
-use Rattle.std.specs.Prelude.{flat_map}
+use Rattle.arrow_select.proofs.Common.{◌≡◌, take, sliced, flat_map}
 use Rattle.arrow_select.proofs.filter.ranged.ranged_values.Given as goal
 
 -- the values of the ranges so far

@@ -1,10 +1,12 @@
-use Rattle.arrow_select.proofs.Common.{vec_len, vec_capacity}
+use Rattle.arrow_select.proofs.Common.{◌≡◌, vec_capacity}
 use Rattle.arrow_select.proofs.SetLemmas.{TakesUpTo}
 use Rattle.arrow_select.proofs.filter.words.push_set.Given as goal
 
 abbrev pub invariant-loop-left : goal.invariant-loop-left
-invariant-loop-left g l =
-    TakesUpTo l.word l.left l.values l.initial.out.items l.out.items (vec_len l.initial.out) (vec_capacity l.initial.out) (vec_len l.out) (vec_capacity l.out)
+invariant-loop-left g l = record {
+  taken : TakesUpTo l.word l.left l.values l.initial.out.items l.out.items;
+  room : vec_capacity l.out ≡ vec_capacity l.initial.out;
+}
 
 -- the bits that are left
 abbrev pub decreases-loop-left : goal.decreases-loop-left
