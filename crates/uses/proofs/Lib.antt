@@ -1,9 +1,5 @@
+pub mod Common
 pub mod ApartLemmas
-pub mod BatchLemmas
 pub mod ChoiceLemmas
-pub mod FaultLemmas
-pub mod KindLemmas
-pub mod ListLemmas
 pub mod MergeLemmas
-pub mod StoreLemmas
 pub mod TextLemmas

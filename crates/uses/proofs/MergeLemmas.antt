@@ -1,154 +1,92 @@
 -- Two lists of rows that are merged, a row at a time.
-use Rattle.std.proofs.Common.{arith, add-one, drop-cons, inl, inr, ◌≡◌, ℕ, zero, suc, ℤ, pos, Bool, true, false, not, Option, Some, None, MatchBool, ◌≤ℤ◌, ◌+◌, ◌-◌, ◌<◌, ◌≤◌, List, [], ◌∷◌, ◌++◌, ◌⊎◌, length, map, slice_get, take, drop, get_or, refl, ap, sym, subst, ◌∙◌, append_assoc}
-use Rattle.std.proofs.Math.ListN.{drop_of_length-le}
-use Rattle.std.specs.List.Sorted.{IsPermutation}
-use Rattle.std.proofs.lemmas.List.{append-nil, get_or-map, length-drop, take-append-drop, take_all, take_more}
-use Rattle.std.proofs.lemmas.List.Sorted.{IsPermutation-append_comm, IsPermutation-append_left, IsPermutation-append_right, IsPermutation-refl, IsPermutation-trans}
-use Rattle.std.specs.Int.Signed.{le_z, le_z_yes}
-use Rattle.std.specs.Prelude.{T}
-use Rattle.std.proofs.lemmas.Int.{ints}
-use Rattle.std.proofs.lemmas.Option.{get_or_from_slice_get, slice_get_within}
-use Rattle.gevaindy.specs.Grown.{AreOfOneType, Grown, appended, named_rows, rows_among}
-use Rattle.gevaindy.specs.Layout.{Layout, rows, type_of_layout}
-use Rattle.gevaindy.specs.Relation.{is_null}
-use Rattle.gevaindy.specs.Rows.{mask, masked}
-use Rattle.gevaindy.specs.Sliced.{sliced}
-use Rattle.gevaindy.specs.Slot.{Slot, Null, Number}
-use Rattle.uses.specs.Order.{AreSorted, IsMerge, LeadsTo, MayPrecede}
+use Rattle.uses.proofs.Common.{Bool, Grown, IsMerge, IsPermutation-cons, IsPermutation-middle, IsPermutation-refl, IsPermutation-trans, Layout, LeadsTo, List, MatchesOrder, MayPrecede, None, Null, Number, Option, Parts, Slot, Some, [], append-nil, append_assoc, appended, drop, drop_all, drop_more, false, flat, get_or, inl, inr, int_rows, is_null, length, map, masked, named_rows, not, slice_get, sliced, slot_of_row, suc, take_rest, true, zero, ℕ, ℤ, ◌++◌, ◌+◌, ◌-◌, ◌<◌, ◌∷◌, ◌≡◌, ◌≤◌, ◌⊎◌}
 
--- ---- rows in order
+-- ---- rows that merge two lists
 
-sorted_end : (xs ys : List Slot) → AreSorted (xs ++ ys) → AreSorted ys
-sorted_end [] ys sorted = sorted
-sorted_end (x ∷ xs) ys sorted = sorted_end xs ys sorted.1
+-- and what may stand in front of both lists may stand in front of them
+pub record IsMergeOf (ls rs rows : List Slot) : Type 0 where
+  pub is : IsMerge ls rs rows
+  pub first : (x : Slot) → LeadsTo x ls → LeadsTo x rs → LeadsTo x rows
 
--- rows that lead to one lead to it, whatever comes behind
-leads_to : (r : Slot) (rows : List Slot) (x : Slot) (xs ys : List Slot) → LeadsTo r (rows ++ x ∷ xs) → LeadsTo r (rows ++ x ∷ ys)
-leads_to r [] x xs ys leads = leads
-leads_to r (q ∷ rows) x xs ys leads = leads
+-- one list alone
+left_alone : (ls : List Slot) → IsMergeOf ls [] ls
+left_alone ls = record { is = record { same = rw (append-nil ls) (IsPermutation-refl ls); sorted = λ a b. a }; first = λ x a b. a }
 
--- other rows behind one that they may follow
-sorted_behind : (rows : List Slot) (x : Slot) (xs ys : List Slot) → AreSorted (rows ++ x ∷ xs) → LeadsTo x ys → AreSorted ys → AreSorted (rows ++ x ∷ ys)
-sorted_behind [] x xs ys sorted leads behind = (leads, behind)
-sorted_behind (r ∷ rows) x xs ys sorted leads behind = (leads_to r rows x xs ys sorted.0, sorted_behind rows x xs ys sorted.1 leads behind)
+right_alone : (rs : List Slot) → IsMergeOf [] rs rs
+right_alone rs = record { is = record { same = IsPermutation-refl rs; sorted = λ a b. b }; first = λ x a b. b }
 
--- ---- a row more
+-- with a row more in front of one list, which may stand in front of the other
+left_row : (x : Slot) (ls rs rows : List Slot) → LeadsTo x rs → IsMergeOf ls rs rows → IsMergeOf (x ∷ ls) rs (x ∷ rows)
+left_row x ls rs rows leads merge =
+    let same = IsPermutation-cons x (ls ++ rs) rows merge.is.same in
+    record { is = record { same = same; sorted = λ a b. (merge.first x a.0 leads, merge.is.sorted a.1 b) }; first = λ z a b. a }
 
-next_row : (xs : List Slot) (i : ℕ) → i < length xs → drop i xs ≡ get_or xs i Null ∷ drop (i + 1) xs
-next_row xs i within = rw add-one (drop-cons xs i Null within)
+right_row : (y : Slot) (ls rs rows : List Slot) → LeadsTo y ls → IsMergeOf ls rs rows → IsMergeOf ls (y ∷ rs) (y ∷ rows)
+right_row y ls rs rows leads merge =
+    let same = IsPermutation-trans _ _ _ (IsPermutation-middle ls y rs) (IsPermutation-cons y (ls ++ rs) rows merge.is.same) in
+    record { is = record { same = same; sorted = λ a b. (merge.first y leads b.0, merge.is.sorted a b.1) }; first = λ z a b. b }
 
-one_row : (xs : List Slot) (i : ℕ) → i < length xs → sliced xs i 1 ≡ get_or xs i Null ∷ []
-one_row xs i within = ap (take 1) (next_row xs i within)
+-- ---- rows that are merged so far
 
--- what is merged so far of two lists: their first rows, in order where both are, and so with what is left of each
+-- whatever merges what is left of two lists goes on with them
 pub record Merges (ls rs : List Slot) (i j : ℕ) (rows : List Slot) : Type 0 where
-  pub same : IsPermutation (take i ls ++ take j rs) rows
-  pub left : AreSorted ls → AreSorted rs → AreSorted (rows ++ drop i ls)
-  pub right : AreSorted ls → AreSorted rs → AreSorted (rows ++ drop j rs)
+  pub on : (rest : List Slot) → IsMergeOf (drop i ls) (drop j rs) rest → IsMergeOf ls rs (rows ++ rest)
 
-pub merges_none : (ls rs : List Slot) → Merges ls rs 0 0 []
-merges_none ls rs = record { same = IsPermutation-refl []; left = λ a b. a; right = λ a b. b }
-
-pub merges_left : (ls rs rows : List Slot) (i j : ℕ) → i < length ls → j < length rs → MayPrecede (get_or ls i Null) (get_or rs j Null) → Merges ls rs i j rows → Merges ls rs (i + 1) j (rows ++ sliced ls i 1)
+-- with a row more of either list, which may stand in front of the other's next
+merges_left : (ls rs rows : List Slot) (i j : ℕ) → i < length ls → j < length rs → MayPrecede (get_or ls i Null) (get_or rs j Null) → Merges ls rs i j rows → Merges ls rs (i + 1) j (rows ++ sliced ls i 1)
 merges_left ls rs rows i j here there first so_far =
-    let x = get_or ls i Null in
-    let grown = one_row ls i here in
-    let row = next_row ls i here in
-    let swapped = IsPermutation-append_right (take i ls) (x ∷ [] ++ take j rs) (take j rs ++ x ∷ []) (IsPermutation-append_comm (x ∷ []) (take j rs)) in
-    let moved : IsPermutation ((take i ls ++ x ∷ []) ++ take j rs) ((take i ls ++ take j rs) ++ x ∷ []) = rw (append_assoc, append_assoc) swapped in
-    let added = IsPermutation-append_left (x ∷ []) (take i ls ++ take j rs) rows so_far.same in
-    let all = IsPermutation-trans _ _ _ moved added in
-    let leads : LeadsTo x (drop j rs) = rw (next_row rs j there) first in
-    let to_left = λ (a : AreSorted ls) (b : AreSorted rs). subst (λ ys. AreSorted (rows ++ ys)) row (so_far.left a b) in
-    record {
-      same = rw (take_more ls i Null here, grown) all;
-      left = λ a b. rw (grown, append_assoc) (to_left a b);
-      right = λ a b. rw (grown, append_assoc) (sorted_behind rows x (drop (i + 1) ls) (drop j rs) (to_left a b) leads (sorted_end rows (drop j rs) (so_far.right a b)));
-    }
+    let row = drop_more ls i Null here in
+    let leads : LeadsTo (get_or ls i Null) (drop j rs) = rw (drop_more rs j Null there) first in
+    record { on = λ rest merge. rw (row, append_assoc) (so_far.on (get_or ls i Null ∷ rest) (rw row (left_row _ _ _ rest leads merge))) }
 
-pub merges_right : (ls rs rows : List Slot) (i j : ℕ) → i < length ls → j < length rs → MayPrecede (get_or rs j Null) (get_or ls i Null) → Merges ls rs i j rows → Merges ls rs i (j + 1) (rows ++ sliced rs j 1)
+merges_right : (ls rs rows : List Slot) (i j : ℕ) → i < length ls → j < length rs → MayPrecede (get_or rs j Null) (get_or ls i Null) → Merges ls rs i j rows → Merges ls rs i (j + 1) (rows ++ sliced rs j 1)
 merges_right ls rs rows i j here there first so_far =
-    let y = get_or rs j Null in
-    let grown = one_row rs j there in
-    let row = next_row rs j there in
-    let added = IsPermutation-append_left (y ∷ []) (take i ls ++ take j rs) rows so_far.same in
-    let all : IsPermutation (take i ls ++ (take j rs ++ y ∷ [])) (rows ++ y ∷ []) = subst (λ xs. IsPermutation xs (rows ++ y ∷ [])) (append_assoc (take i ls) (take j rs) (y ∷ [])) added in
-    let leads : LeadsTo y (drop i ls) = rw (next_row ls i here) first in
-    let to_right = λ (a : AreSorted ls) (b : AreSorted rs). subst (λ ys. AreSorted (rows ++ ys)) row (so_far.right a b) in
-    record {
-      same = rw (take_more rs j Null there, grown) all;
-      left = λ a b. rw (grown, append_assoc) (sorted_behind rows y (drop (j + 1) rs) (drop i ls) (to_right a b) leads (sorted_end rows (drop i ls) (so_far.left a b)));
-      right = λ a b. rw (grown, append_assoc) (to_right a b);
-    }
+    let row = drop_more rs j Null there in
+    let leads : LeadsTo (get_or rs j Null) (drop i ls) = rw (drop_more ls i Null here) first in
+    record { on = λ rest merge. rw (row, append_assoc) (so_far.on (get_or rs j Null ∷ rest) (rw row (right_row _ _ _ rest leads merge))) }
 
--- ---- with what is left
-
-all_left : (xs : List Slot) (i : ℕ) → sliced xs i (length xs - i) ≡ drop i xs
-all_left xs i = take_all (length xs - i) (drop i xs) (omega (arith, length-drop i xs))
-
-crossed : (a b c d : List Slot) → IsPermutation ((a ++ c) ++ (b ++ d)) ((a ++ b) ++ (c ++ d))
-crossed a b c d =
-    let turned = IsPermutation-append_left d (c ++ b) (b ++ c) (IsPermutation-append_comm c b) in
-    let behind = IsPermutation-append_right a ((c ++ b) ++ d) ((b ++ c) ++ d) turned in
-    simp append_assoc (simp append_assoc at behind)
-
-pub merges_all : (ls rs rows : List Slot) (i j : ℕ) → (length ls ≤ i) ⊎ (length rs ≤ j) → Merges ls rs i j rows → IsMerge ls rs ((rows ++ sliced ls i (length ls - i)) ++ sliced rs j (length rs - j))
+-- and with what is left of each, where one is used up
+merges_all : (ls rs rows : List Slot) (i j : ℕ) → (length ls ≤ i) ⊎ (length rs ≤ j) → Merges ls rs i j rows → IsMerge ls rs ((rows ++ sliced ls i (length ls - i)) ++ sliced rs j (length rs - j))
 merges_all ls rs rows i j past so_far =
-    let front = crossed (take i ls) (take j rs) (drop i ls) (drop j rs) in
-    let whole : IsPermutation (ls ++ rs) ((take i ls ++ take j rs) ++ (drop i ls ++ drop j rs)) = rw (take-append-drop i ls, take-append-drop j rs) at front in
-    let behind = IsPermutation-append_left (drop i ls ++ drop j rs) (take i ls ++ take j rs) rows so_far.same in
-    let all = IsPermutation-trans _ _ _ whole behind in
-    record {
-      same = rw (all_left ls i, all_left rs j, append_assoc) all;
-      sorted = λ a b. rw (all_left ls i, all_left rs j) (elim past as (λ _. AreSorted ((rows ++ drop i ls) ++ drop j rs)) [
-        | inl short ↦ rw (drop_of_length-le ls short, append-nil) (so_far.right a b)
-        | inr short ↦ rw (drop_of_length-le rs short, append-nil) (so_far.left a b)
-      ]);
-    }
-
--- ---- which of two rows comes first
-
-never : ◌≡◌ {A = Bool} true false → ⊥
-never is = cc
-
-mask_value : (bits : List Bool) (xs : List Slot) (i : ℕ) → is_null (get_or (mask bits xs) i Null) ≡ false → get_or (mask bits xs) i Null ≡ get_or xs i Null
-mask_value [] xs i valid = absurd (never valid)
-mask_value (b ∷ bits) [] i valid = absurd (never valid)
-mask_value (true ∷ bits) (x ∷ xs) zero valid = refl
-mask_value (false ∷ bits) (x ∷ xs) zero valid = absurd (never valid)
-mask_value (b ∷ bits) (x ∷ xs) (suc i) valid = mask_value bits xs i valid
-
-masked_value : (v : Option (List Bool)) (xs : List Slot) (i : ℕ) → is_null (get_or (masked v xs) i Null) ≡ false → get_or (masked v xs) i Null ≡ get_or xs i Null
-masked_value None xs i valid = refl
-masked_value (Some bits) xs i valid = mask_value bits xs i valid
-
-unset : (b : Bool) → not b ≡ true → b ≡ false
-unset true is = absurd (never (sym is))
-unset false is = refl
-
--- a row that is valid is the number that is stored
-pub number_at : (v : Option (List Bool)) (values : List ℤ) (i : ℕ) (n : ℤ) → slice_get values i ≡ Some n → not (is_null (get_or (masked v (map Number values)) i Null)) ≡ true → get_or (masked v (map Number values)) i Null ≡ Number n
-number_at v values i n read valid =
-    let stored = get_or-map Number values i (pos 0) Null (slice_get_within values i n read) ∙ ap Number (get_or_from_slice_get values i n (pos 0) read) in
-    masked_value v (map Number values) i (unset _ valid) ∙ stored
-
-ordered_by : (m n : ℤ) (t : Bool) → t ≡ le_z m n → MatchBool t (m ≤ℤ n) (n ≤ℤ m)
-ordered_by m n true is = le_z_yes (subst T is tt)
-ordered_by m n false is = omega (arith, ints)
-
-pub numbers_ordered : (m n : ℤ) → MatchBool (le_z m n) (m ≤ℤ n) (n ≤ℤ m)
-numbers_ordered m n = ordered_by m n (le_z m n) refl
+    let last : IsMergeOf (drop i ls) (drop j rs) (drop i ls ++ drop j rs) = elim past [
+      | inl none ↦ rw (drop_all i ls none) (right_alone (drop j rs))
+      | inr none ↦ rw (drop_all j rs none, append-nil (drop i ls)) (left_alone (drop i ls))
+    ] in
+    rw (take_rest ls i, take_rest rs j, append_assoc) (so_far.on (drop i ls ++ drop j rs) last).is
 
 -- ---- a growable over two arrays
 
--- two layouts of one type
-pub two_of_type : (l r : Layout) → type_of_layout l ≡ type_of_layout r → AreOfOneType (l ∷ r ∷ [])
-two_of_type l r same zero d within = refl
-two_of_type l r same (suc zero) d within = sym same
-two_of_type l r same (suc (suc k)) d within = absurd (omega arith)
+-- their layouts
+abbrev pub both : Parts (List ℤ) → Parts (List ℤ) → List Layout
+both left right = flat left.arrow_type (int_rows left) ∷ flat right.arrow_type (int_rows right) ∷ []
 
-pub grown_left : (g new : Grown) (l r : Layout) (start len : ℕ) → g.sources ≡ Some (l ∷ r ∷ []) → new ≡ appended g (named_rows g 0 start len) → new.rows ≡ g.rows ++ sliced (rows l) start len
-grown_left g new l r start len sources is = ap (λ (g : Grown). g.rows) is ∙ ap (λ s. g.rows ++ rows_among s 0 start len) sources
+-- it holds what is merged of them up to a row of each
+pub record HoldsMerged (left right : Parts (List ℤ)) (i j : ℕ) (g : Grown) : Type 0 where
+  pub type_is : g.arrow_type ≡ left.arrow_type
+  pub sources : g.sources ≡ Some (both left right)
+  pub merges : Merges (int_rows left) (int_rows right) i j g.rows
 
-pub grown_right : (g new : Grown) (l r : Layout) (start len : ℕ) → g.sources ≡ Some (l ∷ r ∷ []) → new ≡ appended g (named_rows g 1 start len) → new.rows ≡ g.rows ++ sliced (rows r) start len
-grown_right g new l r start len sources is = ap (λ (g : Grown). g.rows) is ∙ ap (λ s. g.rows ++ rows_among s 1 start len) sources
+-- after a row of either
+pub holds_left : (left right : Parts (List ℤ)) (i j : ℕ) (g new : Grown) (is_first : Bool) → i < length (int_rows left) → j < length (int_rows right) → is_first ≡ true → MatchesOrder is_first (get_or (int_rows left) i Null) (get_or (int_rows right) j Null) → new ≡ appended g (named_rows g 0 i 1) → HoldsMerged left right i j g → HoldsMerged left right (i + 1) j new
+holds_left left right i j g new is_first here there told order is held =
+    let merges = merges_left (int_rows left) (int_rows right) g.rows i j here there (rw told at order) held.merges in
+    rw is (record { type_is = held.type_is; sources = held.sources; merges = rw held.sources merges })
+
+pub holds_right : (left right : Parts (List ℤ)) (i j : ℕ) (g new : Grown) (is_first : Bool) → i < length (int_rows left) → j < length (int_rows right) → is_first ≡ false → MatchesOrder is_first (get_or (int_rows left) i Null) (get_or (int_rows right) j Null) → new ≡ appended g (named_rows g 1 j 1) → HoldsMerged left right i j g → HoldsMerged left right i (j + 1) new
+holds_right left right i j g new is_first here there told order is held =
+    let merges = merges_right (int_rows left) (int_rows right) g.rows i j here there (rw told at order) held.merges in
+    rw is (record { type_is = held.type_is; sources = held.sources; merges = rw held.sources merges })
+
+-- and after all that is left
+pub holds_all : (left right : Parts (List ℤ)) (i j n m : ℕ) (g more new : Grown) → (length (int_rows left) ≤ i) ⊎ (length (int_rows right) ≤ j) → n ≡ length (int_rows left) → m ≡ length (int_rows right) → more ≡ appended g (named_rows g 0 i (n - i)) → new ≡ appended more (named_rows more 1 j (m - j)) → HoldsMerged left right i j g → IsMerge (int_rows left) (int_rows right) new.rows
+holds_all left right i j n m g more new past long other first second held =
+    rw (second, first, long, other, held.sources) (merges_all (int_rows left) (int_rows right) g.rows i j past held.merges)
+
+-- ---- one row
+
+-- a row that is valid is the number that is stored
+pub number_at : (v : Option (List Bool)) (values : List ℤ) (i : ℕ) (n : ℤ) → slice_get values i ≡ Some n → not (is_null (get_or (masked v (map Number values)) i Null)) ≡ true → get_or (masked v (map Number values)) i Null ≡ Number n
+number_at None values i n read valid = slot_of_row Number values i n read
+number_at (Some (b ∷ bits)) (m ∷ values) (suc i) n read valid = number_at (Some bits) values i n read valid
+number_at (Some (true ∷ bits)) (m ∷ values) zero n read valid = cc
+number_at (Some bits) values i n read valid = cc

@@ -1,13 +1,13 @@
 -- Prepared filters that are stored.
-use Rattle.std.specs.Prelude.{ℕ, Bool, List, [], map, slice_index_or}
+use Rattle.std.specs.Prelude.{ℕ, Bool, List, [], flat_map, slice_index_or}
 use Rattle.gevaindy.specs.AnyArrays.AnyArray.{AnyArray}
 use Rattle.gevaindy.specs.Any.{any_array_rows}
-use Rattle.gevaindy.specs.Rows.{joined, select}
+use Rattle.gevaindy.specs.Rows.{select}
 use Rattle.gevaindy.specs.Slot.{Slot}
 
 -- the rows of all parts, one behind the other
 abbrev pub rows_of_parts : List AnyArray → List Slot
-rows_of_parts parts = joined (map any_array_rows parts)
+rows_of_parts = flat_map any_array_rows
 
 -- the mask of the filter with a number
 abbrev pub mask_in : List (List Bool) → ℕ → List Bool

@@ -52,8 +52,5 @@ pub fn rows_at(alloc: Global, batch: &Chunk, places: &PrimitiveArray<u32>) -> Re
     for column in columns {
         taken.push(take(alloc, column, places)?)?;
     }
-    let Ok(top) = Chunk::try_new(taken) else {
-        unreachable!();
-    };
-    Ok(top)
+    Ok(Chunk::new(taken))
 }

@@ -19,6 +19,7 @@ use std::alloc::Global;
 ///
 /// # Errors
 /// Those of `if_then_else`: `IfThenElseTypes` where the data types differ.
+#[tactic(auto, using(crate::proofs::ChoiceLemmas::chosen_where_null))]
 pub fn coalesced(alloc: Global, first: &AnyArray, second: &AnyArray) -> Result<AnyArray, Error>
     ensures types { result ≡ Err (Error.InvalidArgumentError ArgumentFault.IfThenElseTypes)
         → any_array_type first.now ≢ any_array_type second.now }

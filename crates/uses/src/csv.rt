@@ -33,7 +33,7 @@ pub fn numbers(alloc: Global, texts: &[&str]) -> Result<PrimitiveArray<i32>, Err
     }
     let values = Buffer::from_vec(alloc, values)?;
     let validity = Bitmap::from_bools(alloc, &are_numbers)?;
-    PrimitiveArray::try_new(DataType::Int32, values, Some(validity))
+    Ok(PrimitiveArray::new(DataType::Int32, values, Some(validity)))
 }
 
 /// A column with the numbers of further texts behind its rows.

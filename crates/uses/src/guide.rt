@@ -37,7 +37,7 @@ pub fn picked(
         ≡ picked_rows mask.now places.now array.now) }
 {
     let mask = Bitmap::from_bools(alloc, mask)?;
-    let mask = BooleanArray::try_new(DataType::Boolean, mask, None)?;
+    let mask = BooleanArray::new(DataType::Boolean, mask, None);
     if mask.len() != array.len() {
         return Err(Error::InvalidArgumentError(ArgumentFault::Lengths));
     }
@@ -65,10 +65,6 @@ pub fn texts(alloc: Global, rows: &[&str]) -> Result<Utf8Array<i32>, Error>
         bytes.extend_from_slice(row.as_bytes())?;
     }
     let offsets = offsets.into_buffer()?;
-    Utf8Array::try_new(
-        DataType::Utf8,
-        offsets,
-        Buffer::from_vec(alloc, bytes)?,
-        None,
-    )
+    let bytes = Buffer::from_vec(alloc, bytes)?;
+    Ok(Utf8Array::new(DataType::Utf8, offsets, bytes, None))
 }

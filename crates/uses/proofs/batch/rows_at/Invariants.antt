@@ -1,8 +1,4 @@
-use Rattle.std.proofs.Common.{◌≡◌, map, take}
-use Rattle.gevaindy.specs.Any.{layout_of}
-use Rattle.gevaindy.specs.Layout.{rows, type_of_layout}
-use Rattle.gevaindy.specs.Typed.{uint_rows}
-use Rattle.uses.specs.Batch.{rows_named}
+use Rattle.uses.proofs.Common.{layout_of, map, rows, rows_named, take, type_of_layout, uint_rows, ◌≡◌}
 use Rattle.uses.proofs.batch.rows_at.Given as goal
 
 -- the columns so far are taken
